@@ -1,0 +1,35 @@
+//! Every number that the format fixes, in one place.
+
+/// Bytes of one record.
+pub const RECORD_BYTES: usize = 16;
+/// Records that a file may hold.
+pub const RECORDS: usize = 4096;
+/// Bytes that a file may hold.
+pub const FILE_BYTES: usize = RECORDS * RECORD_BYTES;
+
+/// Largest arity of a symbol, and most arguments of an application.
+pub const ARITY: u8 = 6;
+/// Variable numbers run from 0 to one below this.
+pub const VARIABLES: usize = 64;
+/// Most literals of an input clause.
+pub const INPUT_LITERALS: u8 = 7;
+/// Most literals of a derived clause.
+pub const LITERALS: u16 = 128;
+/// Largest maximum index of a clause.
+pub const INDEX: u16 = 4096;
+/// Work that one step may do.
+pub const WORK: u32 = 16_384;
+/// Bindings that all clauses of a file may hold together.
+pub const BINDINGS: usize = 8192;
+
+/// Cells of the symbol table that are used.
+pub const SYMBOL_CELLS: usize = RECORDS;
+/// Cells of the row table that are used.
+pub const ROW_CELLS: usize = RECORDS;
+/// Cells of the clause table that are used, five for each clause.
+pub const CLAUSE_CELLS: usize = 5 * RECORDS;
+/// Cells of the binding table that are used, four for each binding.
+pub const BINDING_CELLS: usize = 4 * BINDINGS;
+
+/// A literal with more variable and symbol occurrences than this is read out as `~`.
+pub const READOUT_OCCURRENCES: usize = 64;
