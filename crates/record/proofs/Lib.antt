@@ -1,0 +1,2 @@
+-- What crates above cite of the definitions.
+pub mod Records

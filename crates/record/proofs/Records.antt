@@ -1,0 +1,49 @@
+-- Laws of the records of a file: how many there are, that each has seven fields, and which part of the file each is.
+use mathlib.Core.Path.{_≡_, refl, sym, ap, _∙_}
+use mathlib.Core.List.{List, [], _∷_, map}
+use Prim.Native.Nat.{ℕ, zero, suc, _+_, _*_, _<_}
+use native.Mathlib.Nat.{not-suc-le-zero, le-of-suc-le-suc}
+use native.Mathlib.Omega.{arith}
+use borrow.Author.Tests.{lt-ltb}
+use lib.ListN.{length, take, drop, length-map}
+use lib.Seq.{drop-drop}
+use Rattle.record.specs.Record.{Record, recordCount, recordPart, decoded, parts, records}
+
+-- Every record of the list has exactly seven fields.
+abbrev pub Shaped : List Record → Type 0
+Shaped [] = Unit {0}
+Shaped (r ∷ rs) = (length (r .fields) ≡ 7) × Shaped rs
+
+parts-length : (n : ℕ) (file : List ℕ) → length (parts n file) ≡ n
+parts-length zero file = refl
+parts-length (suc n) file = ap suc (parts-length n (drop 16 file))
+
+pub records-length : (file : List ℕ) → length (records file) ≡ recordCount file
+unfolding records
+records-length file = length-map (parts (recordCount file) file) decoded ∙ parts-length (recordCount file) file
+
+decoded-shaped : (ps : List (List ℕ)) → Shaped (map decoded ps)
+decoded-shaped [] = tt
+decoded-shaped (p ∷ ps) = (refl, decoded-shaped ps)
+
+pub records-shaped : (file : List ℕ) → Shaped (records file)
+unfolding records
+records-shaped file = decoded-shaped (parts (recordCount file) file)
+
+-- The part after k starts sixteen bytes further.
+next : (k : ℕ) (file : List ℕ) → drop (16 * suc k) file ≡ drop (16 * k) (drop 16 file)
+next k file =
+    let e : 16 * suc k ≡ 16 + 16 * k = omega arith in
+    ap (λ (n : ℕ). drop n file) e ∙ sym (drop-drop (16 * k) 16 file)
+
+-- From part k on, the parts go on with the sixteen bytes at 16 * k.
+parts-numbered : (n : ℕ) (file : List ℕ) (k : ℕ) → k < n
+    → drop k (map decoded (parts n file)) ≡ decoded (take 16 (drop (16 * k) file)) ∷ drop (suc k) (map decoded (parts n file))
+parts-numbered zero file k h = absurd (not-suc-le-zero h)
+parts-numbered (suc n) file zero h = refl
+parts-numbered (suc n) file (suc k) h = rw next (parts-numbered n (drop 16 file) k (le-of-suc-le-suc h))
+
+pub record-numbered : (file : List ℕ) (k : ℕ) → k < recordCount file
+    → drop k (records file) ≡ decoded (recordPart file k) ∷ drop (suc k) (records file)
+unfolding records recordPart
+record-numbered file k h = rw (lt-ltb _ _ h) (parts-numbered (recordCount file) file k h)
