@@ -1,5 +1,6 @@
 //! Random files from a seed: mostly meaningful ones, and damage to them.
 
+use crate::answer::Reason;
 use crate::build::FileBuilder;
 use crate::checker::Checker;
 use crate::clause::literal;
@@ -88,18 +89,19 @@ impl Maker {
         usize::from(self.file.records()) < self.wanted
     }
 
-    /// Writes a record if it stands; a refused one is written only if `keep` and ends the meaningful part.
+    /// Writes a record if it stands. A refused one ends the meaningful part of the file and is written
+    /// only if `keep`, or at times if a variable would have occurred in its own value.
     fn write(&mut self, kind: u8, count: u8, given: &[u16], keep: bool) -> Option<u16> {
         let mut fields = [0; 7];
         for (field, &value) in fields.iter_mut().zip(given) {
             *field = value;
         }
         let record = Record { kind, count, fields };
-        let stands = !self.refused && self.checker.record(&record.to_bytes()).is_ok();
-        if stands {
+        let result = self.checker.record(&record.to_bytes());
+        if result.is_ok() && !self.refused {
             return Some(self.file.raw(record));
         }
-        if keep || self.refused {
+        if keep || self.refused || (result == Err(Reason::Occurs) && self.random.one_in(4)) {
             self.refused = true;
             self.file.raw(record);
         }
@@ -112,9 +114,9 @@ impl Maker {
         let functions = self.random.between(1, if self.wanted < 12 { 1 } else { 4 });
         for place in 0..predicates + functions {
             let arity = match self.random.below(12) {
-                0..=2 => 0,
-                3..=6 => 1,
-                7..=9 => 2,
+                0 => 0,
+                1..=5 => 1,
+                6..=9 => 2,
                 10 => 3,
                 _ => self.random.between(4, 6) as u8,
             };
@@ -130,13 +132,13 @@ impl Maker {
 
     /// Some variables and terms, then some atoms.
     fn rows(&mut self) {
-        let most = if self.wanted < 12 { 1 } else { 4 };
-        for _ in 0..self.random.between(0, most) {
+        let (fewest, most) = if self.wanted < 12 { (0, 1) } else { (1, 5) };
+        for _ in 0..self.random.between(fewest, most) {
             let variable = if self.random.one_in(10) { self.random.between(60, 63) } else { self.random.below(4) };
             let row = self.write(kind::VARIABLE, 0, &[variable as u16], false);
             self.terms.extend(row);
         }
-        for _ in 0..self.random.between(1, self.wanted / 6 + 1) {
+        for _ in 0..self.random.between(1, self.wanted / 7 + 1) {
             self.term();
         }
         for _ in 0..self.random.between(1, self.wanted / 6 + 1) {
@@ -226,7 +228,7 @@ impl Maker {
     fn resolve(&mut self) {
         let clauses = self.checker.clauses().len();
         let mut best: Option<(u16, [u16; 4])> = None;
-        for _ in 0..8 {
+        for _ in 0..self.random.between(1, 6) {
             let step = [self.random.below(clauses), self.random.below(clauses)].map(|c| c as u16);
             let (b, d) = (self.literal_of(step[0]), self.literal_of(step[1]));
             let given = [step[0], b, step[1], d];
@@ -235,7 +237,7 @@ impl Maker {
                 best = Some((length, given));
             }
         }
-        let keep = self.random.one_in(30);
+        let keep = self.random.one_in(60);
         if let Some((_, given)) = best {
             self.write(kind::RESOLVE, 0, &given, keep);
         }
@@ -275,12 +277,12 @@ impl Maker {
     }
 }
 
-/// A copy of a file with one to three pieces of damage: altered bytes or fields, records moved,
+/// A copy of a file with one or two pieces of damage: altered bytes or fields, records moved,
 /// repeated, dropped or put in, or a length that is no multiple of 16.
 pub fn damage(file: &[u8], seed: u64) -> Vec<u8> {
     let mut random = SplitMix64::new(seed ^ 0x5eed_da3a_6e00_0001);
     let mut bytes = file.to_vec();
-    for _ in 0..random.between(1, 3) {
+    for _ in 0..1 + random.below(4) / 3 {
         damage_once(&mut bytes, &mut random);
     }
     bytes
