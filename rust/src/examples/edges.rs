@@ -277,8 +277,12 @@ fn many_bindings(steps: usize, last: &[Step]) -> Vec<u8> {
 /// Literals and maximum index of a result.
 fn sizes() -> Vec<Example> {
     vec![
-        Example::new("result-128-literals", many_literals(3)),
-        Example::new("result-129-literals", many_literals(4)),
+        Example::new("result-128-literals", many_literals(3, 5 * 25 + 2 - 5)),
+        Example::new("result-129-literals", many_literals(4, 5 * 25 + 2 - 5)),
+        Example::new("result-129-literals-and-clash", many_literals(4, 127)),
+        Example::new("result-128-literals-and-clash", many_literals(3, 127)),
+        Example::new("result-129-literals-and-signs", many_literals(4, 1)),
+        Example::new("result-129-literals-and-missing", many_literals(4, 128)),
         Example::new("result-index-4096", case_k(12)),
         Example::new("result-index-4097", index_past(1)),
         Example::new("result-index-8192", case_k(13)),
@@ -286,8 +290,9 @@ fn sizes() -> Vec<Example> {
     ]
 }
 
-/// A clause of 127 literals at index 25, resolved with one of a few literals.
-fn many_literals(last: usize) -> Vec<u8> {
+/// A clause of 127 literals at index 25, of which one is resolved with the -a of a small clause.
+/// Literal 122 is +a, the first is -a, the others are +b.
+fn many_literals(last: usize, on: u16) -> Vec<u8> {
     let mut file = FileBuilder::new();
     let [a, b] = [0, 0].map(|arity| app(file.symbol(arity), []));
     let mut seven = vec![neg(a.clone()), pos(a.clone())];
@@ -305,7 +310,7 @@ fn many_literals(last: usize) -> Vec<u8> {
     }
     let at_24 = file.resolve(doubled[4], 5 * 16 + 2 - 5, doubled[3], 1);
     let at_25 = file.resolve(at_24, 5 * 24 + 2 - 5, one, 1);
-    file.resolve(at_25, 5 * 25 + 2 - 5, small, 1);
+    file.resolve(at_25, on, small, 1);
     file.finish()
 }
 

@@ -167,7 +167,7 @@ fn unifications() -> Vec<Example> {
         pair("11-before-10", [x(), x(), a()], [y(), f(y()), b()]),
         pair("11-right-variable", [f(x()), x(), a()], [y(), y(), a()]),
         pair("11-through-two-bindings", [x(), y(), g(x(), y())], [f(y()), f(x()), x()]),
-        pair("11-at-the-second-argument", [x(), y(), g(x(), y())], [z(), f(x()), y()]),
+        pair("11-at-the-second-argument", [x(), x(), a()], [g(a(), y()), y(), a()]),
         pair("stands-same-numbers-apart", [x(), y(), z()], [f(x()), f(y()), z()]),
     ]
 }

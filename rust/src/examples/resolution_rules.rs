@@ -10,13 +10,14 @@ pub fn examples() -> Vec<Example> {
     let [f, g] = [1, 2];
     let (x, y) = (var(0), var(1));
     let fx = app(f, [x.clone()]);
+    let fz = app(f, [var(2)]);
     let gxy = app(g, [x.clone(), y.clone()]);
     vec![
         Example::new("rules-resolution", resolution()),
         Example::new("rules-factorization", factorization(true)),
         Example::new("rules-factorization-negative", factorization(false)),
         Example::new("rules-unify-equal", equation(fx.clone(), fx.clone())),
-        Example::new("rules-unify-decompose", equation(gxy.clone(), app(g, [fx.clone(), fx.clone()]))),
+        Example::new("rules-unify-decompose", equation(gxy.clone(), app(g, [fz.clone(), fz]))),
         Example::new("rules-unify-clash", equation(fx.clone(), gxy)),
         Example::new("rules-unify-substitute", equation(x.clone(), app(f, [y]))),
         Example::new("rules-unify-occurs", equation(x.clone(), fx.clone())),
