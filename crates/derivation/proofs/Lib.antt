@@ -1,0 +1,9 @@
+pub mod Literals
+pub mod Validity
+pub mod Truth
+pub mod Substitutions
+pub mod Values
+pub mod Unifiers
+pub mod Resolvents
+pub mod Chains
+pub mod Forms

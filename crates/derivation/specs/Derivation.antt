@@ -1,0 +1,85 @@
+-- Document 01, "Indices and bindings": a clause as its derivation, with its literals, its maximum index and what is looked up in it.
+use mathlib.Core.Bool.{Bool}
+use mathlib.Core.Option.{Option, none, some}
+use mathlib.Core.List.{List, [], _∷_, _++_, map}
+use Prim.Native.Nat.{ℕ, zero, suc, _+_, _-_}
+use lib.Dec.{leb}
+use Rattle.record.specs.Record.{pick}
+use Rattle.unify.specs.Environment.{Binding, Environment, extend}
+use Rattle.unify.specs.Row.{Expression}
+
+-- A literal: its sign, true for a positive one, and its atom's expression. In an input clause only the atom's row is written.
+abbrev pub Literal : Type 0
+Literal = Bool × Expression
+
+abbrev pub RowLiteral : Type 0
+RowLiteral = Bool × ℕ
+
+-- A clause with the derivations of its parents, and the bindings that its own step added, the newest first.
+pub data Derivation : Type 0 where
+  input : List RowLiteral → Derivation
+  -- left clause and literal, right clause and literal
+  resolve : Derivation → ℕ → Derivation → ℕ → List Binding → Derivation
+  -- clause, literal kept, literal deleted
+  factor : Derivation → ℕ → ℕ → List Binding → Derivation
+
+-- Literal numbers start at 1: the literal of a number, if there is one, and all literals but that one.
+abbrev pub numbered {ℓ} : {A : Type ℓ} → List A → ℕ → Option A
+numbered [] n = none
+numbered (l ∷ ls) zero = none
+numbered (l ∷ ls) (suc zero) = some l
+numbered (l ∷ ls) (suc (suc n)) = numbered ls (suc n)
+
+abbrev pub without {ℓ} : {A : Type ℓ} → List A → ℕ → List A
+without [] n = []
+without (l ∷ ls) zero = l ∷ ls
+without (l ∷ ls) (suc zero) = ls
+without (l ∷ ls) (suc (suc n)) = l ∷ without ls (suc n)
+
+-- An index raised by m.
+abbrev pub raise : ℕ → Expression → Expression
+raise m e = (e .0, m + e .1)
+
+abbrev pub raiseLiteral : ℕ → Literal → Literal
+raiseLiteral m l = (l .0, raise m (l .1))
+
+-- An input clause's literals at index k.
+abbrev pub placed : ℕ → List RowLiteral → List Literal
+placed k ls = map (λ l. (l .0, (l .1, k))) ls
+
+abbrev pub maximumIndex : Derivation → ℕ
+maximumIndex (input ls) = 1
+maximumIndex (resolve l a r b bs) = maximumIndex l + maximumIndex r
+maximumIndex (factor c a b bs) = maximumIndex c
+
+abbrev pub literals : Derivation → List Literal
+literals (input ls) = placed 1 ls
+literals (resolve l a r b bs) = without (literals l) a ++ map (raiseLiteral (maximumIndex l)) (without (literals r) b)
+literals (factor c a b bs) = without (literals c) b
+
+-- The bindings that a clause's own step added.
+abbrev pub ownBindings : Derivation → List Binding
+ownBindings (input ls) = []
+ownBindings (resolve l a r b bs) = bs
+ownBindings (factor c a b bs) = bs
+
+-- Both parents' environments as one: up to the left maximum index m the left one's; above it the index is lowered by m, looked up
+-- in the right one, and the answer raised again.
+abbrev pub raiseAnswer : ℕ → Option Expression → Option Expression
+raiseAnswer m none = none
+raiseAnswer m (some e) = some (raise m e)
+
+abbrev pub joined : ℕ → Environment → Environment → Environment
+joined m left right x = pick (leb (x .1) m) (left x) (raiseAnswer m (right (x .0, x .1 - m)))
+
+-- Looking up a variable in a clause: its own bindings come first, then its parents'.
+abbrev pub lookup : Derivation → Environment
+lookup (input ls) x = none
+lookup (resolve l a r b bs) x = extend (joined (maximumIndex l) (lookup l) (lookup r)) bs x
+lookup (factor c a b bs) x = extend (lookup c) bs x
+
+-- Document 01, "Uses, values and instances": the input clauses of a derivation, each as often as it is used.
+abbrev pub uses : Derivation → List (List RowLiteral)
+uses (input ls) = ls ∷ []
+uses (resolve l a r b bs) = uses l ++ uses r
+uses (factor c a b bs) = uses c

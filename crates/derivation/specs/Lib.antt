@@ -1,0 +1,4 @@
+pub mod Derivation
+pub mod Written
+pub mod Textbook
+pub mod Ground

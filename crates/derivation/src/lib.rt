@@ -1,0 +1,1 @@
+// Clauses as derivations. The definitions are in specs/.

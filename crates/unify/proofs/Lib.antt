@@ -1,0 +1,13 @@
+pub mod Tests
+pub mod Terms
+pub mod Rows
+pub mod Meaning
+pub mod Turns
+pub mod Soundness
+pub mod Generality
+pub mod Ranges
+pub mod Solved
+pub mod SolvedRun
+pub mod Chains
+pub mod Stability
+pub mod Failures

@@ -1,0 +1,1 @@
+// Unification of expressions under bindings. The definitions are in specs/.
