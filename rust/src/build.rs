@@ -180,10 +180,8 @@ impl FileBuilder {
 
     /// An input clause whose atoms are given as rows; returns its clause number.
     pub fn clause_of_rows(&mut self, literals: &[(bool, u16)]) -> u16 {
-        let codes: Vec<u16> = literals
-            .iter()
-            .map(|&(positive, row)| row.wrapping_mul(2) | u16::from(positive))
-            .collect();
+        let codes: Vec<u16> =
+            literals.iter().map(|&(positive, row)| row.wrapping_mul(2) | u16::from(positive)).collect();
         self.fields(kind::INPUT, u8::try_from(codes.len()).unwrap_or(u8::MAX), &codes)
     }
 

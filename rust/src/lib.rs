@@ -22,6 +22,7 @@ pub mod readout;
 pub mod record;
 pub mod tables;
 pub mod unify;
+pub mod vectors;
 
 pub use answer::{Answer, Reason, Verdict};
 pub use check::{check, check_counting, StepWork};

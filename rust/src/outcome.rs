@@ -32,7 +32,8 @@ pub fn outcome(file: &[u8]) -> Outcome {
 impl Outcome {
     /// The cells of each table that hold something by the counts.
     pub fn used(&self) -> [&[u16]; 4] {
-        let first = |cells: &'_ [u16], count: u16, width: usize| (usize::from(count) * width).min(cells.len());
+        let first =
+            |cells: &'_ [u16], count: u16, width: usize| (usize::from(count) * width).min(cells.len());
         let answer = &self.answer;
         [
             &self.symbols[..first(&self.symbols, answer.symbols, 1)],

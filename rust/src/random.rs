@@ -4,7 +4,7 @@ use crate::answer::Reason;
 use crate::build::FileBuilder;
 use crate::checker::Checker;
 use crate::clause::literal;
-use crate::limits::RECORD_BYTES;
+use crate::limits::{RECORDS, RECORD_BYTES};
 use crate::record::{kind, Record};
 
 /// The generator SplitMix64: equal seeds give equal numbers everywhere.
@@ -46,7 +46,19 @@ impl SplitMix64 {
 /// A random file of 5 to 60 records: few symbols, small terms, short clauses, and steps on literals
 /// of fitting signs. Most steps stand; some files end in a refused one, and many are accepted.
 pub fn random_file(seed: u64) -> Vec<u8> {
-    let mut maker = Maker::new(seed);
+    let mut random = SplitMix64::new(seed);
+    let records = random.between(5, 60);
+    make(random, records)
+}
+
+/// The same with a number of records to aim at, up to 4,096. Longer files have more symbols and rows.
+pub fn random_file_of(seed: u64, records: usize) -> Vec<u8> {
+    make(SplitMix64::new(seed), records.min(RECORDS))
+}
+
+/// Writes a file in the usual order: symbols, rows, clauses, then steps with a few others between.
+fn make(random: SplitMix64, wanted: usize) -> Vec<u8> {
+    let mut maker = Maker::new(random, wanted);
     maker.symbols();
     maker.rows();
     maker.clauses();
@@ -68,9 +80,7 @@ struct Maker {
 }
 
 impl Maker {
-    fn new(seed: u64) -> Maker {
-        let mut random = SplitMix64::new(seed);
-        let wanted = random.between(5, 60);
+    fn new(random: SplitMix64, wanted: usize) -> Maker {
         Maker {
             random,
             file: FileBuilder::new(),
@@ -89,6 +99,11 @@ impl Maker {
         usize::from(self.file.records()) < self.wanted
     }
 
+    /// Should a refused record be written? Once in `n` times; in long files much more seldom.
+    fn keep(&mut self, n: usize) -> bool {
+        self.random.one_in(if self.wanted > 60 { n * self.wanted } else { n })
+    }
+
     /// Writes a record if it stands. A refused one ends the meaningful part of the file and is written
     /// only if `keep`, or at times if a variable would have occurred in its own value.
     fn write(&mut self, kind: u8, count: u8, given: &[u16], keep: bool) -> Option<u16> {
@@ -101,7 +116,7 @@ impl Maker {
         if result.is_ok() && !self.refused {
             return Some(self.file.raw(record));
         }
-        if keep || self.refused || (result == Err(Reason::Occurs) && self.random.one_in(4)) {
+        if keep || self.refused || (result == Err(Reason::Occurs) && self.keep(4)) {
             self.refused = true;
             self.file.raw(record);
         }
@@ -132,9 +147,13 @@ impl Maker {
 
     /// Some variables and terms, then some atoms.
     fn rows(&mut self) {
-        let (fewest, most) = if self.wanted < 12 { (0, 1) } else { (1, 5) };
+        let (fewest, most) = if self.wanted < 12 { (0, 1) } else { (1, 4 + self.wanted / 30) };
         for _ in 0..self.random.between(fewest, most) {
-            let variable = if self.random.one_in(10) { self.random.between(60, 63) } else { self.random.below(4) };
+            let variable = if self.random.one_in(10) {
+                self.random.between(60, 63)
+            } else {
+                self.random.below(4 + self.wanted / 20)
+            };
             let row = self.write(kind::VARIABLE, 0, &[variable as u16], false);
             self.terms.extend(row);
         }
@@ -175,7 +194,7 @@ impl Maker {
             let drawn = self.random.below(self.terms.len()).max(self.random.below(self.terms.len()));
             given.extend(self.terms.get(drawn));
         }
-        let keep = self.random.one_in(400);
+        let keep = self.keep(400);
         self.write(kind::APPLICATION, arity, &given, keep)
     }
 
@@ -212,7 +231,7 @@ impl Maker {
     /// Steps until the file is as long as wanted, with a few rows and clauses between them.
     fn steps(&mut self) {
         let mut tries = 0;
-        while self.room() && tries < 2000 {
+        while self.room() && tries < 100 * self.wanted {
             tries += 1;
             match self.random.below(40) {
                 0 => self.term(),
@@ -229,7 +248,7 @@ impl Maker {
         let clauses = self.checker.clauses().len();
         let mut best: Option<(u16, [u16; 4])> = None;
         for _ in 0..self.random.between(1, 6) {
-            let step = [self.random.below(clauses), self.random.below(clauses)].map(|c| c as u16);
+            let step = [self.random.below(clauses), self.random.below(clauses)].map(|clause| clause as u16);
             let (b, d) = (self.literal_of(step[0]), self.literal_of(step[1]));
             let given = [step[0], b, step[1], d];
             let Some(length) = self.resolvent_length(given) else { continue };
@@ -237,7 +256,7 @@ impl Maker {
                 best = Some((length, given));
             }
         }
-        let keep = self.random.one_in(60);
+        let keep = self.keep(60);
         if let Some((_, given)) = best {
             self.write(kind::RESOLVE, 0, &given, keep);
         }
@@ -248,7 +267,7 @@ impl Maker {
         let clause = self.random.below(self.checker.clauses().len()) as u16;
         let given = [clause, self.literal_of(clause), self.literal_of(clause)];
         let fits = given[1] != given[2] && self.sign(clause, given[1]) == self.sign(clause, given[2]);
-        let keep = self.random.one_in(60);
+        let keep = self.keep(60);
         if fits || self.random.one_in(200) {
             self.write(kind::FACTOR, 0, &given, keep);
         }

@@ -34,13 +34,19 @@ impl Tables<'_> {
         let Named { symbols, rows, clauses, bindings } = named;
         write(symbols, checker.symbols().iter().map(|symbol| [symbol.record]));
         write(rows, checker.row_records().iter().map(|&record| [record]));
-        write(clauses, checker.clauses().iter().map(|clause| {
-            [clause.record, clause.literals, clause.max_index, clause.first_binding, clause.bindings]
-        }));
-        write(bindings, checker.bindings().iter().map(|binding| {
-            let (variable, value) = (binding.variable, binding.value);
-            [variable.row, variable.index, value.row, value.index]
-        }));
+        write(
+            clauses,
+            checker.clauses().iter().map(|clause| {
+                [clause.record, clause.literals, clause.max_index, clause.first_binding, clause.bindings]
+            }),
+        );
+        write(
+            bindings,
+            checker.bindings().iter().map(|binding| {
+                let (variable, value) = (binding.variable, binding.value);
+                [variable.row, variable.index, value.row, value.index]
+            }),
+        );
     }
 
     /// The four named parts, if the tables are long enough.

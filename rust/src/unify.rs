@@ -66,18 +66,19 @@ impl Unifier {
     /// Two applications: equal symbols, then the arguments, the first on top of the stack.
     fn arguments(&mut self, nodes: &[Node], left: Expression, right: Expression) -> Result<(), Reason> {
         let pair = (nodes.get(usize::from(left.row)), nodes.get(usize::from(right.row)));
-        let (Some(Node::Application { symbol: f, count, arguments: ls }),
-             Some(Node::Application { symbol: g, arguments: rs, .. })) = pair else {
+        let (
+            Some(Node::Application { symbol: f, count, arguments: ls }),
+            Some(Node::Application { symbol: g, arguments: rs, .. }),
+        ) = pair
+        else {
             return Err(Reason::Clash);
         };
         if f != g {
             return Err(Reason::Clash);
         }
         for (&l, &r) in ls.iter().zip(rs).take(usize::from(*count)).rev() {
-            self.pairs.push((
-                Expression { row: l, index: left.index },
-                Expression { row: r, index: right.index },
-            ));
+            self.pairs
+                .push((Expression { row: l, index: left.index }, Expression { row: r, index: right.index }));
         }
         Ok(())
     }

@@ -28,14 +28,7 @@ fn a_two_steps_to_the_empty_clause() {
     assert_eq!(rows, [3, 4, 5, 6, 7, 8, 9, 10]);
     assert_eq!(
         clauses,
-        [
-            [11, 1, 1, 0, 0],
-            [12, 2, 1, 0, 0],
-            [13, 1, 1, 0, 0],
-            [14, 1, 2, 0, 1],
-            [15, 0, 3, 1, 0],
-        ]
-        .concat()
+        [[11, 1, 1, 0, 0], [12, 2, 1, 0, 0], [13, 1, 1, 0, 0], [14, 1, 2, 0, 1], [15, 0, 3, 1, 0],].concat()
     );
     // v0 at index 2, in the right parent, is bound to s2 at index 1.
     assert_eq!(bindings, [2, 2, 0, 1]);

@@ -49,7 +49,8 @@ fn clauses_are_textbook(name: &str, state: &Reference) -> usize {
             },
             From::Factor(a, b, c) => book[a].as_ref().map(|parent| factor(parent, b, c).expect(name)),
         };
-        let expected = expected.filter(|literals| literals.iter().map(|(_, atom)| size(atom)).sum::<usize>() < LARGEST);
+        let expected =
+            expected.filter(|literals| literals.iter().map(|(_, atom)| size(atom)).sum::<usize>() < LARGEST);
         let expected = expected.map(|literals| canonical(&literals));
         if let (Some(expected), Some(ours)) = (&expected, shared(state, number)) {
             assert_eq!(&canonical(&ours), expected, "clause {number} of {name}");
@@ -65,7 +66,8 @@ fn refusal_is_textbook(name: &str, state: &Reference, file: &[u8]) -> bool {
     let Some((10 | 11, record)) = state.refusal else { return false };
     let bytes = &file[16 * usize::from(record)..];
     let field = |number: usize| usize::from(bytes[2 + 2 * number]) + 256 * usize::from(bytes[3 + 2 * number]);
-    let (Some(left), Some(right)) = (shared(state, field(0)), shared(state, if bytes[0] == 5 { field(2) } else { field(0) }))
+    let (Some(left), Some(right)) =
+        (shared(state, field(0)), shared(state, if bytes[0] == 5 { field(2) } else { field(0) }))
     else {
         return false;
     };

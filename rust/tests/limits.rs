@@ -50,7 +50,9 @@ fn ranges() {
 #[test]
 fn lengths() {
     let all = edges::examples();
-    for (name, expected) in [("length-1", 1), ("length-15", 1), ("length-16", 3), ("length-17", 1), ("length-65552", 1)] {
+    for (name, expected) in
+        [("length-1", 1), ("length-15", 1), ("length-16", 3), ("length-17", 1), ("length-65552", 1)]
+    {
         assert_eq!(reason(&named(&all, name)), expected, "{name}");
     }
     let full = named(&all, "length-65536");

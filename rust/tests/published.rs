@@ -88,20 +88,13 @@ fn boyer_moore_section_4_unification_case_l() {
 fn boyer_moore_section_5_incrementing_indices() {
     let mut rows = Rows::default();
     let term = "(Q (f x (a)) (g y z))";
-    let mut first =
-        rows.environment(&[("x", 5, "(g y z)", 5), ("z", 5, "(f (a) u)", 6), ("u", 6, "x", 3)]);
+    let mut first = rows.environment(&[("x", 5, "(g y z)", 5), ("z", 5, "(f (a) u)", 6), ("u", 6, "x", 3)]);
     let at_5 = rows.at(term, 5);
-    assert_eq!(
-        rows.value(&mut first, at_5),
-        "(Q (f (g y5 (f (a) x3)) (a)) (g y5 (f (a) x3)))"
-    );
+    assert_eq!(rows.value(&mut first, at_5), "(Q (f (g y5 (f (a) x3)) (a)) (g y5 (f (a) x3)))");
     let mut second =
         rows.environment(&[("x", 11, "(g y z)", 11), ("z", 11, "(f (a) u)", 12), ("u", 12, "x", 9)]);
     let at_11 = rows.at(term, 11);
-    assert_eq!(
-        rows.value(&mut second, at_11),
-        "(Q (f (g y11 (f (a) x9)) (a)) (g y11 (f (a) x9)))"
-    );
+    assert_eq!(rows.value(&mut second, at_11), "(Q (f (g y11 (f (a) x9)) (a)) (g y11 (f (a) x9)))");
 }
 
 /// Section 6 in the environment that the paper prints: B1 and B2', and the literals of R.
@@ -119,16 +112,14 @@ fn boyer_moore_section_6_in_the_printed_environment() {
         ("y", 6, "(g z)", 7),
     ]);
     let c1 = [("(Q y y)", 2), ("(P x y)", 2), ("(P x (f y z))", 4)].map(|(term, index)| rows.at(term, index));
-    let c2 = [("(Q x y)", 5), ("(P (g x) z)", 7), ("(R x (f x y))", 8)].map(|(term, index)| rows.at(term, index));
+    let c2 =
+        [("(Q x y)", 5), ("(P (g x) z)", 7), ("(R x (f x y))", 8)].map(|(term, index)| rows.at(term, index));
     let mut values = |rows: &Rows, list: [_; 3]| list.map(|at| rows.value(&mut environment, at));
     assert_eq!(
         values(&rows, c1),
         ["(Q (f x4 x3) (f x4 x3))", "(P x3 (f x4 x3))", "(P x4 (f x3 (f x3 (f x4 x3))))"]
     );
-    assert_eq!(
-        values(&rows, c2),
-        ["(Q x5 y5)", "(P (g x7) (f x7 (g y5)))", "(R x7 (f x7 (g y5)))"]
-    );
+    assert_eq!(values(&rows, c2), ["(Q x5 y5)", "(P (g x7) (f x7 (g y5)))", "(R x7 (f x7 (g y5)))"]);
     let result = Unifier::default().unify(&rows.nodes, &mut environment, &mut Vec::new(), c1[1], c2[1]);
     assert_eq!(result, Ok(()));
     let resolvent = [c1[0], c1[2], c2[0], c2[2]].map(|at| rows.value(&mut environment, at));
@@ -197,7 +188,7 @@ fn boyer_moore_section_7_figure_1() {
     assert_eq!(literal(5, 2), "+s1(s3(s3(v1.2)),v1.2)"); // T,2 in C6: (Q (f (f y2)) y2)
     assert_eq!(literal(6, 2), "+s1(s3(v1.2),s3(v1.1))"); // T,3 in C7: (Q (f y2) (f y1))
     assert_eq!(literal(6, 4), "+s1(s3(s3(s3(v1.2))),s3(v1.2))"); // T,5: (Q (f (f (f y2))) (f y2))
-    // The binding (x,2 . (f y),1) at C4: x is row 0, y row 1, (f y) row 2.
+                                                                 // The binding (x,2 . (f y),1) at C4: x is row 0, y row 1, (f y) row 2.
     let clauses = file.used()[2];
     let (first, count) = (usize::from(clauses[5 * 3 + 3]), usize::from(clauses[5 * 3 + 4]));
     let own = &file.used()[3][4 * first..4 * (first + count)];
@@ -214,7 +205,8 @@ fn robinson_system_1_is_unified() {
     // s1 f, s2 g, s3 h; a and x become one variable, here v3 = a; v6 = d, v5 = c.
     let value = "f(x,g(x,f(d,c)))";
     let expected = format!("p({value},h({value},f(d,c)))");
-    let named = [("s0", "p"), ("s1", "f"), ("s2", "g"), ("s3", "h"), ("v3.1", "x"), ("v6.1", "d"), ("v5.1", "c")];
+    let named =
+        [("s0", "p"), ("s1", "f"), ("s2", "g"), ("s3", "h"), ("v3.1", "x"), ("v6.1", "d"), ("v5.1", "c")];
     let ours = named.iter().fold(literals(&file, 1), |text, (from, to)| text.replace(from, to));
     assert_eq!(ours, format!("+{expected}"));
     // The paper's figure 2 has four substitutions too.

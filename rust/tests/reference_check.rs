@@ -48,7 +48,9 @@ fn refused_files() {
 fn edges_of_limits() {
     // The reference repeats whole derivations, so large files are left to the other tests.
     let small = |example: &Example| {
-        example.file.len() < 2000 && !example.name.starts_with("result-index") && !example.name.contains("4096")
+        example.file.len() < 2000
+            && !example.name.starts_with("result-index")
+            && !example.name.contains("4096")
     };
     agree_all(edges::examples().into_iter().filter(small).collect(), true);
 }

@@ -1,14 +1,21 @@
-use yestrwyn::examples::*;
-use yestrwyn::outcome::outcome;
-fn main() {
-    for (g, l) in [("cases", cases::examples()), ("published", published()), ("edges", edges::examples()), ("refusals", refusals::examples()), ("deep", deep::examples())] {
-        for e in l {
-            let t = std::time::Instant::now();
-            let o = outcome(&e.file);
-            let w: Vec<_> = o.works.iter().rev().take(3).map(|w| w.work).collect();
-            let text = String::from_utf8_lossy(&o.readout);
-            let last = text.lines().last().unwrap_or("");
-            println!("{g} {} {:?} last works {w:?} len {} {:?} {}", e.name, o.answer.numbers(), e.file.len(), t.elapsed(), &last[..last.len().min(150)]);
-        }
+//! Writes the stored vectors. Run it in the package directory, or give the directory to write to.
+
+use std::path::PathBuf;
+use std::{env, fs, io};
+
+use yestrwyn::vectors::{expected, groups, pack};
+
+fn main() -> io::Result<()> {
+    let directory = env::args_os().nth(1).map_or_else(|| PathBuf::from("vectors"), PathBuf::from);
+    fs::create_dir_all(&directory)?;
+    let mut total = 0;
+    for group in groups() {
+        let (files, text) = (pack(&group), expected(&group));
+        println!("{}: {} files, {} and {} bytes", group.name, group.examples.len(), files.len(), text.len());
+        total += files.len() + text.len();
+        fs::write(directory.join(format!("{}.bin", group.name)), files)?;
+        fs::write(directory.join(format!("{}.txt", group.name)), text)?;
     }
+    println!("{total} bytes in all");
+    Ok(())
 }

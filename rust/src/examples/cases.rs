@@ -10,7 +10,10 @@ pub fn examples() -> Vec<Example> {
         Example::new("A", case_a()),
         Example::new("B", Vec::new()),
         Example::new("C-15-bytes", vec![0; 15]),
-        Example::new("D", two_units(2, pos(app(0, [var(0), var(0)])), neg(app(0, [var(1), app(1, [var(1)])])))),
+        Example::new(
+            "D",
+            two_units(2, pos(app(0, [var(0), var(0)])), neg(app(0, [var(1), app(1, [var(1)])]))),
+        ),
         Example::new("E", two_units(1, pos(app(0, [app(2, [])])), neg(app(0, [app(3, [])])))),
         Example::new("F", case_f()),
         Example::new("G", case_g(false)),

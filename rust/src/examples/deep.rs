@@ -36,10 +36,7 @@ fn symbols(file: &mut FileBuilder) -> [u16; 3] {
 /// 2,048. The rule ∓q(x) ±q(f^size(x)) is doubled by resolution with itself, and each doubling is
 /// applied to the start.
 fn nested_unit(file: &mut FileBuilder, [q, f, _]: [u16; 3], positive: bool, size: usize, start: Term) -> u16 {
-    let rule = file.clause(&[
-        (!positive, app(q, [var(0)])),
-        (positive, app(q, [nested(f, size, var(0))])),
-    ]);
+    let rule = file.clause(&[(!positive, app(q, [var(0)])), (positive, app(q, [nested(f, size, var(0))]))]);
     let unit = file.clause(&[(positive, app(q, [start]))]);
     apply_doublings(file, unit, rule)
 }
@@ -82,10 +79,7 @@ fn deep_occurrence(rest: usize) -> Vec<u8> {
 fn deep_occurs(rest: usize) -> Vec<u8> {
     let mut file = FileBuilder::new();
     let [p, f] = [2, 1].map(|arity| file.symbol(arity));
-    let rule = file.clause(&[
-        neg(app(p, [var(0), var(1)])),
-        pos(app(p, [var(0), nested(f, 8, var(1))])),
-    ]);
+    let rule = file.clause(&[neg(app(p, [var(0), var(1)])), pos(app(p, [var(0), nested(f, 8, var(1))]))]);
     let unit = file.clause(&[pos(app(p, [var(0), nested(f, rest, var(0))]))]);
     let left = apply_doublings(&mut file, unit, rule);
     let right = file.clause(&[neg(app(p, [var(2), var(2)]))]);

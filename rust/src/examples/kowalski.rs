@@ -231,8 +231,8 @@ fn implication_chain() -> Vec<u8> {
     let mut t = Truth::new();
     let (p, q, r) = (t.constant(), t.constant(), t.constant());
     let implies = t.implies;
-    let [goal, first, second] = [(&p, &q), (&p, &r), (&r, &q)]
-        .map(|(a, b)| t.holds(&app(implies, [a.clone(), b.clone()])));
+    let [goal, first, second] =
+        [(&p, &q), (&p, &r), (&r, &q)].map(|(a, b)| t.holds(&app(implies, [a.clone(), b.clone()])));
     let file = &mut t.file;
     let goal = file.clause(&[neg(goal)]);
     let first = file.clause(&[pos(first)]);

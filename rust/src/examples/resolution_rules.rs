@@ -31,10 +31,7 @@ fn resolution() -> Vec<u8> {
     let mut file = FileBuilder::new();
     let [p, d, c, f, g] = [2, 1, 1, 1, 2].map(|arity| file.symbol(arity));
     let left = file.clause(&[pos(app(d, [var(0)])), pos(app(p, [var(0), app(f, [var(1)])]))]);
-    let right = file.clause(&[
-        pos(app(c, [var(0)])),
-        neg(app(p, [app(g, [var(0), var(0)]), var(1)])),
-    ]);
+    let right = file.clause(&[pos(app(c, [var(0)])), neg(app(p, [app(g, [var(0), var(0)]), var(1)]))]);
     file.resolve(left, 2, right, 2);
     file.finish()
 }
@@ -67,15 +64,9 @@ fn outlines() -> Vec<u8> {
     let mut file = FileBuilder::new();
     let [p, g, f, a, b] = [3, 1, 3, 0, 0].map(|arity| file.symbol(arity));
     let (ca, cb) = (app(a, []), app(b, []));
-    let left = file.clause(&[pos(app(p, [
-        app(g, [var(0)]),
-        ca.clone(),
-        app(f, [ca, cb.clone(), var(1)]),
-    ]))]);
-    let right = file.clause(&[
-        neg(app(p, [var(0), var(1), app(f, [var(1), cb, var(2)])])),
-        pos(app(g, [var(2)])),
-    ]);
+    let left = file.clause(&[pos(app(p, [app(g, [var(0)]), ca.clone(), app(f, [ca, cb.clone(), var(1)])]))]);
+    let right =
+        file.clause(&[neg(app(p, [var(0), var(1), app(f, [var(1), cb, var(2)])])), pos(app(g, [var(2)]))]);
     file.resolve(left, 1, right, 1);
     file.finish()
 }

@@ -42,10 +42,8 @@ pub fn section_6() -> Vec<u8> {
         pos(app(a, [var(X), var(Y)])),
     ]);
     let third = file.clause(&[pos(app(b, [var(X)]))]);
-    let fourth = file.clause(&[
-        neg(app(p, [var(X), pair(var(Y), var(Z))])),
-        pos(app(c, [var(X), var(Y), var(Z)])),
-    ]);
+    let fourth =
+        file.clause(&[neg(app(p, [var(X), pair(var(Y), var(Z))])), pos(app(c, [var(X), var(Y), var(Z)]))]);
     let with_second = file.resolve(hub, 1, second, 3);
     let with_third = file.resolve(with_second, 1, third, 1);
     let c1 = file.resolve(with_third, 1, fourth, 2);
@@ -57,14 +55,8 @@ pub fn section_6() -> Vec<u8> {
         neg(app(e, [w.clone(), pair(w.clone(), gu.clone())])),
         neg(app(h, [w, gu])),
     ]);
-    let third = file.clause(&[
-        neg(app(p, [app(g, [var(X)]), var(Z)])),
-        pos(app(e, [var(X), var(Z)])),
-    ]);
-    let fourth = file.clause(&[
-        pos(app(r, [var(X), pair(var(X), var(Y))])),
-        pos(app(h, [var(X), var(Y)])),
-    ]);
+    let third = file.clause(&[neg(app(p, [app(g, [var(X)]), var(Z)])), pos(app(e, [var(X), var(Z)]))]);
+    let fourth = file.clause(&[pos(app(r, [var(X), pair(var(X), var(Y))])), pos(app(h, [var(X), var(Y)]))]);
     let with_hub = file.resolve(first, 2, hub, 1);
     let with_third = file.resolve(with_hub, 2, third, 2);
     let c2 = file.resolve(with_third, 2, fourth, 2);
@@ -89,10 +81,7 @@ pub fn figure_1() -> Vec<u8> {
         neg(app(p, [var(Y), var(X)])),
         pos(app(q, [var(X), var(Y)])),
     ]);
-    let c3 = file.clause(&[
-        neg(app(r, [app(g, [var(X)]), var(X)])),
-        neg(app(r, [var(Z), var(X)])),
-    ]);
+    let c3 = file.clause(&[neg(app(r, [app(g, [var(X)]), var(X)])), neg(app(r, [var(Z), var(X)]))]);
     let c4 = file.resolve(c1, 1, c2, 2);
     let c5 = file.resolve(c1, 1, c4, 2);
     let c6 = file.resolve(c4, 1, c3, 1);

@@ -52,7 +52,7 @@ impl Reference {
     /// Reads a whole file, with tables that are long enough.
     pub fn check(file: &[u8]) -> Reference {
         let mut state = Reference::default();
-        if file.len() > 65_536 || file.len() % 16 != 0 {
+        if file.len() > 65_536 || !file.len().is_multiple_of(16) {
             state.refusal = Some((1, 0));
             return state;
         }
