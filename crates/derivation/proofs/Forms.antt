@@ -5,15 +5,14 @@ use mathlib.Core.List.{List, [], _∷_}
 use Prim.Native.Nat.{ℕ, zero, suc, _≤_}
 use native.Mathlib.Omega.{arith}
 use lib.ListN.{length}
-use Rattle.unify.specs.Environment.{follow, Environment, unbound, link, View, applied, viewVariable, viewRow, onward}
+use Rattle.unify.specs.Environment.{follow, Environment, unbound, link, View, applied, Ends, viewVariable, viewRow, onward}
 use Rattle.unify.specs.Row.{variable, Row, application, Expression, Variable, rowTerm, writtenOut}
 use Rattle.unify.specs.Term.{Term, var, app}
+use Rattle.unify.proofs.Lists.{Each}
 use Rattle.unify.proofs.Meaning.{writtenArguments, writtenView, expressionOf, Ended, written-follow, follow-ends}
 use Rattle.unify.proofs.Terms.{size, sizes}
-use Rattle.unify.proofs.Turns.{Ends}
 use Rattle.derivation.specs.Derivation.{RowLiteral}
 use Rattle.derivation.specs.Ground.{instances, Ground, Values, instanceAt, argumentCount, WellFormed, AllWellFormed, WellFormedInstance, WellFormedInstances}
-use Rattle.derivation.proofs.Literals.{Each}
 
 module _ (arity : ℕ → Option ℕ) (row : ℕ → Row) (term : ℕ → Term ℕ) (termLaw : (r : ℕ) → term r ≡ rowTerm term r (row r)) (rowOk : ℕ → Type 0)
     (declared : (r s : ℕ) (xs : List ℕ) → rowOk r → row r ≡ application s xs → (arity s ≡ some (length xs)) × Each rowOk xs) where

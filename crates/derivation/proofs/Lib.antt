@@ -7,3 +7,4 @@ pub mod Unifiers
 pub mod Resolvents
 pub mod Chains
 pub mod Forms
+pub mod Known

@@ -13,13 +13,14 @@ use Rattle.unify.specs.Substitution.{composed}
 use Rattle.unify.specs.Term.{Term, apply}
 use Rattle.unify.specs.Unification.{unify, clash, occurs, failed}
 use Rattle.unify.specs.Unifier.{NoUnifier, MostGeneralUnifier}
+use Rattle.unify.proofs.Lists.{Each, map-each, map-map, map-append}
 use Rattle.unify.proofs.Ranges.{IndicesKept}
 use Rattle.unify.proofs.Solved.{Solved, unbound-at}
 use Rattle.unify.proofs.Terms.{variables-more, variables-apply}
 use Rattle.derivation.specs.Derivation.{literals, Literal, Derivation, resolve, factor, numbered, without, raise, raiseLiteral, maximumIndex, joined, lookup}
 use Rattle.derivation.specs.Textbook.{instantiated, Resolvent, Factor, ClauseVariables, StandardizedApart}
 use Rattle.derivation.specs.Written.{written, Clause, substitution, renamed, joinedSubstitution, writtenLiteral}
-use Rattle.derivation.proofs.Literals.{In, map-append, map-without, map-numbered, Each, each-numbered, each-without, map-each, map-map, LiteralIn, literals-in}
+use Rattle.derivation.proofs.Literals.{In, map-without, map-numbered, each-numbered, each-without, LiteralIn, literals-in}
 use Rattle.derivation.proofs.Substitutions.{written-left, written-right, solved-joined, lookup-solved}
 use Rattle.derivation.proofs.Unifiers.{unifier, no-unifier, value-after, most-general}
 use Rattle.derivation.proofs.Validity.{Unified, Valid, kept-joined, lookup-in}

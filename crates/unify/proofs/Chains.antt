@@ -9,14 +9,14 @@ use native.Mathlib.Nat.{add-suc, suc-add, zero-add}
 use native.Mathlib.Omega.{arith}
 use lib.ListN.{length}
 use Rattle.record.specs.Record.{pick}
-use Rattle.unify.specs.Environment.{follow, Binding, Environment, extend, unbound, link, View, applied, viewVariable, viewRow, onward}
+use Rattle.unify.specs.Environment.{follow, Binding, Environment, extend, unbound, link, View, applied, Ends, viewVariable, viewRow, onward}
 use Rattle.unify.specs.Row.{variable, Row, application, Expression, Variable, same}
 use Rattle.unify.specs.Unification.{endless, clash, occurs, overwork, full, Outcome, unified, failed, Pair, Task, unifying, testing, Turn, arguments, run}
 use Rattle.unify.proofs.Generality.{IsVar}
 use Rattle.unify.proofs.Meaning.{expressionOf, Ended, follow-unb, follow-appl, with}
 use Rattle.unify.proofs.Ranges.{KeptArguments, KeptTask, KeptEnd, kept-turn}
 use Rattle.unify.proofs.Tests.{same-eq, some-not-none}
-use Rattle.unify.proofs.Turns.{Ends, Seen, Goes, m-full, m-bind, m-more, Move, m-finished, m-same, m-left, m-right, m-args, m-clash, m-endless, m-occurs, m-other, m-into, m-endless-test, seen-ends, After, runs, after-both}
+use Rattle.unify.proofs.Turns.{Seen, Goes, m-full, m-bind, m-more, Move, m-finished, m-same, m-left, m-right, m-args, m-clash, m-endless, m-occurs, m-other, m-into, m-endless-test, seen-ends, After, runs, after-both}
 
 module _ (rowOk : ℕ → Type 0) (row : ℕ → Row) where
   -- following ends within n, from each expression whose row is rowOk

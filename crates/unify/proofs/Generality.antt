@@ -5,14 +5,14 @@ use mathlib.Core.Bool.{Bool}
 use mathlib.Core.List.{List, [], _∷_}
 use Prim.Native.Nat.{ℕ, suc, _≤_, _<_}
 use native.Mathlib.Omega.{arith}
-use Rattle.unify.specs.Environment.{follow, Binding, Environment, extend, unbound, link, View, applied, Respects}
+use Rattle.unify.specs.Environment.{follow, Binding, Environment, extend, unbound, link, View, applied, Ends, Respects}
 use Rattle.unify.specs.Row.{Row, application, Expression, Variable, rowTerm, writtenOut}
 use Rattle.unify.specs.Term.{Term, Terms, app, cons}
 use Rattle.unify.specs.Unification.{endless, clash, occurs, overwork, full, Outcome, unified, failed, Pair, Task, unifying, testing, Turn, arguments, argumentPairs, run}
 use Rattle.unify.proofs.Meaning.{writtenArguments, expressionOf, Ended, follow-unb, follow-appl, respects-in}
 use Rattle.unify.proofs.Soundness.{AllEqual, seen-view, seen-expr}
 use Rattle.unify.proofs.Terms.{size, sizes}
-use Rattle.unify.proofs.Turns.{Ends, Goes, m-full, m-bind, m-more, Move, m-finished, m-same, m-left, m-right, m-args, m-clash, m-endless, m-occurs, m-other, m-into, m-endless-test, seen-ends, After, runs}
+use Rattle.unify.proofs.Turns.{Goes, m-full, m-bind, m-more, Move, m-finished, m-same, m-left, m-right, m-args, m-clash, m-endless, m-occurs, m-other, m-into, m-endless-test, seen-ends, After, runs}
 
 abbrev pub IsVar : Variable → View → Type 0
 IsVar x (unbound v d) = d ≡ x

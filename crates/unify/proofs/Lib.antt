@@ -1,4 +1,5 @@
 pub mod Tests
+pub mod Lists
 pub mod Terms
 pub mod Rows
 pub mod Meaning
@@ -11,3 +12,4 @@ pub mod SolvedRun
 pub mod Chains
 pub mod Stability
 pub mod Failures
+pub mod Room

@@ -7,16 +7,11 @@ use Prim.Native.Nat.{ℕ, zero, suc}
 use native.Mathlib.Omega.{arith}
 use lib.Dec.{eqb, eqb→eq, eqb-refl}
 use Rattle.record.specs.Record.{pick}
-use Rattle.unify.specs.Environment.{follow, Binding, Environment, extend, unbound, link, View, applied}
+use Rattle.unify.specs.Environment.{follow, Binding, Environment, extend, unbound, link, View, applied, Ends}
 use Rattle.unify.specs.Row.{variable, Row, application, Expression, Variable, same}
 use Rattle.unify.specs.Unification.{turn, endless, clash, occurs, overwork, full, Outcome, unified, failed, Pair, Task, unifying, testing, Turn, finished, goOn, stop, arguments, argumentPairs, meet, testRest, testOne, withoutWork, withWork, run}
 use Rattle.unify.proofs.Meaning.{expressionOf, Ended, follow-ends}
 use Rattle.unify.proofs.Tests.{to-T, from-T, same-eq, same-refl, true-not-false}
-
-abbrev pub Ends : View → Type 0
-Ends (unbound v e) = Unit {0}
-Ends (applied s xs e) = Unit {0}
-Ends (link e) = ⊥
 
 module _ (row : ℕ → Row) (links : ℕ) (isFull : List Binding → Bool) (base : Environment) where
   abbrev pub Seen : List Binding → Expression → View → Type 0

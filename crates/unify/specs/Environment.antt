@@ -27,6 +27,12 @@ pub data View : Type 0 where
   applied : ℕ → List ℕ → Expression → View
   link : Expression → View
 
+-- It is no link.
+abbrev pub Ends : View → Type 0
+Ends (unbound v e) = Unit {0}
+Ends (applied s xs e) = Unit {0}
+Ends (link e) = ⊥
+
 abbrev pub viewVariable : Option Expression → ℕ → Expression → View
 viewVariable none v e = unbound v e
 viewVariable (some d) v e = link d

@@ -1,0 +1,3 @@
+pub mod Inversions
+pub mod Standing
+pub mod Steps

@@ -1,0 +1,64 @@
+-- Document 01, "The file": what the records read so far have declared. Every list has the newest first, so number 0 is its last.
+use mathlib.Core.Option.{Option, none, some}
+use mathlib.Core.List.{List, [], _∷_, map}
+use Prim.Native.Nat.{ℕ, _+_}
+use lib.Dec.{eqb}
+use lib.ListN.{length}
+use Rattle.record.specs.Record.{pick}
+use Rattle.unify.specs.Row.{Row, rowAt, termAt}
+use Rattle.unify.specs.Term.{Term}
+use Rattle.derivation.specs.Derivation.{Derivation, ownBindings}
+
+-- Symbols with their arities, rows, and clauses, each with the number of its record.
+pub record State : Type 0 where
+  pub symbols : List (ℕ × ℕ)
+  pub rows : List (ℕ × Row)
+  pub clauses : List (ℕ × Derivation)
+
+abbrev pub start : State
+start = record { symbols = []; rows = []; clauses = [] }
+
+abbrev pub withSymbol : State → ℕ → ℕ → State
+withSymbol S k arity = record { symbols = (k, arity) ∷ S .symbols; rows = S .rows; clauses = S .clauses }
+
+abbrev pub withRow : State → ℕ → Row → State
+withRow S k row = record { symbols = S .symbols; rows = (k, row) ∷ S .rows; clauses = S .clauses }
+
+abbrev pub withClause : State → ℕ → Derivation → State
+withClause S k c = record { symbols = S .symbols; rows = S .rows; clauses = (k, c) ∷ S .clauses }
+
+-- The element numbered n of a list that has the newest first.
+abbrev pub entry {ℓ} : {A : Type ℓ} → List A → ℕ → Option A
+entry [] n = none
+entry (x ∷ xs) n = pick (eqb n (length xs)) (some x) (entry xs n)
+
+-- Each without its record's number.
+abbrev pub arities : State → List ℕ
+arities S = map (λ s. s .1) (S .symbols)
+
+abbrev pub rowsOf : State → List Row
+rowsOf S = map (λ w. w .1) (S .rows)
+
+abbrev pub derivations : State → List Derivation
+derivations S = map (λ c. c .1) (S .clauses)
+
+-- The arity of a symbol and the clause of a number, if they exist; the row of a number, and its term.
+abbrev pub arityOf : State → ℕ → Option ℕ
+arityOf S s = entry (arities S) s
+
+abbrev pub clauseOf : State → ℕ → Option Derivation
+clauseOf S n = entry (derivations S) n
+
+abbrev pub rowOf : State → ℕ → Row
+rowOf S r = rowAt (rowsOf S) r
+
+abbrev pub termOf : State → ℕ → Term ℕ
+termOf S r = termAt (rowsOf S) r
+
+-- How many bindings the clauses hold: the sum of what their steps added.
+abbrev pub bindingsOf : List Derivation → ℕ
+bindingsOf [] = 0
+bindingsOf (c ∷ cs) = bindingsOf cs + length (ownBindings c)
+
+unfoldable pub held : State → ℕ
+held S = bindingsOf (derivations S)
