@@ -205,8 +205,8 @@ impl Checker {
 
     /// Loads the bindings of a derivation into the environment, indices raised by `offset`.
     fn load_at(&mut self, clause: u16, offset: u16) {
-        let Checker { nodes, clauses, bindings, environment, loader, .. } = self;
-        loader.load(nodes, clauses, bindings, environment, clause, offset);
+        let Checker { clauses, bindings, environment, loader, .. } = self;
+        loader.load(clauses, bindings, environment, clause, offset);
     }
 
     /// Unifies in the loaded environment and returns the number of bindings held before.

@@ -1,7 +1,7 @@
 //! Clauses as derivations: an input clause, or a step on earlier clauses whose structure it shares.
 
 use crate::environment::Environment;
-use crate::expression::{Binding, Expression, Node};
+use crate::expression::{Binding, Expression};
 
 /// Where a clause comes from. Clauses are named by number, always a smaller one.
 #[derive(Clone, Copy, PartialEq, Eq, Debug)]
@@ -140,7 +140,6 @@ impl Loader {
     /// `offset`, and by the left maximum index in right parents.
     pub fn load(
         &mut self,
-        nodes: &[Node],
         clauses: &[Clause],
         bindings: &[Binding],
         environment: &mut Environment,
@@ -152,7 +151,7 @@ impl Loader {
         while let Some((number, offset)) = self.stack.pop() {
             let Some(at) = clauses.get(usize::from(number)) else { continue };
             for binding in own_bindings(bindings, at) {
-                environment.bind(nodes, binding, offset);
+                environment.bind(binding, offset);
             }
             match at.origin {
                 Origin::Input(_) => {}

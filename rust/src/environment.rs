@@ -31,13 +31,11 @@ impl Environment {
     }
 
     /// Puts a binding in, with `offset` added to both indices.
-    pub fn bind(&mut self, nodes: &[Node], binding: &Binding, offset: u16) {
-        let Binding { variable, value } = binding;
-        if let Some(&Node::Variable(number)) = nodes.get(usize::from(variable.row)) {
-            let raised = [value.row.wrapping_add(1), value.index.wrapping_add(offset)];
-            if let Some(cell) = self.cells.get_mut(slot(number, variable.index.wrapping_add(offset))) {
-                *cell = raised;
-            }
+    pub fn bind(&mut self, binding: &Binding, offset: u16) {
+        let Binding { variable, number, value } = binding;
+        let at = slot(*number, variable.index) + slot(0, offset);
+        if let Some(cell) = self.cells.get_mut(at) {
+            *cell = [value.row.wrapping_add(1), value.index.wrapping_add(offset)];
         }
     }
 

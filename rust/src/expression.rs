@@ -22,6 +22,14 @@ impl Node {
     }
 }
 
+/// The number of a variable's row. Other rows have none; for them it is 0.
+pub fn variable_number(nodes: &[Node], row: u16) -> u16 {
+    match nodes.get(usize::from(row)) {
+        Some(&Node::Variable(number)) => number,
+        _ => 0,
+    }
+}
+
 /// A row read at an index: variables of one number are different at different indices.
 #[derive(Clone, Copy, PartialEq, Eq, Hash, Debug)]
 pub struct Expression {
@@ -47,9 +55,11 @@ impl Followed {
     }
 }
 
-/// A binding: a variable's row and index, and the row and index of its value.
+/// A binding: a variable's row and index, and the row and index of its value. The variable's number
+/// stands beside its row, so that loading a binding reads no node.
 #[derive(Clone, Copy, PartialEq, Eq, Debug)]
 pub struct Binding {
     pub variable: Expression,
+    pub number: u16,
     pub value: Expression,
 }

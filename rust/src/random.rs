@@ -34,7 +34,7 @@ impl SplitMix64 {
 
     /// A number from `low` to `high`, both included.
     pub fn between(&mut self, low: usize, high: usize) -> usize {
-        low + self.below(high.saturating_sub(low) + 1)
+        low.saturating_add(self.below(high.saturating_sub(low).saturating_add(1)))
     }
 
     /// True once in `n` times.

@@ -2,7 +2,7 @@
 
 use crate::answer::Reason;
 use crate::environment::Environment;
-use crate::expression::{Binding, Expression, Followed, Node};
+use crate::expression::{variable_number, Binding, Expression, Followed, Node};
 use crate::limits::{BINDINGS, WORK};
 
 /// The stacks of a unification, kept between steps so that a step allocates nothing.
@@ -98,8 +98,8 @@ impl Unifier {
         if bindings.len() >= BINDINGS {
             return Err(Reason::Bindings);
         }
-        let binding = Binding { variable, value };
-        environment.bind(nodes, &binding, 0);
+        let binding = Binding { variable, number: variable_number(nodes, variable.row), value };
+        environment.bind(&binding, 0);
         bindings.push(binding);
         Ok(())
     }

@@ -31,18 +31,17 @@ pub fn groups() -> Vec<Group> {
         Group { name: "edges", examples: edges::examples() },
         Group { name: "refused", examples: refusals::examples() },
         Group { name: "deep", examples: deep::examples() },
-        Group { name: "random", examples: random_examples() },
+        Group { name: "random", examples: (0..RANDOM_FILES).map(random_example).collect() },
         Group { name: "long", examples: long_examples() },
     ]
 }
 
-/// Random files by seed; each fourth one is damaged with the same seed.
-fn random_examples() -> Vec<Example> {
-    let example = |seed: u64| match seed % 4 {
+/// The random file of a seed; each fourth one is damaged with the same seed.
+pub fn random_example(seed: u64) -> Example {
+    match seed % 4 {
         3 => Example::new(&format!("damaged-{seed}"), damage(&random_file(seed), seed)),
         _ => Example::new(&format!("random-{seed}"), random_file(seed)),
-    };
-    (0..RANDOM_FILES).map(example).collect()
+    }
 }
 
 /// Random files of 200 to 590 records.
@@ -54,10 +53,10 @@ fn long_examples() -> Vec<Example> {
     (0..LONG_FILES).map(example).collect()
 }
 
-/// The pack of a group: for each file four bytes of length, low byte first, and its bytes.
-pub fn pack(group: &Group) -> Vec<u8> {
+/// A pack of files: for each four bytes of length, low byte first, and its bytes.
+pub fn pack(examples: &[Example]) -> Vec<u8> {
     let mut bytes = Vec::new();
-    for example in &group.examples {
+    for example in examples {
         let length = u32::try_from(example.file.len()).unwrap_or(u32::MAX);
         bytes.extend_from_slice(&length.to_le_bytes());
         bytes.extend_from_slice(&example.file);

@@ -139,7 +139,7 @@ fn parts_of_a_file() {
 
 #[test]
 fn equal_seeds_give_equal_files() {
-    for seed in 0..50 {
+    for seed in 0..1000 {
         assert_eq!(random_file(seed), random_file(seed));
         let records = random_file(seed).len() / 16;
         assert!((5..=60).contains(&records), "{records} records from seed {seed}");

@@ -98,7 +98,7 @@ fn full_file() -> Vec<u8> {
 }
 
 /// A term with exactly `size` occurrences over a leaf, in few rows: f(t) or g(t,t) over smaller ones.
-fn sized(file: &mut FileBuilder, [f, g]: [u16; 2], size: usize, leaf: u16) -> u16 {
+pub fn sized(file: &mut FileBuilder, [f, g]: [u16; 2], size: usize, leaf: u16) -> u16 {
     let mut even = Vec::new();
     let mut rest = size;
     while rest > 1 {

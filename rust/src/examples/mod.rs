@@ -5,6 +5,7 @@ pub mod cases;
 pub mod deep;
 pub mod edges;
 pub mod group_theory;
+pub mod heavy;
 pub mod kowalski;
 pub mod refusals;
 pub mod resolution_rules;

@@ -29,8 +29,9 @@ impl Rows {
     pub fn environment(&mut self, bindings: &[(&str, u16, &str, u16)]) -> Environment {
         let mut environment = Environment::new();
         for &(variable, index, term, at) in bindings {
-            let binding = Binding { variable: self.at(variable, index), value: self.at(term, at) };
-            environment.bind(&self.nodes, &binding, 0);
+            let number = VARIABLES.find(variable).expect("a variable") as u16;
+            let (variable, value) = (self.at(variable, index), self.at(term, at));
+            environment.bind(&Binding { variable, number, value }, 0);
         }
         environment
     }
