@@ -20,7 +20,7 @@ use Rattle.unify.proofs.Stability.{follow-agree}
 use Rattle.unify.proofs.Tests.{to-T}
 use Rattle.derivation.specs.Derivation.{literals, input, Literal, RowLiteral, Derivation, numbered, raise, maximumIndex, ownBindings, joined, lookup, uses}
 use Rattle.derivation.proofs.Chains.{short-joined}
-use Rattle.derivation.proofs.Known.{Known, KnownRows, KnownEnvironment, known-numbered, known-joined, known-variable, known-arguments, known-lookup, valid-stable, known-more}
+use Rattle.derivation.proofs.Known.{KnownRows, Known, KnownEnvironment, known-numbered, known-joined, known-variable, known-arguments, known-lookup, valid-stable, known-more}
 use Rattle.derivation.proofs.Literals.{leb-false-lt}
 use Rattle.derivation.proofs.Validity.{Valid, lookup-in}
 use Rattle.checker.specs.Demands.{InputsOf}
@@ -180,6 +180,9 @@ module _ (n : ℕ) (S : State) (H : StateOk n S) where
 
   pub known-of : (c : Derivation) → InOrder (rowsOf S) (held S) c → KnownEnvironment (length (rowsOf S)) (lookup c)
   known-of c o = known-lookup (length ws) row row (λ r l. refl) below c (o .valid) (o .known)
+
+  pub held-links : held S ≤ mostLinks
+  held-links = omega (arith, H .heldOk, links-enough)
 
   -- Unification over this state never loses its way, and what it adds keeps chains short.
   pub room : (bs : List Binding) → noRoom (held S) bs ≡ false → held S + length bs < mostLinks
