@@ -10,7 +10,7 @@ use native.Mathlib.Omega.{arith}
 use lib.Dec.{T}
 use lib.ListN.{length, take, drop}
 use Rattle.record.specs.Record.{Record, records}
-use Rattle.unify.specs.Unification.{mostLinks, here, after}
+use Rattle.unify.specs.Unification.{mostLinks}
 use Rattle.unify.proofs.Chains.{short-le}
 use Rattle.unify.proofs.Rows.{row-there}
 use Rattle.derivation.specs.Derivation.{literals, Derivation, lookup, uses}
@@ -142,7 +142,7 @@ module _ (file : List ℕ) (tables : Tables) where
   stated : (q : Reason) (k : ℕ) → DueAt file tables q k → (1 ≤ reasonNumber q) × (reasonNumber q ≤ 13)
   stated q k (ofLength f) = omega arith
   stated q k (ofTables f l) = omega arith
-  stated q j (ofRecord {reason} {k} {S} {r} R D) = due-stated S r reason D
+  stated q j (ofRecord {reason} {k} {S} {r} R D) = let d = due-stated S r reason D in omega arith
 
   -- An accepted file: every record stands, and the clause is the lowest empty one.
   accepted-ends : (n : ℕ) → check file (lengthsOf tables) .verdict ≡ accepted n → (fittingLength (length file) ≡ true) × ((S : State) × (ending file ≡ allStand S) × (firstEmpty (derivations S) ≡ some n))

@@ -6,3 +6,4 @@ pub mod Acceptance
 pub mod Resolution
 pub mod Refusals
 pub mod Demanded
+pub mod CasesProved

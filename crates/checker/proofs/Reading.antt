@@ -10,7 +10,6 @@ use lib.ListN.{length, take, drop, length-take}
 use Rattle.record.specs.Record.{Record, records}
 use Rattle.record.proofs.Records.{Shaped, records-length, records-shaped}
 use Rattle.unify.specs.Row.{application, noSymbol, rowTerm}
-use Rattle.unify.specs.Unification.{after}
 use Rattle.unify.proofs.Rows.{term-law, row-arities}
 use Rattle.unify.proofs.Tests.{to-T, both-true}
 use Rattle.checker.specs.Demands.{Reached}

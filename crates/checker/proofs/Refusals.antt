@@ -61,7 +61,7 @@ tests-not-unification S kind r = (
 )
 
 abbrev Stated : Reason → Type 0
-Stated q = (1 ≤ reasonNumber q) × (reasonNumber q ≤ 13)
+Stated q = (3 ≤ reasonNumber q) × (reasonNumber q ≤ 13)
 
 tests-stated : (S : State) (kind : Kind) (r : Record) → Each (λ (t : Bool × Reason). Stated (t .1)) (tests S kind r)
 tests-stated S kind r = (omega arith, (omega arith, (omega arith, (omega arith, (omega arith, (omega arith, (omega arith, tt)))))))
@@ -73,7 +73,7 @@ failing-stated row links isFull ρ n s f (variableOccurs a b c) = omega arith
 failing-stated row links isFull ρ n s f (workDone a b) = omega arith
 failing-stated row links isFull ρ n s f (bindingsHeld a b c d) = omega arith
 
-pub due-stated : (S : State) (r : Record) (q : Reason) → Due S r q → (1 ≤ reasonNumber q) × (reasonNumber q ≤ 13)
+pub due-stated : (S : State) (r : Record) (q : Reason) → Due S r q → (3 ≤ reasonNumber q) × (reasonNumber q ≤ 13)
 due-stated S r q (byTest {reason} f) = first-each Stated (tests S (kindOfRecord r) r) reason (tests-stated S (kindOfRecord r) r) f
 due-stated S r q (inResolve {x} {y} {f} a b c d e) = failing-stated (rowOf S) mostLinks (noRoom (held S)) (joined (maximumIndex (x .0)) (lookup (x .0)) (lookup (y .0))) mostWork (unifying [] ((x .1 .1, raise (maximumIndex (x .0)) (y .1 .1)) ∷ [])) f e
 due-stated S r q (inFactor {x} {y} {f} a b c d e) = failing-stated (rowOf S) mostLinks (noRoom (held S)) (lookup (x .0)) mostWork (unifying [] ((x .1 .1, y .1 .1) ∷ [])) f e

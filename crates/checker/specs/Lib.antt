@@ -4,3 +4,4 @@ pub mod Step
 pub mod Verdict
 pub mod Tables
 pub mod Demands
+pub mod Cases

@@ -1,7 +1,7 @@
 -- Document 01, "Verdict, tables and refusals": the answer to a whole file.
 use mathlib.Core.Bool.{Bool, true, false, _&&_}
 use mathlib.Core.Option.{Option, none, some}
-use mathlib.Core.List.{List, [], _∷_}
+use mathlib.Core.List.{List, [], _∷_, _++_}
 use Prim.Native.Nat.{ℕ, _%_}
 use lib.Dec.{eqb, leb}
 use lib.ListN.{length}
@@ -29,6 +29,10 @@ pub record Answer : Type 0 where
   pub rows : ℕ
   pub clauses : ℕ
   pub bindings : ℕ
+
+-- The seven numbers of an answer: the verdict's three, then the counts.
+abbrev pub answerNumbers : Answer → List ℕ
+answerNumbers a = verdictNumbers (a .verdict) ++ (a .symbols ∷ a .rows ∷ a .clauses ∷ a .bindings ∷ [])
 
 -- The lowest number of a clause without literals.
 abbrev pub isEmpty {ℓ} : {A : Type ℓ} → List A → Bool

@@ -7,10 +7,9 @@ use native.Mathlib.Omega.{arith}
 use lib.ListN.{length}
 use Rattle.unify.specs.Environment.{follow, Environment, unbound, link, View, applied, Ends, viewVariable, viewRow, onward}
 use Rattle.unify.specs.Row.{variable, Row, application, Expression, Variable, rowTerm, writtenOut}
-use Rattle.unify.specs.Term.{Term, var, app}
+use Rattle.unify.specs.Term.{Term, var, app, occurrences, allOccurrences}
 use Rattle.unify.proofs.Lists.{Each}
 use Rattle.unify.proofs.Meaning.{writtenArguments, writtenView, expressionOf, Ended, written-follow, follow-ends}
-use Rattle.unify.proofs.Terms.{size, sizes}
 use Rattle.derivation.specs.Derivation.{RowLiteral}
 use Rattle.derivation.specs.Ground.{instances, Ground, Values, instanceAt, argumentCount, WellFormed, AllWellFormed, WellFormedInstance, WellFormedInstances}
 
@@ -41,32 +40,32 @@ module _ (arity : ℕ → Option ℕ) (row : ℕ → Row) (term : ℕ → Term �
         further ih (applied s xs d) q = q
         further ih (link d) q = ih d q
 
-    formed-all : (n : ℕ) → ((e : Expression) → rowOk (e .0) → size (writtenOut term γ e) ≤ n → WellFormed arity (writtenOut term γ e))
-        → (xs : List ℕ) (i : ℕ) → Each rowOk xs → sizes (writtenArguments term γ xs i) ≤ n → AllWellFormed arity (writtenArguments term γ xs i)
+    formed-all : (n : ℕ) → ((e : Expression) → rowOk (e .0) → occurrences (writtenOut term γ e) ≤ n → WellFormed arity (writtenOut term γ e))
+        → (xs : List ℕ) (i : ℕ) → Each rowOk xs → allOccurrences (writtenArguments term γ xs i) ≤ n → AllWellFormed arity (writtenArguments term γ xs i)
     formed-all n each [] i h l = tt
     formed-all n each (x ∷ xs) i h l = (each (x, i) (h .0) (omega arith), formed-all n each xs i (h .1) (omega arith))
 
-    no-size : (t : Ground) → size t ≤ 0 → ⊥
+    no-size : (t : Ground) → occurrences t ≤ 0 → ⊥
     no-size (var x) k = omega arith
     no-size (app s ts) k = omega arith
 
-    -- By induction over a bound on the value's size.
-    formed : (n : ℕ) (e : Expression) → rowOk (e .0) → size (writtenOut term γ e) ≤ n → WellFormed arity (writtenOut term γ e)
+    -- By induction over a bound on the value's occurrences.
+    formed : (n : ℕ) (e : Expression) → rowOk (e .0) → occurrences (writtenOut term γ e) ≤ n → WellFormed arity (writtenOut term γ e)
     formed zero e h l = absurd (no-size (writtenOut term γ e) l)
     formed (suc n) e h l = try (λ d k z. formed n d k z) (follow row links ρ e) (ends e h) (follow-ends row links ρ e) (kept-follow links e h) (written-follow row term termLaw γ links ρ (values .bound) e)
       where
-        try : ((d : Expression) → rowOk (d .0) → size (writtenOut term γ d) ≤ n → WellFormed arity (writtenOut term γ d))
+        try : ((d : Expression) → rowOk (d .0) → occurrences (writtenOut term γ d) ≤ n → WellFormed arity (writtenOut term γ d))
             → (w : View) → Ends w → Ended row ρ w → rowOk (expressionOf w .0) → writtenOut term γ e ≡ writtenView term γ w → WellFormed arity (writtenOut term γ e)
         try ih (unbound v d) k g o q = rw (q ∙ values .unbound d (g .1)) tt
         try ih (applied s xs d) k g o q =
             let a = declared (d .0) s xs o g in
-            let z : size (writtenOut term γ e) ≡ suc (sizes (writtenArguments term γ xs (d .1))) = ap size q in
+            let z : occurrences (writtenOut term γ e) ≡ suc (allOccurrences (writtenArguments term γ xs (d .1))) = ap occurrences q in
             rw q (a .0 ∙ ap some (sym (count-arguments γ xs (d .1))), formed-all n ih xs (d .1) (a .1) (omega arith))
         try ih (link d) k g o q = absurd k
 
     instance-formed : (k : ℕ) (ls : List RowLiteral) → Each (λ (l : RowLiteral). rowOk (l .1)) ls → WellFormedInstance arity (instanceAt term γ k ls)
     instance-formed k [] h = tt
-    instance-formed k (l ∷ ls) h = (formed (size (writtenOut term γ (l .1, k))) (l .1, k) (h .0) (omega arith), instance-formed k ls (h .1))
+    instance-formed k (l ∷ ls) h = (formed (occurrences (writtenOut term γ (l .1, k))) (l .1, k) (h .0) (omega arith), instance-formed k ls (h .1))
 
     pub instances-formed : (k : ℕ) (us : List (List RowLiteral)) → Each (λ (u : List RowLiteral). Each (λ (l : RowLiteral). rowOk (l .1)) u) us → WellFormedInstances arity (instances term γ k us)
     instances-formed k [] h = tt

@@ -7,7 +7,7 @@ use mathlib.Core.List.{List, [], _∷_, map}
 use Prim.Native.Nat.{ℕ, suc}
 use Rattle.unify.specs.Environment.{Environment, Respects}
 use Rattle.unify.specs.Row.{Variable, writtenOut}
-use Rattle.unify.specs.Term.{Terms, Term, var, app, nil, cons, apply}
+use Rattle.unify.specs.Term.{Term, Terms, var, app, nil, cons, apply}
 use Rattle.derivation.specs.Derivation.{RowLiteral, Derivation}
 use Rattle.derivation.specs.Written.{substitution}
 

@@ -8,7 +8,7 @@ use Rattle.record.specs.Record.{pick}
 use Rattle.unify.specs.Environment.{follow, Binding, Environment, extend, unbound}
 use Rattle.unify.specs.Failing.{Waiting, Failing, symbolsDiffer, variableOccurs, workDone, bindingsHeld}
 use Rattle.unify.specs.Row.{Row, Expression, Variable, same}
-use Rattle.unify.specs.Unification.{turn, endless, Failure, here, occurs, overwork, unified, failed, Pair, Task, unifying, testing, Turn, finished, goOn, stop, arguments, testRest, testOne, withoutWork, withWork, run, after}
+use Rattle.unify.specs.Unification.{turn, endless, Failure, occurs, overwork, unified, failed, Pair, Task, unifying, testing, Turn, finished, goOn, stop, arguments, testRest, testOne, withoutWork, withWork, run, noTurn, oneTurn}
 use Rattle.unify.proofs.Tests.{same-eq}
 use Rattle.unify.proofs.Turns.{Goes, m-full, m-bind, m-more, Move, m-finished, m-same, m-left, m-right, m-args, m-clash, m-endless, m-occurs, m-other, m-into, m-endless-test, moves}
 
@@ -24,10 +24,10 @@ module _ (row : ℕ → Row) (links : ℕ) (isFull : List Binding → Bool) (bas
 
   -- One more turn before.
   later : (n : ℕ) (s t : Task) → turn row links isFull base s ≡ goOn t → (r : Failure) → F n t r → F (suc n) s r
-  later n s t q r (symbolsDiffer h l a b k) = symbolsDiffer (after q h) (omega arith) a b k
-  later n s t q r (variableOccurs h l a) = variableOccurs (after q h) (omega arith) a
-  later n s t q r (workDone h w) = workDone (after q h) w
-  later n s t q r (bindingsHeld h l a b) = bindingsHeld (after q h) (omega arith) a b
+  later n s t q r (symbolsDiffer h l a b k) = symbolsDiffer (oneTurn q h) (omega arith) a b k
+  later n s t q r (variableOccurs h l a) = variableOccurs (oneTurn q h) (omega arith) a
+  later n s t q r (workDone h w) = workDone (oneTurn q h) w
+  later n s t q r (bindingsHeld h l a b) = bindingsHeld (oneTurn q h) (omega arith) a b
 
   -- A turn that stops.
   abbrev Stops : ℕ → Task → Turn → Type 0
@@ -37,7 +37,7 @@ module _ (row : ℕ → Row) (links : ℕ) (isFull : List Binding → Bool) (bas
 
   stops-goes : (n : ℕ) (bs : List Binding) (x : Variable) (e o : Expression) (os : List Expression) (ps : List Pair) (rest : List Expression) (t : Turn) → Goes row links isFull base bs x e ps rest t
       → testOne (λ _. false) (follow row links (extend base bs) o) bs x e os ps ≡ testRest (λ _. false) bs x e rest ps → Stops n (testing bs x e o os ps) t
-  stops-goes n bs x e o os ps rest t (m-full q) z = λ _. bindingsHeld here (omega arith) z q
+  stops-goes n bs x e o os ps rest t (m-full q) z = λ _. bindingsHeld noTurn (omega arith) z q
   stops-goes n bs x e o os ps rest t (m-bind q) z = tt
   stops-goes n bs x e o os ps rest t m-more z = tt
 
@@ -47,9 +47,9 @@ module _ (row : ℕ → Row) (links : ℕ) (isFull : List Binding → Bool) (bas
   stops n s t (m-left v e w f g k q) = tt
   stops n s t (m-right u xs e w d f g) = tt
   stops n s t (m-args u xs e ys d f g) = tt
-  stops n s t (m-clash u xs e w ys d f g q) = λ _. symbolsDiffer here (omega arith) f g q
+  stops n s t (m-clash u xs e w ys d f g q) = λ _. symbolsDiffer noTurn (omega arith) f g q
   stops n s t (m-endless o d f z) = λ k. absurd (k refl)
-  stops n s t (m-occurs {bs} {x} {e} {o} {os} {ps} v d f q) = λ _. variableOccurs {bs = bs} {x = x} {e = e} {o = o} {os = os} {ps = ps} {v = v} here (omega arith) (f ∙ ap (unbound v) q)
+  stops n s t (m-occurs {bs} {x} {e} {o} {os} {ps} v d f q) = λ _. variableOccurs {bs = bs} {x = x} {e = e} {o = o} {os = os} {ps = ps} {v = v} noTurn (omega arith) (f ∙ ap (unbound v) q)
   stops n s t (m-other {bs} {x} {e} {o} {os} {ps} v d f k m) = stops-goes n bs x e o os ps os t m (ap (λ w. testOne (λ _. false) w bs x e os ps) f ∙ other (same d x) refl)
     where
       other : (b : Bool) → same d x ≡ b → pick b (stop occurs) (testRest (λ _. false) bs x e os ps) ≡ testRest (λ _. false) bs x e os ps
@@ -74,7 +74,7 @@ module _ (row : ℕ → Row) (links : ℕ) (isFull : List Binding → Bool) (bas
   fails zero s r q k = try (turn row links isFull base s) refl q
     where
       over : Waiting s → failed overwork ≡ failed r → F zero s r
-      over w p = subst (F zero s) (failed-injective p) (workDone here w)
+      over w p = subst (F zero s) (failed-injective p) (workDone noTurn w)
 
       try : (t : Turn) → turn row links isFull base s ≡ t → withoutWork t ≡ failed r → F zero s r
       try (finished bs) p z = absurd (unified-not-failed z)

@@ -7,11 +7,10 @@ use Prim.Native.Nat.{ℕ, suc, _≤_, _<_}
 use native.Mathlib.Omega.{arith}
 use Rattle.unify.specs.Environment.{follow, Binding, Environment, extend, unbound, link, View, applied, Ends, Respects}
 use Rattle.unify.specs.Row.{Row, application, Expression, Variable, rowTerm, writtenOut}
-use Rattle.unify.specs.Term.{Term, Terms, app, cons}
+use Rattle.unify.specs.Term.{Terms, Term, app, cons, occurrences, allOccurrences}
 use Rattle.unify.specs.Unification.{endless, clash, occurs, overwork, full, Outcome, unified, failed, Pair, Task, unifying, testing, Turn, arguments, argumentPairs, run}
 use Rattle.unify.proofs.Meaning.{writtenArguments, expressionOf, Ended, follow-unb, follow-appl, respects-in}
 use Rattle.unify.proofs.Soundness.{AllEqual, seen-view, seen-expr}
-use Rattle.unify.proofs.Terms.{size, sizes}
 use Rattle.unify.proofs.Turns.{Goes, m-full, m-bind, m-more, Move, m-finished, m-same, m-left, m-right, m-args, m-clash, m-endless, m-occurs, m-other, m-into, m-endless-test, seen-ends, After, runs}
 
 abbrev pub IsVar : Variable → View → Type 0
@@ -34,7 +33,7 @@ cons-tail s t xs ys p = cc
 module _ (row : ℕ → Row) (links : ℕ) (base : Environment) (term : ℕ → Term ℕ) {Y : Type 0} (γ : Variable → Term Y) where
   -- an expression of the occurrence testRest is smaller than the whole, or is the whole, which is not the variable
   abbrev Small : List Binding → Variable → Expression → Expression → Type 0
-  Small bs x e o = (size (writtenOut term γ o) < size (writtenOut term γ e)) ⊎ ((size (writtenOut term γ o) ≤ size (writtenOut term γ e)) × ¬ IsVar x (follow row links (extend base bs) o))
+  Small bs x e o = (occurrences (writtenOut term γ o) < occurrences (writtenOut term γ e)) ⊎ ((occurrences (writtenOut term γ o) ≤ occurrences (writtenOut term γ e)) × ¬ IsVar x (follow row links (extend base bs) o))
 
   abbrev Smalls : List Binding → Variable → Expression → List Expression → Type 0
   Smalls bs x e [] = Unit {0}
@@ -57,7 +56,7 @@ module _ (row : ℕ → Row) (links : ℕ) (base : Environment) (term : ℕ → 
   zip-eq (x ∷ xs) [] i j ps q h = h
   zip-eq (x ∷ xs) (y ∷ ys) i j ps q h = (cons-head _ _ _ _ q, zip-eq xs ys i j ps (cons-tail _ _ _ _ q) h)
 
-  smalls-args : (bs : List Binding) (x : Variable) (e : Expression) (xs : List ℕ) (i : ℕ) (os : List Expression) → sizes (writtenArguments term γ xs i) < size (writtenOut term γ e) → Smalls bs x e os → Smalls bs x e (arguments xs i os)
+  smalls-args : (bs : List Binding) (x : Variable) (e : Expression) (xs : List ℕ) (i : ℕ) (os : List Expression) → allOccurrences (writtenArguments term γ xs i) < occurrences (writtenOut term γ e) → Smalls bs x e os → Smalls bs x e (arguments xs i os)
   smalls-args bs x e [] i os h k = k
   smalls-args bs x e (a ∷ xs) i os h k = (inl (omega arith), smalls-args bs x e xs i os (omega arith) k)
 
@@ -104,16 +103,16 @@ module _ (row : ℕ → Row) (links : ℕ) (base : Environment) (term : ℕ → 
       where
         try : Small bs x e o → ⊥
         try (inl l) =
-            let y : size (writtenOut term γ o) ≡ size (writtenOut term γ e) = ap size (seen-view row links isFull base term termLaw γ bs (h .0) o (unbound v d) f ∙ ap γ q ∙ h .1) in
+            let y : occurrences (writtenOut term γ o) ≡ occurrences (writtenOut term γ e) = ap occurrences (seen-view row links isFull base term termLaw γ bs (h .0) o (unbound v d) f ∙ ap γ q ∙ h .1) in
             omega arith
         try (inr l) = (rw f at (l .1)) q
     forth-turn s t (m-other {bs} {x} {e} {o} {os} {ps} v d f n m) h = forth-goes bs x e ps os t m (h .0) (h .1) (h .2) (h .3 .1)
     forth-turn s t (m-into {bs} {x} {e} {o} {os} {ps} u xs d f m) h = forth-goes bs x e ps (arguments xs (d .1) os) t m (h .0) (h .1) (h .2) (smalls-args bs x e xs (d .1) os (less (h .3 .0)) (h .3 .1))
       where
-        y : size (writtenOut term γ o) ≡ suc (sizes (writtenArguments term γ xs (d .1)))
-        y = ap size (seen-view row links isFull base term termLaw γ bs (h .0) o (applied u xs d) f)
+        y : occurrences (writtenOut term γ o) ≡ suc (allOccurrences (writtenArguments term γ xs (d .1)))
+        y = ap occurrences (seen-view row links isFull base term termLaw γ bs (h .0) o (applied u xs d) f)
 
-        less : Small bs x e o → sizes (writtenArguments term γ xs (d .1)) < size (writtenOut term γ e)
+        less : Small bs x e o → allOccurrences (writtenArguments term γ xs (d .1)) < occurrences (writtenOut term γ e)
         less (inl l) = omega (arith, y)
         less (inr l) = omega (arith, y)
     forth-turn s t (m-endless-test d f) h = tt

@@ -13,3 +13,4 @@ pub mod Chains
 pub mod Stability
 pub mod Failures
 pub mod Room
+pub mod Edges

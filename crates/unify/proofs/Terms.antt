@@ -1,7 +1,6 @@
 -- Laws of substitution.
 use mathlib.Core.Path.{_≡_, refl, ap, ap₂, fun-ext}
-use Prim.Native.Nat.{ℕ, suc, _+_}
-use Rattle.unify.specs.Term.{Term, Terms, var, app, nil, cons, apply, applyAll, Variables, AllVariables}
+use Rattle.unify.specs.Term.{Terms, Term, var, app, nil, cons, apply, applyAll, Variables, AllVariables}
 
 pub apply-ext : {X Y : Type 0} {γ δ : X → Term Y} (t : Term X) → ((x : X) → γ x ≡ δ x) → apply γ t ≡ apply δ t
 apply-ext t h = ap (λ g. apply g t) (fun-ext h)
@@ -76,13 +75,3 @@ module _ {X Y : Type 0} (P : Y → Type 0) (γ : X → Term Y) where
     pub allVariables-apply : (ts : Terms X) → AllVariables (λ x. Variables P (γ x)) ts → AllVariables P (applyAll γ ts)
     allVariables-apply nil h = tt
     allVariables-apply (cons t ts) h = (variables-apply t (h .0), allVariables-apply ts (h .1))
-
--- The number of occurrences of variables and symbols.
-abbrev mutual
-  pub size : {X : Type 0} → Term X → ℕ
-  size (var x) = 1
-  size (app s ts) = suc (sizes ts)
-
-  pub sizes : {X : Type 0} → Terms X → ℕ
-  sizes nil = 0
-  sizes (cons t ts) = size t + sizes ts

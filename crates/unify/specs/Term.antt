@@ -1,5 +1,5 @@
 -- Terms and substitutions, as the textbooks have them. Predicates and functions are not told apart (document 01, "The file").
-use Prim.Native.Nat.{ℕ}
+use Prim.Native.Nat.{ℕ, suc, _+_}
 
 -- A term over a type of variables: a variable, or a symbol's number with its arguments.
 mutual
@@ -32,3 +32,13 @@ module _ {X : Type 0} (P : X → Type 0) where
     pub AllVariables : Terms X → Type 0
     AllVariables nil = Unit {0}
     AllVariables (cons t ts) = Variables t × AllVariables ts
+
+-- How many occurrences of variables and symbols a term has.
+abbrev mutual
+  pub occurrences : {X : Type 0} → Term X → ℕ
+  occurrences (var x) = 1
+  occurrences (app s ts) = suc (allOccurrences ts)
+
+  pub allOccurrences : {X : Type 0} → Terms X → ℕ
+  allOccurrences nil = 0
+  allOccurrences (cons t ts) = occurrences t + allOccurrences ts

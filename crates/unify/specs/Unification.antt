@@ -114,8 +114,8 @@ module _ (row : ℕ → Row) (links : ℕ) (isFull : List Binding → Bool) (ρ 
 
   -- From s the machine comes to t in n units of work.
   pub data Reaches : ℕ → Task → Task → Type 0 where
-    here : {s : Task} → Reaches zero s s
-    after : {n : ℕ} {s t u : Task} → turn s ≡ goOn t → Reaches n t u → Reaches (suc n) s u
+    noTurn : {s : Task} → Reaches zero s s
+    oneTurn : {n : ℕ} {s t u : Task} → turn s ≡ goOn t → Reaches n t u → Reaches (suc n) s u
 
 -- Unification of two expressions in an environment, with so many bindings held before.
 abbrev pub unify : (ℕ → Row) → ℕ → Environment → Expression → Expression → Outcome

@@ -1,0 +1,1 @@
+// The readout of a proof file. The definitions are in specs/.
