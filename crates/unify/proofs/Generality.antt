@@ -7,7 +7,7 @@ use Prim.Native.Nat.{ℕ, suc, _≤_, _<_}
 use native.Mathlib.Omega.{arith}
 use Rattle.unify.specs.Environment.{follow, Binding, Environment, extend, unbound, link, View, applied, Ends, Respects}
 use Rattle.unify.specs.Row.{Row, application, Expression, Variable, rowTerm, writtenOut}
-use Rattle.unify.specs.Term.{Terms, Term, app, cons, occurrences, allOccurrences}
+use Rattle.unify.specs.Term.{Term, Terms, app, cons, occurrences, allOccurrences}
 use Rattle.unify.specs.Unification.{endless, clash, occurs, overwork, full, Outcome, unified, failed, Pair, Task, unifying, testing, Turn, arguments, argumentPairs, run}
 use Rattle.unify.proofs.Meaning.{writtenArguments, expressionOf, Ended, follow-unb, follow-appl, respects-in}
 use Rattle.unify.proofs.Soundness.{AllEqual, seen-view, seen-expr}

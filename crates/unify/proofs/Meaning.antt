@@ -7,7 +7,7 @@ use Prim.Native.Nat.{ℕ, zero, suc}
 use Rattle.record.specs.Record.{pick}
 use Rattle.unify.specs.Environment.{follow, Environment, unbound, link, View, applied, viewVariable, viewRow, onward, Respects}
 use Rattle.unify.specs.Row.{variable, Row, application, Expression, Variable, same, argumentTerms, rowTerm, writtenOut}
-use Rattle.unify.specs.Term.{Terms, Term, app, apply, applyAll}
+use Rattle.unify.specs.Term.{Term, Terms, app, apply, applyAll}
 use Rattle.unify.proofs.Tests.{same-eq, same-refl, some-not-none, some-injective}
 
 -- the pattern of each row, in variable numbers

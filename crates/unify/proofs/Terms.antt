@@ -1,6 +1,6 @@
 -- Laws of substitution.
 use mathlib.Core.Path.{_≡_, refl, ap, ap₂, fun-ext}
-use Rattle.unify.specs.Term.{Terms, Term, var, app, nil, cons, apply, applyAll, Variables, AllVariables}
+use Rattle.unify.specs.Term.{Term, Terms, var, app, nil, cons, apply, applyAll, Variables, AllVariables}
 
 pub apply-ext : {X Y : Type 0} {γ δ : X → Term Y} (t : Term X) → ((x : X) → γ x ≡ δ x) → apply γ t ≡ apply δ t
 apply-ext t h = ap (λ g. apply g t) (fun-ext h)

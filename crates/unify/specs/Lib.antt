@@ -5,3 +5,5 @@ pub mod Substitution
 pub mod Unification
 pub mod Failing
 pub mod Unifier
+pub mod Nodes
+pub mod Values

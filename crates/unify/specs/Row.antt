@@ -5,7 +5,7 @@ use Prim.Native.Nat.{ℕ}
 use lib.Dec.{eqb}
 use lib.ListN.{length}
 use Rattle.record.specs.Record.{pick}
-use Rattle.unify.specs.Term.{Terms, Term, var, app, nil, cons, apply}
+use Rattle.unify.specs.Term.{Term, Terms, var, app, nil, cons, apply}
 
 -- A row: a variable with its number, or a symbol applied to argument rows.
 pub data Row : Type 0 where
