@@ -3,12 +3,13 @@
 mod reference;
 
 use reference::Reference;
-use yestrwyn::examples::{cases, edges, published, refusals, Example};
+use yestrwyn::examples::{cases, deep, edges, published, refusals, Example};
 use yestrwyn::outcome::outcome;
+use yestrwyn::random::random_file_of;
 use yestrwyn::{damage, random_file};
 
-/// Answer, all table cells, works and readout agree. Readouts with huge values are left out.
-fn agree(name: &str, file: &[u8], text: bool) {
+/// Answer, all table cells, works and readout agree.
+fn agree(name: &str, file: &[u8]) {
     let ours = outcome(file);
     let theirs = Reference::check(file);
     assert_eq!(ours.answer.numbers(), theirs.answer(), "answer of {name}");
@@ -18,53 +19,60 @@ fn agree(name: &str, file: &[u8], text: bool) {
     }
     let works: Vec<(u16, u32)> = ours.works.iter().map(|step| (step.record, step.work)).collect();
     assert_eq!(works, theirs.works, "works of {name}");
-    if text {
-        assert_eq!(String::from_utf8_lossy(&ours.readout), theirs.readout(), "readout of {name}");
-    }
+    assert_eq!(String::from_utf8_lossy(&ours.readout), theirs.readout(), "readout of {name}");
 }
 
-fn agree_all(examples: Vec<Example>, text: bool) {
+fn agree_all(examples: Vec<Example>) {
     for example in examples {
-        agree(&example.name, &example.file, text);
+        agree(&example.name, &example.file);
     }
 }
 
 #[test]
 fn case_sheet() {
-    agree_all(cases::examples(), true);
+    agree_all(cases::examples());
 }
 
 #[test]
 fn published_examples() {
-    agree_all(published(), true);
+    agree_all(published());
 }
 
 #[test]
 fn refused_files() {
-    agree_all(refusals::examples(), true);
+    agree_all(refusals::examples());
 }
 
 #[test]
-fn edges_of_limits() {
-    // The reference repeats whole derivations, so large files are left to the other tests.
-    let small = |example: &Example| {
-        example.file.len() < 2000
-            && !example.name.starts_with("result-index")
-            && !example.name.contains("4096")
+fn edges_of_limits_and_deep_files() {
+    // The reference recurses as deep as terms nest, and takes minutes for a derivation of 4,000 steps.
+    let fast = |example: &Example| example.name != "deep-derivation-4000";
+    let compare = move || {
+        agree_all(edges::examples());
+        agree_all(deep::examples().into_iter().filter(fast).collect());
+        agree("a shorter count", &deep::derivation(300));
     };
-    agree_all(edges::examples().into_iter().filter(small).collect(), true);
+    let walk = std::thread::Builder::new().stack_size(1 << 29).spawn(compare).expect("a thread");
+    walk.join().expect("agreement");
 }
 
 #[test]
 fn random_files() {
-    for seed in 0..3000 {
-        agree(&format!("random {seed}"), &random_file(seed), true);
+    for seed in 0..8000 {
+        agree(&format!("random {seed}"), &random_file(seed));
     }
 }
 
 #[test]
 fn damaged_random_files() {
-    for seed in 0..3000 {
-        agree(&format!("damaged {seed}"), &damage(&random_file(seed), seed), true);
+    for seed in 0..8000 {
+        agree(&format!("damaged {seed}"), &damage(&random_file(seed), seed));
+    }
+}
+
+#[test]
+fn longer_random_files() {
+    for seed in 0..200 {
+        agree(&format!("long {seed}"), &random_file_of(seed, 150));
     }
 }

@@ -1,5 +1,5 @@
 //! A slow check by the words of the format description, which shares no code with the library: every
-//! variable is looked up by recursion through the parents, and nothing is kept but the records.
+//! variable is looked up by recursion through the parents, and literals are listed by recursion too.
 #![allow(dead_code)]
 
 /// What a record of a row says.
@@ -21,6 +21,7 @@ pub enum From {
 #[derive(Clone, Debug)]
 pub struct Clause {
     pub record: u16,
+    pub max: u16,
     pub from: From,
     pub own: Vec<[u16; 4]>,
 }
@@ -125,7 +126,7 @@ impl Reference {
         if literals.iter().any(|&(_, row)| matches!(self.rows[usize::from(row)].1, Row::Variable(_))) {
             return Err(7);
         }
-        self.clauses.push(Clause { record: at, from: From::Input(literals), own: Vec::new() });
+        self.clauses.push(Clause { record: at, max: 1, from: From::Input(literals), own: Vec::new() });
         Ok(())
     }
 
@@ -162,7 +163,7 @@ impl Reference {
     fn step(&mut self, at: u16, from: From, left: Expr, right: Expr) -> Result<(), u16> {
         let mut walk = Walk {
             held: self.clauses.iter().map(|clause| clause.own.len()).sum(),
-            clause: Clause { record: at, from, own: Vec::new() },
+            clause: Clause { record: at, max: self.max_of(&from), from, own: Vec::new() },
             state: self,
             work: 0,
         };
@@ -205,7 +206,7 @@ impl Reference {
 
     /// Maximum index.
     pub fn max(&self, clause: usize) -> u16 {
-        self.max_of(&self.clauses[clause].from)
+        self.clauses[clause].max
     }
 
     fn max_of(&self, from: &From) -> u16 {
@@ -289,7 +290,7 @@ impl Reference {
         [symbols, self.rows.iter().map(|row| row.0).collect(), clauses, bindings]
     }
 
-    /// The readout, each literal written out in full first. For files with small values only.
+    /// The readout, each literal written out first, up to many more occurrences than are shown.
     pub fn readout(&self) -> String {
         let mut text = match (self.refusal, self.first_empty()) {
             (Some((reason, record)), _) => format!("refused {reason} at {record}\n"),
@@ -312,6 +313,9 @@ impl Reference {
     /// The value of an expression as text, with its occurrences counted.
     fn write(&self, clause: &Clause, at: Expr, count: &mut usize) -> String {
         *count += 1;
+        if *count > 1000 {
+            return String::new();
+        }
         let (row, index) = self.follow(clause, at);
         match &self.rows[usize::from(row)].1 {
             Row::Variable(number) => format!("v{number}.{index}"),
