@@ -13,9 +13,9 @@ use Rattle.unify.specs.Row.{variable, Row, application}
 use Rattle.unify.specs.Unification.{mostBindings, unified}
 use Rattle.unify.proofs.Room.{bindings-fit}
 use Rattle.unify.proofs.Tests.{to-T, both-true, true-not-false, some-injective}
-use Rattle.derivation.specs.Derivation.{literals, input, Literal, Derivation, resolve, factor, numbered, raise, placed, maximumIndex, joined, lookup, uses}
+use Rattle.derivation.specs.Derivation.{literals, input, Literal, inputLiterals, Derivation, resolve, factor, numbered, raise, placed, maximumIndex, joined, lookup, uses}
 use Rattle.derivation.proofs.Validity.{Valid}
-use Rattle.checker.specs.Refusal.{tests, mostLiterals, mostIndex, kindOfRecord, zeros, argumentRows, inputLiterals, leftOf, rightOf, deletedOf, hasArity, allBelow, equalSigns, fittingSigns, resultFits}
+use Rattle.checker.specs.Refusal.{tests, mostLiterals, mostIndex, kindOfRecord, zeros, argumentRows, leftOf, rightOf, deletedOf, hasArity, allBelow, equalSigns, fittingSigns, resultFits}
 use Rattle.checker.specs.State.{State, rowsOf, derivations, arityOf, clauseOf, rowOf, held}
 use Rattle.checker.specs.Step.{stands, step, addClause, unifyResolve, unifyFactor, enter}
 use Rattle.checker.proofs.Inversions.{passed, stands-same, all-stand, named-stands, literal-named, has-arity, all-below, rows-below, opposite-signs, equal-signs, not-equal, entry-new, clause-added, Passed}

@@ -2,13 +2,13 @@
 use mathlib.Core.Bool.{Bool, true, false, _&&_, not}
 use mathlib.Core.Option.{Option, none, some}
 use mathlib.Core.List.{List, [], _∷_, map}
-use Prim.Native.Nat.{ℕ, _+_, _/_, _%_}
+use Prim.Native.Nat.{ℕ, _+_}
 use lib.Dec.{eqb, leb, ltb}
 use lib.ListN.{length, take, drop}
 use Rattle.record.specs.Record.{Record, otherKind, Kind, symbolKind, variableKind, applicationKind, inputKind, resolveKind, factorKind, kindNumbered, fieldA, fieldB, fieldC, fieldD}
 use Rattle.unify.specs.Row.{variable, Row, application, noSymbol}
 use Rattle.unify.specs.Unification.{Failure, failureNumber}
-use Rattle.derivation.specs.Derivation.{literals, Literal, RowLiteral, Derivation, resolve, factor, numbered, maximumIndex}
+use Rattle.derivation.specs.Derivation.{literals, Literal, RowLiteral, inputLiterals, Derivation, resolve, factor, numbered, maximumIndex}
 use Rattle.checker.specs.State.{State, rowsOf, arityOf, clauseOf, rowOf}
 
 -- Reasons 1 to 9. What unification gives is in the crate unify.
@@ -62,15 +62,9 @@ inRange resolveKind r = eqb (r .count) 0 && zeros (drop 4 (r .fields))
 inRange factorKind r = eqb (r .count) 0 && zeros (drop 3 (r .fields))
 inRange otherKind r = true
 
--- The argument rows of an application, and the literals of an input clause: 2 × row, plus 1 if positive.
+-- The argument rows of an application.
 abbrev pub argumentRows : Record → List ℕ
 argumentRows r = take (r .count) (drop 1 (r .fields))
-
-abbrev pub literalOf : ℕ → RowLiteral
-literalOf n = (eqb (n % 2) 1, n / 2)
-
-abbrev pub inputLiterals : Record → List RowLiteral
-inputLiterals r = map literalOf (take (r .count) (r .fields))
 
 -- A clause that a step names, with the literal that it names there, if both exist.
 abbrev pub literalIn : ℕ → Option Derivation → Option (Derivation × Literal)

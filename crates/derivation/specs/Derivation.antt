@@ -2,9 +2,10 @@
 use mathlib.Core.Bool.{Bool}
 use mathlib.Core.Option.{Option, none, some}
 use mathlib.Core.List.{List, [], _∷_, _++_, map}
-use Prim.Native.Nat.{ℕ, zero, suc, _+_, _-_}
-use lib.Dec.{leb}
-use Rattle.record.specs.Record.{pick}
+use Prim.Native.Nat.{ℕ, zero, suc, _+_, _-_, _/_, _%_}
+use lib.Dec.{eqb, leb}
+use lib.ListN.{take}
+use Rattle.record.specs.Record.{pick, Record}
 use Rattle.unify.specs.Environment.{Binding, Environment, extend}
 use Rattle.unify.specs.Row.{Expression}
 
@@ -14,6 +15,13 @@ Literal = Bool × Expression
 
 abbrev pub RowLiteral : Type 0
 RowLiteral = Bool × ℕ
+
+-- The literals of an input clause's record: each is 2 × row, plus 1 if positive.
+abbrev pub literalOf : ℕ → RowLiteral
+literalOf n = (eqb (n % 2) 1, n / 2)
+
+abbrev pub inputLiterals : Record → List RowLiteral
+inputLiterals r = map literalOf (take (r .count) (r .fields))
 
 -- A clause with the derivations of its parents, and the bindings that its own step added, the newest first.
 pub data Derivation : Type 0 where

@@ -2,3 +2,4 @@ pub mod Derivation
 pub mod Written
 pub mod Textbook
 pub mod Ground
+pub mod Stored

@@ -5,7 +5,7 @@ use Prim.Native.Nat.{ℕ, zero, suc, _+_, _/_, _%_}
 use lib.Dec.{leb, ltb}
 use Rattle.record.specs.Record.{pick}
 use Rattle.unify.specs.Row.{variable, Row, application, Variable}
-use Rattle.unify.specs.Term.{Terms, Term, var, app, nil, cons, occurrences}
+use Rattle.unify.specs.Term.{Term, Terms, var, app, nil, cons, occurrences}
 use Rattle.derivation.specs.Written.{Clause}
 
 -- A number in decimal; five digits are enough for 16 bits.
