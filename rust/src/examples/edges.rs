@@ -220,7 +220,7 @@ enum Step {
     ClashFirst,
     /// A binding, then a clash.
     ClashAfter,
-    /// A variable inside its own value, which is met when one binding has been made.
+    /// A variable inside its own value.
     Occurs,
 }
 
@@ -231,47 +231,47 @@ fn bindings_left(left: usize, last: Step) -> Vec<Step> {
     steps
 }
 
+/// Two terms of a symbol with six arguments that hold all 64 variables together.
+pub fn all_variables(f: u16) -> [Term; 2] {
+    let six =
+        |block: u16| apply(f, &(0..6).map(|place| var((6 * block + place).min(63))).collect::<Vec<_>>());
+    [0, 6].map(|start| apply(f, &(start..start + 6).map(six).collect::<Vec<_>>()))
+}
+
 /// Steps of 64 bindings each, p(t) against p(t) where t holds all variables, then some others.
 fn many_bindings(steps: usize, last: &[Step]) -> Vec<u8> {
     let mut file = FileBuilder::new();
-    let [p, f, q, r, a, b] = [2, 6, 1, 2, 0, 0].map(|arity| file.symbol(arity));
-    let all = (0..64).map(var).collect::<Vec<_>>();
-    let blocks: Vec<Term> = (0..12)
-        .map(|block| {
-            let six: Vec<Term> = (0..6).map(|place| all[(block * 6 + place).min(63)].clone()).collect();
-            apply(f, &six)
-        })
-        .collect();
-    let atom = app(p, [apply(f, &blocks[..6]), apply(f, &blocks[6..])]);
-    let done = app(a, []);
-    let left = file.clause(&[pos(atom.clone()), pos(done.clone())]);
+    let symbols = [2, 6, 1, 2, 0, 0].map(|arity| file.symbol(arity));
+    let [p, f, .., a, _] = symbols;
+    let atom = app(p, all_variables(f));
+    let left = file.clause(&[pos(atom.clone()), pos(app(a, []))]);
     let right = file.clause(&[neg(atom)]);
     for _ in 0..steps {
         file.resolve(left, 1, right, 1);
     }
-    let (ca, cb) = (app(a, []), app(b, []));
-    let pairs: [(SignedTerm, SignedTerm); 6] = [
-        (pos(app(q, [ca.clone()])), neg(app(q, [ca.clone()]))),
-        (pos(app(q, [var(0)])), neg(app(q, [ca.clone()]))),
-        (pos(app(r, [var(0), var(1)])), neg(app(r, [ca.clone(), cb.clone()]))),
-        (pos(app(r, [ca.clone(), var(0)])), neg(app(r, [cb.clone(), ca.clone()]))),
-        (pos(app(r, [var(0), ca.clone()])), neg(app(r, [ca, cb]))),
-        (pos(app(r, [var(0), var(0)])), pos(app(r, [var(0), apply(f, &all[..6])]))),
-    ];
-    let parents = pairs.map(|(l, r)| {
-        let occurs = l.0 == r.0;
-        match occurs {
-            true => [file.clause(&[l, r, pos(done.clone())]); 2],
-            false => [file.clause(&[l, pos(done.clone())]), file.clause(&[r])],
-        }
-    });
-    for step in last {
-        match (step, parents[*step as usize]) {
+    let parents = last_parents(symbols).map(|[left, right]| [file.clause(&left), file.clause(&right)]);
+    for &step in last {
+        match (step, parents[step as usize]) {
             (Step::Occurs, [clause, _]) => file.factor(clause, 1, 2),
             (_, [left, right]) => file.resolve(left, 1, right, 1),
         };
     }
     file.finish()
+}
+
+/// The parents of each last step, in the order of the steps; the last is a factor of the first one.
+fn last_parents([_, f, q, r, a, b]: [u16; 6]) -> [[Vec<SignedTerm>; 2]; 6] {
+    let [a, b] = [a, b].map(|symbol| move || app(symbol, []));
+    let six: Vec<Term> = (0..6).map(var).collect();
+    let with_rest = |literal: SignedTerm| vec![literal, pos(a())];
+    [
+        [with_rest(pos(app(q, [a()]))), vec![neg(app(q, [a()]))]],
+        [with_rest(pos(app(q, [var(0)]))), vec![neg(app(q, [a()]))]],
+        [with_rest(pos(app(r, [var(0), var(1)]))), vec![neg(app(r, [a(), b()]))]],
+        [with_rest(pos(app(r, [a(), var(0)]))), vec![neg(app(r, [b(), a()]))]],
+        [with_rest(pos(app(r, [var(0), a()]))), vec![neg(app(r, [a(), b()]))]],
+        [vec![pos(app(r, [var(0), var(0)])), pos(app(r, [var(0), apply(f, &six)]))], vec![]],
+    ]
 }
 
 /// Literals and maximum index of a result.

@@ -1,8 +1,8 @@
 //! Files made to take a checker long: what a limit allows, in as many steps as fit.
 
-use super::edges::sized;
+use super::edges::{all_variables, sized};
 use super::Example;
-use crate::build::{app, apply, neg, pos, var, FileBuilder, Term};
+use crate::build::{app, apply, neg, pos, var, FileBuilder};
 
 /// The most records of a file.
 const RECORDS: u16 = 4096;
@@ -21,14 +21,6 @@ pub fn examples() -> Vec<Example> {
         Example::new("heavy-readout", readout()),
         Example::new("heavy-exponential", super::deep::exponential_value(4000)),
     ]
-}
-
-/// A term that holds all 64 variables.
-fn all_variables(f: u16) -> [Term; 2] {
-    let six =
-        |block: u16| apply(f, &(0..6).map(|place| var((6 * block + place).min(63))).collect::<Vec<_>>());
-    let half = |start: u16| apply(f, &(start..start + 6).map(six).collect::<Vec<_>>());
-    [half(0), half(6)]
 }
 
 /// -p(t) +p(t) doubled to index 4,095, with 64 variables bound from each use to the next.

@@ -14,54 +14,58 @@ pub fn examples() -> Vec<Example> {
 const X: u16 = 0;
 const Y: u16 = 1;
 const Z: u16 = 2;
-const P_HUB: u16 = 3;
-const Q_HUB: u16 = 4;
+const U: u16 = 3;
+const W: u16 = 4;
 
 /// Section 6: the clauses C1 and C2 and their resolvent on the second literals.
 ///
 /// The paper gives C1 and C2 as lists of literals with indices in an environment. Here each is
-/// derived, with the same indices, by three resolutions on linking literals a, b, c that are
-/// all resolved away.
+/// derived, with the same indices, by three resolutions on linking literals that are all resolved
+/// away; the linking clause holds the values that the environment gives.
 pub fn section_6() -> Vec<u8> {
     let mut file = FileBuilder::new();
-    let [p, q, r, f, g] = [2, 2, 2, 2, 1].map(|arity| file.symbol(arity));
-    let [a, b, c] = [2, 1, 3].map(|arity| file.symbol(arity));
-    let [d, e, h] = [1, 2, 2].map(|arity| file.symbol(arity));
-    let pair = |s: Term, t: Term| app(f, [s, t]);
-    // C1 at indices 2, 2 and 4: x2 = x3, y2 = f(x4,y4), y4 = x3, z4 = f(x2,y2).
-    let (u, w) = (var(P_HUB), var(Q_HUB));
-    let inner = pair(w.clone(), u.clone());
-    let hub = file.clause(&[
-        neg(app(a, [u.clone(), inner.clone()])),
-        neg(app(b, [u.clone()])),
-        neg(app(c, [w.clone(), u.clone(), pair(u.clone(), inner)])),
-    ]);
-    let second = file.clause(&[
-        pos(app(q, [var(Y), var(Y)])),
-        pos(app(p, [var(X), var(Y)])),
-        pos(app(a, [var(X), var(Y)])),
-    ]);
-    let third = file.clause(&[pos(app(b, [var(X)]))]);
-    let fourth =
-        file.clause(&[neg(app(p, [var(X), pair(var(Y), var(Z))])), pos(app(c, [var(X), var(Y), var(Z)]))]);
-    let with_second = file.resolve(hub, 1, second, 3);
-    let with_third = file.resolve(with_second, 1, third, 1);
-    let c1 = file.resolve(with_third, 1, fourth, 2);
-    // C2 at indices 1, 3 and 4: z3 = f(x4,y4), x4 = x3, y4 = g(y1).
-    let gu = app(g, [u.clone()]);
-    let first = file.clause(&[neg(app(q, [var(X), var(Y)])), neg(app(d, [var(Y)]))]);
-    let hub = file.clause(&[
-        pos(app(d, [u])),
-        neg(app(e, [w.clone(), pair(w.clone(), gu.clone())])),
-        neg(app(h, [w, gu])),
-    ]);
-    let third = file.clause(&[neg(app(p, [app(g, [var(X)]), var(Z)])), pos(app(e, [var(X), var(Z)]))]);
-    let fourth = file.clause(&[pos(app(r, [var(X), pair(var(X), var(Y))])), pos(app(h, [var(X), var(Y)]))]);
-    let with_hub = file.resolve(first, 2, hub, 1);
-    let with_third = file.resolve(with_hub, 2, third, 2);
-    let c2 = file.resolve(with_third, 2, fourth, 2);
+    let symbols = [2, 2, 2, 2, 1].map(|arity| file.symbol(arity));
+    let c1 = section_6_left(&mut file, symbols);
+    let c2 = section_6_right(&mut file, symbols);
     file.resolve(c1, 2, c2, 2);
     file.finish()
+}
+
+/// C1, with literals at indices 2, 2 and 4: x2 = x3, y2 = f(x4,y4), y4 = x3, z4 = f(x2,y2).
+fn section_6_left(file: &mut FileBuilder, [p, q, _, f, _]: [u16; 5]) -> u16 {
+    let [a, b, c] = [2, 1, 3].map(|arity| file.symbol(arity));
+    let [x, y, z, u, w] = [X, Y, Z, U, W].map(|number| move || var(number));
+    let pair = |s: Term, t: Term| app(f, [s, t]);
+    let first = file.clause(&[
+        neg(app(a, [u(), pair(w(), u())])),
+        neg(app(b, [u()])),
+        neg(app(c, [w(), u(), pair(u(), pair(w(), u()))])),
+    ]);
+    let second = file.clause(&[pos(app(q, [y(), y()])), pos(app(p, [x(), y()])), pos(app(a, [x(), y()]))]);
+    let third = file.clause(&[pos(app(b, [x()]))]);
+    let fourth = file.clause(&[neg(app(p, [x(), pair(y(), z())])), pos(app(c, [x(), y(), z()]))]);
+    let with_second = file.resolve(first, 1, second, 3);
+    let with_third = file.resolve(with_second, 1, third, 1);
+    file.resolve(with_third, 1, fourth, 2)
+}
+
+/// C2, with literals at indices 1, 3 and 4: z3 = f(x4,y4), x4 = x3, y4 = g(y1).
+fn section_6_right(file: &mut FileBuilder, [p, q, r, f, g]: [u16; 5]) -> u16 {
+    let [d, e, h] = [1, 2, 2].map(|arity| file.symbol(arity));
+    let [x, y, z, u, w] = [X, Y, Z, U, W].map(|number| move || var(number));
+    let pair = |s: Term, t: Term| app(f, [s, t]);
+    let of_g = |t: Term| app(g, [t]);
+    let first = file.clause(&[neg(app(q, [x(), y()])), neg(app(d, [y()]))]);
+    let second = file.clause(&[
+        pos(app(d, [u()])),
+        neg(app(e, [w(), pair(w(), of_g(u()))])),
+        neg(app(h, [w(), of_g(u())])),
+    ]);
+    let third = file.clause(&[neg(app(p, [of_g(x()), z()])), pos(app(e, [x(), z()]))]);
+    let fourth = file.clause(&[pos(app(r, [x(), pair(x(), y())])), pos(app(h, [x(), y()]))]);
+    let with_second = file.resolve(first, 2, second, 1);
+    let with_third = file.resolve(with_second, 2, third, 2);
+    file.resolve(with_third, 2, fourth, 2)
 }
 
 /// Section 7, figure 1: C4 = RESOLVE(C1,1,C2,2), C5 = RESOLVE(C1,1,C4,2), C6 = RESOLVE(C4,1,C3,1),
