@@ -7,7 +7,8 @@ use crate::limits::{INDEX, VARIABLES};
 type Cell = [u16; 2];
 const FREE: Cell = [0, 0];
 
-/// Values of variables. Its users keep every index within 1 to 4,096.
+/// Values of variables. Its users keep every index within 1 to 4,096, and never bind a variable to
+/// something whose value contains it (the occurrence test sees to that), so following ends.
 pub struct Environment {
     cells: Vec<Cell>,
 }

@@ -26,5 +26,5 @@ pub mod vectors;
 
 pub use answer::{Answer, Reason, Verdict};
 pub use check::{check, check_counting, StepWork};
-pub use random::{damage, random_file};
+pub use random::{damage, random_file, random_file_of};
 pub use readout::{readout, write_readout};

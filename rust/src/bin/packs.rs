@@ -3,12 +3,14 @@
 //!
 //! ```text
 //! packs random FIRST COUNT > PACK    files of the seeds from FIRST on, each fourth one damaged
+//! packs heavy > PACK                 files made to take a checker long
 //! packs describe < PACK > TEXT       the results, in the format of the stored vectors
 //! ```
 
 use std::io::{self, Read, Write};
 use std::process::ExitCode;
 
+use yestrwyn::examples::heavy;
 use yestrwyn::outcome::outcome;
 use yestrwyn::vectors::{describe, pack, random_example, unpack};
 
@@ -20,6 +22,7 @@ fn main() -> ExitCode {
             (Ok(first), Ok(count)) => write_random(first, count),
             _ => return usage(),
         },
+        ["heavy"] => io::stdout().lock().write_all(&pack(&heavy::examples())),
         ["describe"] => write_description(),
         _ => return usage(),
     };
@@ -33,7 +36,7 @@ fn main() -> ExitCode {
 }
 
 fn usage() -> ExitCode {
-    eprintln!("usage: packs random FIRST COUNT > PACK, or packs describe < PACK > TEXT");
+    eprintln!("usage: packs random FIRST COUNT > PACK, packs heavy > PACK, or packs describe < PACK > TEXT");
     ExitCode::FAILURE
 }
 
