@@ -154,9 +154,10 @@ fn reasons_and_their_order() {
 fn deep_terms() {
     let all = deep::examples();
     for (name, expected, work) in [
-        ("deep-14336-nested", "accepted 46", 14_338),
+        ("deep-14336-nested", "open", 14_339),
+        ("deep-16384-nested", "refused 12 at 37", 16_384),
         ("deep-16382-nested", "accepted 46", 16_384),
-        ("deep-16384-nested", "refused 12 at 70", 16_384),
+        ("deep-16383-nested", "refused 12 at 69", 16_384),
         ("deep-occurrence-16381", "accepted 24", 16_384),
         ("deep-occurrence-16382", "refused 12 at 46", 16_384),
         ("deep-occurs-16379", "refused 11 at 44", 16_384),
@@ -165,6 +166,15 @@ fn deep_terms() {
         let outcome = named(&all, name);
         assert_eq!((verdict(&outcome).as_str(), last_work(&outcome)), (expected, Some(work)), "{name}");
     }
+}
+
+#[test]
+fn two_terms_of_14336_nested_applications_fit_in_37_records() {
+    let file = deep::two_rules(7);
+    assert_eq!(file.len() / 16, 37);
+    let outcome = outcome(&file);
+    assert_eq!(outcome.answer.numbers(), [0, 0, 0, 2, 10, 25, 23]);
+    assert!(outcome.readout.ends_with(b"24 4096 -s0(v0.2049) +s0(v0.2049)\n"));
 }
 
 #[test]

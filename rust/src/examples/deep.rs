@@ -6,9 +6,10 @@ use crate::build::{app, neg, pos, var, FileBuilder, Term};
 /// Deep terms, deep derivations and values of exponential size.
 pub fn examples() -> Vec<Example> {
     vec![
-        Example::new("deep-14336-nested", two_nested(7, 0)),
+        Example::new("deep-14336-nested", two_rules(7)),
+        Example::new("deep-16384-nested", two_rules(8)),
         Example::new("deep-16382-nested", two_nested(8, 6)),
-        Example::new("deep-16384-nested", two_nested(8, 8)),
+        Example::new("deep-16383-nested", two_nested(8, 7)),
         Example::new("deep-occurrence-16381", deep_occurrence(5)),
         Example::new("deep-occurrence-16382", deep_occurrence(6)),
         Example::new("deep-occurs-16379", deep_occurs(3)),
@@ -52,15 +53,29 @@ fn apply_doublings(file: &mut FileBuilder, unit: u16, rule: u16) -> u16 {
     unit
 }
 
-/// Two terms of size × 2,047 + rest (+ size where rest is 0) nested applications, unified.
+/// Two terms of size × 2,047 + rest nested applications over a constant, unified.
 pub fn two_nested(size: usize, rest: usize) -> Vec<u8> {
     let mut file = FileBuilder::new();
     let symbols = symbols(&mut file);
     let [_, f, a] = symbols;
-    let inner = nested(f, if rest == 0 { size } else { rest }, app(a, []));
+    let inner = nested(f, rest, app(a, []));
     let left = nested_unit(&mut file, symbols, true, size, inner.clone());
     let right = nested_unit(&mut file, symbols, false, size, inner);
     file.resolve(left, 1, right, 1);
+    file.finish()
+}
+
+/// Two terms of size × 2,048 nested applications over a variable, unified, in few records: the rules
+/// -q(x) +q(f^size(x)) and +q(x) -q(f^size(x)) are both doubled eleven times.
+pub fn two_rules(size: usize) -> Vec<u8> {
+    let mut file = FileBuilder::new();
+    let [q, f] = [1, 1].map(|arity| file.symbol(arity));
+    let doubled = [true, false].map(|positive| {
+        let deep = app(q, [nested(f, size, var(0))]);
+        let rule = file.clause(&[(!positive, app(q, [var(0)])), (positive, deep)]);
+        (0..11).fold(rule, |rule, _| file.resolve(rule, 2, rule, 1))
+    });
+    file.resolve(doubled[0], 2, doubled[1], 2);
     file.finish()
 }
 
