@@ -5,3 +5,4 @@ pub mod Verdict
 pub mod Tables
 pub mod Demands
 pub mod Cases
+pub mod Program
