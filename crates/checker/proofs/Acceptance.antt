@@ -77,7 +77,7 @@ some-first cs i c e q = try (firstEmpty cs) refl
     try (some n) p = (n, p)
 
 -- The table of clauses has five cells a clause; the third is the maximum index.
-cells-length : (cs : List (ℕ × Derivation)) → length (clauseCells cs) ≡ 5 * length cs
+pub cells-length : (cs : List (ℕ × Derivation)) → length (clauseCells cs) ≡ 5 * length cs
 cells-length [] = refl
 cells-length (c ∷ cs) =
     let ih = cells-length cs in

@@ -7,3 +7,5 @@ pub mod Resolution
 pub mod Refusals
 pub mod Demanded
 pub mod CasesProved
+pub mod Sources
+pub mod Tabled

@@ -8,3 +8,4 @@ pub mod Resolvents
 pub mod Chains
 pub mod Forms
 pub mod Known
+pub mod OwnBindings

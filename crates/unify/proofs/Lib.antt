@@ -15,3 +15,4 @@ pub mod Failures
 pub mod Room
 pub mod Edges
 pub mod Clearing
+pub mod NewBindings

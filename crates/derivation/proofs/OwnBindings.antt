@@ -1,0 +1,70 @@
+-- The bindings of a clause, its own and its parents': of variable rows that are there, with indices up to the maximum index.
+use mathlib.Core.Path.{_≡_, refl}
+use mathlib.Core.Bool.{not}
+use mathlib.Core.List.{List, [], _∷_}
+use Prim.Native.Nat.{ℕ, _+_, _<_}
+use native.Mathlib.Omega.{arith}
+use Rattle.unify.specs.Environment.{Binding, Environment}
+use Rattle.unify.specs.Row.{variable, Row, application, Expression}
+use Rattle.unify.specs.Unification.{mostWork, mostLinks, unified, unifying, noRoom}
+use Rattle.unify.proofs.Lists.{Each, each-more}
+use Rattle.unify.proofs.NewBindings.{NewBinding, NewEnd, new-run}
+use Rattle.unify.proofs.Ranges.{KeptArguments, IndicesKept}
+use Rattle.unify.proofs.Rows.{Below}
+use Rattle.derivation.specs.Derivation.{literals, input, Derivation, resolve, factor, raise, maximumIndex, joined, lookup}
+use Rattle.derivation.proofs.Known.{KnownRows, Known, KnownEnvironment, known-numbered, known-joined, known-lookup}
+use Rattle.derivation.proofs.Literals.{In, each-numbered, LiteralIn, literals-in}
+use Rattle.derivation.proofs.Validity.{Unified, Valid, kept-joined, lookup-in}
+
+-- A binding over rows below N, with indices from 1 to m.
+pub record BindingThere (row : ℕ → Row) (N m : ℕ) (b : Binding) : Type 0 where
+  pub number : ℕ
+  pub isVariable : row (b .0 .0) ≡ variable number
+  pub variableRow : b .0 .0 < N
+  pub variableIndex : In m (b .0 .1)
+  pub termRow : b .1 .0 < N
+  pub termIndex : In m (b .1 .1)
+
+abbrev pub BindingsThere : (ℕ → Row) → ℕ → Derivation → Type 0
+BindingsThere row N (input ls) = Unit {0}
+BindingsThere row N (resolve l a r b bs) = BindingsThere row N l × BindingsThere row N r × Each (BindingThere row N (maximumIndex l + maximumIndex r)) bs
+BindingsThere row N (factor d a b bs) = BindingsThere row N d × Each (BindingThere row N (maximumIndex d)) bs
+
+module _ (N : ℕ) (row : ℕ → Row) (below : (r s : ℕ) (xs : List ℕ) → row r ≡ application s xs → r < N → Below N xs) where
+  -- What a step's expressions keep to.
+  abbrev InRange : ℕ → Expression → Type 0
+  InRange m e = (e .0 < N) × In m (e .1)
+
+  arguments-in : (m : ℕ) (xs : List ℕ) (i : ℕ) → Below N xs → In m i → KeptArguments (InRange m) (InRange m) xs i
+  arguments-in m [] i h k = tt
+  arguments-in m (a ∷ xs) i h k = ((h .0, k), arguments-in m xs i (h .1) k)
+
+  pub unified-bindings : (m : ℕ) (base : Environment) (e d : Expression) (bs : List Binding) → Unified row base e d bs → KnownEnvironment N base → IndicesKept (In m) base → Known N e → In m (e .1) → Known N d → In m (d .1)
+      → Each (BindingThere row N m) bs
+  unified-bindings m base e d bs u h k ke ie kd id =
+      let z : NewEnd (InRange m) (InRange m) row (λ e v q g. g) (λ e s xs q g. arguments-in m xs (e .1) (below (e .0) s xs q (g .0)) (g .1)) mostLinks (noRoom (u .0)) base (unified bs (u .1))
+      = rw (u .2) at (new-run (InRange m) (InRange m) row (λ e v q g. g) (λ e s xs q g. arguments-in m xs (e .1) (below (e .0) s xs q (g .0)) (g .1)) mostLinks (noRoom (u .0)) base mostWork (unifying [] ((e, d) ∷ []))
+      (λ x c p. ((h x c p .0, k x c p .0), (h x c p .1, k x c p .1)), ((ke, ie), (kd, id), tt)) tt) in
+      each-more (NewBinding (InRange m) (InRange m) row (λ e v q g. g) (λ e s xs q g. arguments-in m xs (e .1) (below (e .0) s xs q (g .0)) (g .1)) mostLinks (noRoom (u .0)) base) (BindingThere row N m)
+      (λ b n. record { number = n .number; isVariable = n .isVariable; variableRow = n .variableKept .0; variableIndex = n .variableKept .1; termRow = n .expressionKept .0; termIndex = n .expressionKept .1 }) bs z
+
+  pub bindings-there : (c : Derivation) → Valid row c → KnownRows N c → BindingsThere row N c
+  bindings-there (input ls) K h = tt
+  bindings-there (resolve l a r b bs) K h =
+      let c = K .2 in
+      let p = each-numbered (LiteralIn (maximumIndex l)) (literals l) a (c .0, c .1) (c .3) (literals-in l) in
+      let q = each-numbered (LiteralIn (maximumIndex r)) (literals r) b (not (c .0), c .2) (c .4) (literals-in r) in (
+        bindings-there l (K .0) (h .0),
+        bindings-there r (K .1) (h .1),
+        unified-bindings (maximumIndex l + maximumIndex r) (joined (maximumIndex l) (lookup l) (lookup r)) (c .1) (raise (maximumIndex l) (c .2)) bs (c .5)
+            (known-joined N (maximumIndex l) (lookup l) (lookup r) (known-lookup N row row (λ r l. refl) below l (K .0) (h .0)) (known-lookup N row row (λ r l. refl) below r (K .1) (h .1)))
+            (kept-joined (maximumIndex l) (maximumIndex r) (lookup l) (lookup r) (lookup-in row l (K .0)) (lookup-in row r (K .1)))
+            (known-numbered N l (h .0) a (c .0, c .1) (c .3)) (omega arith) (known-numbered N r (h .1) b (not (c .0), c .2) (c .4)) (omega arith),
+      )
+  bindings-there (factor d a b bs) K h =
+      let c = K .1 in (
+        bindings-there d (K .0) h,
+        unified-bindings (maximumIndex d) (lookup d) (c .1) (c .2) bs (c .6) (known-lookup N row row (λ r l. refl) below d (K .0) h) (lookup-in row d (K .0))
+            (known-numbered N d h a (c .0, c .1) (c .3)) (each-numbered (LiteralIn (maximumIndex d)) (literals d) a (c .0, c .1) (c .3) (literals-in d))
+            (known-numbered N d h b (c .0, c .2) (c .4)) (each-numbered (LiteralIn (maximumIndex d)) (literals d) b (c .0, c .2) (c .4) (literals-in d)),
+      )
