@@ -9,3 +9,5 @@ pub mod Demanded
 pub mod CasesProved
 pub mod Sources
 pub mod Tabled
+pub mod Advance
+pub mod NodeTable
