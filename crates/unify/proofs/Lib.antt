@@ -16,3 +16,12 @@ pub mod Room
 pub mod Edges
 pub mod Clearing
 pub mod NewBindings
+pub mod Limits
+pub mod Links
+pub mod Writing
+pub mod Halving
+pub mod Machine
+pub mod BindingsAdded
+pub mod Occurrence
+pub mod PairWalk
+pub mod Answer
