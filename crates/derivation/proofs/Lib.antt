@@ -8,3 +8,5 @@ pub mod Resolvents
 pub mod Chains
 pub mod Forms
 pub mod Known
+pub mod Numbers
+pub mod Origins
