@@ -9,3 +9,5 @@ pub mod Chains
 pub mod Forms
 pub mod Known
 pub mod OwnBindings
+pub mod Numbers
+pub mod Origins

@@ -3,3 +3,4 @@ pub mod Written
 pub mod Textbook
 pub mod Ground
 pub mod Stored
+pub mod Named

@@ -1,1 +1,48 @@
-// Clauses as derivations. The definitions are in specs/.
+// Clauses as derivations: what the tables hold of a clause, its literals, and its bindings. The definitions are in specs/.
+ghost use mathlib.Core.Path.{_≡_};
+ghost use lib.ListN.{getD};
+ghost use Rattle.derivation.specs.Stored.{recordCell, literalsCell, indexCell, firstCell, bindingsCell};
+
+pub mod literal;
+
+// Cell `at` of a table, 0 outside.
+pub fn cell(table: &[u16], at: usize) -> u16
+    ensures { λ r. ⌜ r ≡ getD (now (table .entry)) at 0 ⌝ }
+{
+    if at < table.len() { table[at] } else { 0 }
+}
+
+// The record of clause c.
+pub fn record_cell(clauses: &[u16], c: u16) -> u16
+    ensures { λ r. ⌜ r ≡ recordCell (now (clauses .entry)) c ⌝ }
+{
+    cell(clauses, 5 * (c as usize))
+}
+
+// The number of literals of clause c.
+pub fn literals_cell(clauses: &[u16], c: u16) -> u16
+    ensures { λ r. ⌜ r ≡ literalsCell (now (clauses .entry)) c ⌝ }
+{
+    cell(clauses, 5 * (c as usize) + 1)
+}
+
+// The maximum index of clause c.
+pub fn index_cell(clauses: &[u16], c: u16) -> u16
+    ensures { λ r. ⌜ r ≡ indexCell (now (clauses .entry)) c ⌝ }
+{
+    cell(clauses, 5 * (c as usize) + 2)
+}
+
+// The first binding of clause c.
+pub fn first_cell(clauses: &[u16], c: u16) -> u16
+    ensures { λ r. ⌜ r ≡ firstCell (now (clauses .entry)) c ⌝ }
+{
+    cell(clauses, 5 * (c as usize) + 3)
+}
+
+// The number of bindings of clause c.
+pub fn bindings_cell(clauses: &[u16], c: u16) -> u16
+    ensures { λ r. ⌜ r ≡ bindingsCell (now (clauses .entry)) c ⌝ }
+{
+    cell(clauses, 5 * (c as usize) + 4)
+}
