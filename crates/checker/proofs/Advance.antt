@@ -18,7 +18,7 @@ use Rattle.checker.specs.Refusal.{tests, Reason, kindOfRecord, zeros, ar
 use Rattle.checker.specs.State.{State, start, withRow, withClause, rowsOf}
 use Rattle.checker.specs.Step.{stands, refused, Result, step, unifyResolve, unifyFactor, enter, read, allStand, refusedAt}
 use Rattle.checker.specs.Verdict.{ending}
-use Rattle.checker.proofs.Inversions.{passed, stands-same, all-stand, named-stands, clause-added, Passed}
+use Rattle.checker.proofs.Inversions.{tests-passed, stands-same, all-stand, named-stands, clause-added, Passed}
 use Rattle.checker.proofs.Reading.{ending-stands, start-ok}
 use Rattle.checker.proofs.Sources.{Sourced, step-sourced}
 use Rattle.checker.proofs.Standing.{StateOk}
@@ -128,7 +128,7 @@ module _ (F : List ℕ) (k : ℕ) (S : State) (H : Standing F k S) (l : k < reco
     pub advance : Standing F (suc k) T
     advance =
         let a = all-stand (tests S (kindOfRecord rec) rec) (enter S k (kindOfRecord rec) rec) T q in
-        let o = one-more (kindOfRecord rec) (passed S (kindOfRecord rec) rec (a .0)) (a .1) in
+        let o = one-more (kindOfRecord rec) (tests-passed S (kindOfRecord rec) rec (a .0)) (a .1) in
         record { before = before-next; ok = step-ok k S (H .ok) k rec T seven q; sourced = step-sourced F S k T q (H .sourced); tally = o }
 
   pub refused-there : (p : Reason) → step S k (decoded (recordPart F k)) ≡ refused p → ending F ≡ refusedAt S p k

@@ -1,4 +1,4 @@
--- What the tests of a record say once they have passed, or failed.
+-- What the tests of a record say once they have tests-passed, or failed.
 use mathlib.Core.Path.{_≡_, refl, sym, ap, _∙_, subst}
 use mathlib.Core.Logic.{_⊎_, inl, inr}
 use mathlib.Core.Bool.{Bool, true, false, not}
@@ -6,7 +6,7 @@ use mathlib.Core.Option.{Option, none, some}
 use mathlib.Core.List.{List, [], _∷_, map}
 use Prim.Native.Nat.{ℕ, suc, _≤_, _<_}
 use native.Mathlib.Omega.{arith}
-use lib.Dec.{eqb, ltb, T, eqb→eq, eqb-refl, ltb→lt}
+use lib.Dec.{eqb, leb, ltb, T, eqb→eq, eqb-refl, leb→le, ltb→lt, lt→ltb}
 use lib.ListN.{length}
 use Rattle.record.specs.Record.{pick, Record, Kind}
 use Rattle.unify.specs.Environment.{Binding}
@@ -15,8 +15,9 @@ use Rattle.unify.proofs.Lists.{Each}
 use Rattle.unify.proofs.Rows.{Below, eqb-below}
 use Rattle.unify.proofs.Tests.{to-T, from-T, both-true, true-not-false, some-not-none, some-injective}
 use Rattle.derivation.specs.Derivation.{literals, Literal, RowLiteral, Derivation, numbered}
+use Rattle.derivation.proofs.Literals.{leb-false-lt}
 use Rattle.checker.specs.Demands.{FirstFailing, failsHere, passesHere, AllPass}
-use Rattle.checker.specs.Refusal.{tests, Reason, unification, knownKind, inRange, literalIn, namedLiteral, isThere, hasArity, allBelow, allThere, isNew, onApplications, equalSigns, fittingSigns, withinLimits}
+use Rattle.checker.specs.Refusal.{tests, Reason, unification, knownKind, inRange, literalIn, literalNamed, isThere, hasArity, allBelow, allThere, isNew, onApplications, equalSigns, fittingSigns, withinLimits}
 use Rattle.checker.specs.State.{State, withClause, entry, clauseOf}
 use Rattle.checker.specs.Step.{stands, refused, Result, require, requireAll, step, addClause, onNamed}
 
@@ -63,7 +64,7 @@ named-stands step (some x) none S q = absurd (refused-not-stands q)
 named-stands step (some x) (some y) S q = (x, y, refl, refl, q)
 
 -- A named literal is a literal of a clause that exists.
-pub literal-named : (S : State) (c n : ℕ) (x : Derivation × Literal) → namedLiteral S c n ≡ some x → (clauseOf S c ≡ some (x .0)) × (numbered (literals (x .0)) n ≡ some (x .1))
+pub literal-named : (S : State) (c n : ℕ) (x : Derivation × Literal) → literalNamed S c n ≡ some x → (clauseOf S c ≡ some (x .0)) × (numbered (literals (x .0)) n ≡ some (x .1))
 literal-named S c n x q = clause (clauseOf S c) refl q
   where
     pair : {d : Derivation} {l : Literal} → _≡_ {A = Option (Derivation × Literal)} (some (d, l)) (some x) → (d ≡ x .0) × (l ≡ x .1)
@@ -162,7 +163,7 @@ clause-refused S k clause (failed f) q e = (f, refl, refused-injective e)
 pub never-both : {q : Reason} {S : State} (o : Result) → o ≡ stands S → o ≡ refused q → ⊥
 never-both o p e = stands-not-refused (sym p ∙ e)
 
--- All tests of a record have passed, by name.
+-- All tests of a record have tests-passed, by name.
 pub record Passed (S : State) (kind : Kind) (r : Record) : Type 0 where
   pub known : knownKind kind ≡ true
   pub ranged : inRange kind r ≡ true
@@ -172,5 +173,12 @@ pub record Passed (S : State) (kind : Kind) (r : Record) : Type 0 where
   pub signs : fittingSigns S kind r ≡ true
   pub limits : withinLimits S kind r ≡ true
 
-pub passed : (S : State) (kind : Kind) (r : Record) → AllPass (tests S kind r) → Passed S kind r
-passed S kind r a = record { known = a .0; ranged = a .1 .0; there = a .1 .1 .0; fresh = a .1 .1 .1 .0; applications = a .1 .1 .1 .1 .0; signs = a .1 .1 .1 .1 .1 .0; limits = a .1 .1 .1 .1 .1 .1 .0 }
+pub tests-passed : (S : State) (kind : Kind) (r : Record) → AllPass (tests S kind r) → Passed S kind r
+tests-passed S kind r a = record { known = a .0; ranged = a .1 .0; there = a .1 .1 .0; fresh = a .1 .1 .1 .0; applications = a .1 .1 .1 .1 .0; signs = a .1 .1 .1 .1 .1 .0; limits = a .1 .1 .1 .1 .1 .1 .0 }
+
+pub not-below : (i n : ℕ) → ltb i n ≡ false → n ≤ i
+not-below i n q = try (leb n i) refl
+  where
+    try : (b : Bool) → leb n i ≡ b → n ≤ i
+    try true p = leb→le n i (to-T (leb n i) p)
+    try false p = let l : i < n = leb-false-lt n i p in absurd (true-not-false (from-T (ltb i n) (lt→ltb i n l)) q)

@@ -11,3 +11,4 @@ pub mod Sources
 pub mod Tabled
 pub mod Advance
 pub mod NodeTable
+pub mod Filling

@@ -22,7 +22,7 @@ use Rattle.checker.specs.Demands.{atomOf, StepAtoms, ofResolve, ofFactor
 use Rattle.checker.specs.Refusal.{tests, Reason, unification, badKind, outOfRange, notThere, repeatedRow, variableLiteral, wrongSigns, tooLarge, reasonNumber, kindOfRecord, leftOf, rightOf, deletedOf, isThere}
 use Rattle.checker.specs.State.{State, rowOf, held}
 use Rattle.checker.specs.Step.{stands, refused, step, unifyResolve, unifyFactor, enter}
-use Rattle.checker.proofs.Inversions.{passed, all-refused, is-there, clause-refused, never-both}
+use Rattle.checker.proofs.Inversions.{tests-passed, all-refused, is-there, clause-refused, never-both}
 use Rattle.checker.proofs.Resolution.{enter-resolve, enter-factor, resolve-no-unifier, factor-no-unifier, resolve-not-endless, factor-not-endless}
 use Rattle.checker.proofs.Standing.{StateOk}
 use Rattle.checker.proofs.Steps.{signs-resolve, signs-factor}
@@ -81,7 +81,7 @@ due-stated S r q (inFactor {x} {y} {f} a b c d e) = failing-stated (rowOf S) mos
 stands-refused : {S : State} {q : Reason} → stands S ≡ refused q → ⊥
 stands-refused p = never-both (stands _) refl p
 
--- Which literals a step names whose tests have passed.
+-- Which literals a step names whose tests have tests-passed.
 named-both : (o p : Option (Derivation × Literal)) → (isThere o && isThere p) ≡ true → (x y : Derivation × Literal) × (o ≡ some x) × (p ≡ some y)
 named-both o p q =
     let b = both-true (isThere o) (isThere p) q in
@@ -100,12 +100,12 @@ by-unification S k r variableKind q e a z = absurd (stands-refused z)
 by-unification S k r applicationKind q e a z = absurd (stands-refused z)
 by-unification S k r inputKind q e a z = absurd (stands-refused z)
 by-unification S k r resolveKind q e a z =
-    let P = passed S resolveKind r a in
+    let P = tests-passed S resolveKind r a in
     let n = named-both (leftOf S r) (rightOf S r) (P .there) in
     let c = clause-refused S k (resolve (n .0 .0) (fieldB r) (n .1 .0) (fieldD r)) (unifyResolve S (n .0) (n .1)) q (sym (enter-resolve S k r (n .0) (n .1) (n .2) (n .3)) ∙ z) in
     (c .0, c .2, resolving e (n .2) (n .3) (signs-resolve S r (n .0) (n .1) (n .2) (n .3) (P .signs)) (c .1))
 by-unification S k r factorKind q e a z =
-    let P = passed S factorKind r a in
+    let P = tests-passed S factorKind r a in
     let n = named-both (leftOf S r) (deletedOf S r) (P .there) in
     let c = clause-refused S k (factor (n .0 .0) (fieldB r) (fieldC r)) (unifyFactor S (n .0) (n .1)) q (sym (enter-factor S k r (n .0) (n .1) (n .2) (n .3)) ∙ z) in
     (c .0, c .2, factoring e (n .2) (n .3) (signs-factor S r (n .0) (n .1) (n .2) (n .3) (P .signs) .0) (c .1))

@@ -21,7 +21,7 @@ use Rattle.checker.specs.Demands.{atomOf, StepAtoms, ofResolve, ofFactor
 use Rattle.checker.specs.Refusal.{tests, Reason, badKind, outOfRange, notThere, repeatedRow, variableLiteral, wrongSigns, tooLarge, kindOfRecord, knownKind, inRange, leftOf, rightOf, deletedOf, allThere, isNew, onApplications, fittingSigns, withinLimits}
 use Rattle.checker.specs.State.{State, rowOf, termOf, held}
 use Rattle.checker.specs.Step.{stands, refused, Result, require, requireAll, step, addClause, unifyResolve, unifyFactor, enter}
-use Rattle.checker.proofs.Inversions.{passed, all-stand, named-stands, literal-named, clause-added}
+use Rattle.checker.proofs.Inversions.{tests-passed, all-stand, named-stands, literal-named, clause-added}
 use Rattle.checker.proofs.Reading.{term-of-row, one-arity}
 use Rattle.checker.proofs.Standing.{StateOk, order-of, ChainsAfter, resolve-chains, factor-chains}
 use Rattle.checker.proofs.Steps.{NamedResolve, NamedFactor, signs-resolve, signs-factor, same-parent, named-resolve, named-factor}
@@ -48,7 +48,7 @@ module _ (S : State) (H : StateOk 4096 S) (k : ℕ) (r : Record) where
   resolvent-added T e q =
       let a = all-stand (tests S resolveKind r) (enter S k resolveKind r) T (sym (at-kind S k r resolveKind e) ∙ q) in
       let s = named-stands _ (leftOf S r) (rightOf S r) T (a .1) in
-      made (s .0) (s .1) (named-resolve S r (s .0) (s .1) (s .2) (s .3) (passed S resolveKind r (a .0))) (s .4)
+      made (s .0) (s .1) (named-resolve S r (s .0) (s .1) (s .2) (s .3) (tests-passed S resolveKind r (a .0))) (s .4)
     where
       made : (x y : Derivation × Literal) → NamedResolve S r x y → addClause S k (resolve (x .0) (fieldB r) (y .0) (fieldD r)) (unifyResolve S x y) ≡ stands T → ResolventAdded S k r T
       made x y N z =
@@ -70,7 +70,7 @@ module _ (S : State) (H : StateOk 4096 S) (k : ℕ) (r : Record) where
   factor-added T e q =
       let a = all-stand (tests S factorKind r) (enter S k factorKind r) T (sym (at-kind S k r factorKind e) ∙ q) in
       let s = named-stands _ (leftOf S r) (deletedOf S r) T (a .1) in
-      made (s .0) (s .1) (named-factor S r (s .0) (s .1) (s .2) (s .3) (passed S factorKind r (a .0))) (s .4)
+      made (s .0) (s .1) (named-factor S r (s .0) (s .1) (s .2) (s .3) (tests-passed S factorKind r (a .0))) (s .4)
     where
       made : (x y : Derivation × Literal) → NamedFactor S r x y → addClause S k (factor (x .0) (fieldB r) (fieldC r)) (unifyFactor S x y) ≡ stands T → FactorAdded S k r T
       made x y N z =

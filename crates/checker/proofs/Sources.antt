@@ -16,7 +16,7 @@ use Rattle.checker.specs.State.{State, entry, bindingsOf}
 use Rattle.checker.specs.Step.{stands, step, unifyResolve, unifyFactor, enter}
 use Rattle.checker.specs.Tables.{cellsOfClause, clauseCells}
 use Rattle.checker.proofs.Acceptance.{cells-length}
-use Rattle.checker.proofs.Inversions.{passed, stands-same, all-stand, named-stands, entry-below, clause-added, Passed}
+use Rattle.checker.proofs.Inversions.{tests-passed, stands-same, all-stand, named-stands, entry-below, clause-added, Passed}
 use Rattle.checker.proofs.Steps.{named-resolve, named-factor}
 
 -- Clause d, made of record k of the file, over the clauses before it.
@@ -86,7 +86,7 @@ module _ (F : List ℕ) (S : State) (k : ℕ) (T : State) where
   pub step-sourced : step S k (decoded (recordPart F k)) ≡ stands T → Sourced F (S .clauses) → Sourced F (T .clauses)
   step-sourced q h =
       let a = all-stand (tests S (kindOfRecord rec) rec) (enter S k (kindOfRecord rec) rec) T q in
-      source-entered (kindOfRecord rec) refl (passed S (kindOfRecord rec) rec (a .0)) (a .1) h
+      source-entered (kindOfRecord rec) refl (tests-passed S (kindOfRecord rec) rec (a .0)) (a .1) h
 
 -- The cells of clause n in the table of clauses.
 abbrev pub clausesBefore : List (ℕ × Derivation) → ℕ → List (ℕ × Derivation)

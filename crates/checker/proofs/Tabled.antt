@@ -10,10 +10,11 @@ use lib.Dec.{eqb, eqb→eq}
 use lib.ListN.{length, getD, length-append, length-map, List·getD-append}
 use lib.Seq.{getD-append-add}
 use Rattle.record.specs.Record.{pick, Record, recordPart, decoded, fieldA, fieldB, fieldC, fieldD}
+use Rattle.unify.specs.Bindings.{bindingAt, bindingsFrom}
 use Rattle.unify.specs.Environment.{Binding}
 use Rattle.unify.proofs.Tests.{to-T, some-not-none, some-injective}
 use Rattle.derivation.specs.Derivation.{input, inputLiterals, Derivation, resolve, factor, ownBindings}
-use Rattle.derivation.specs.Stored.{recordCell, recordOf, bindingAt, bindingsFrom, Cells, Stored, storedInput, storedResolve, storedFactor}
+use Rattle.derivation.specs.Stored.{recordCell, recordOf, Cells, Stored, storedInput, storedResolve, storedFactor}
 use Rattle.checker.specs.State.{entry, bindingsOf}
 use Rattle.checker.specs.Tables.{cellsOfClause, clauseCells, cellsOfBindings, bindingCells}
 use Rattle.checker.proofs.Acceptance.{cells-length}
@@ -21,7 +22,7 @@ use Rattle.checker.proofs.Inversions.{entry-below, entry-more}
 use Rattle.checker.proofs.Sources.{SourceOf, Sourced, clausesBefore, bareClause, clause-cell, entry-numbered}
 
 -- Bindings are read off their cells.
-bindings-length : (bs : List Binding) → length (cellsOfBindings bs) ≡ 4 * length bs
+pub bindings-length : (bs : List Binding) → length (cellsOfBindings bs) ≡ 4 * length bs
 bindings-length [] = refl
 bindings-length (b ∷ bs) =
     let h = bindings-length bs in

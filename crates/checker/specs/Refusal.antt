@@ -71,18 +71,18 @@ abbrev pub literalIn : ℕ → Option Derivation → Option (Derivation × Liter
 literalIn n none = none
 literalIn n (some c) = elim (numbered (literals c) n) [ some l ↦ some (c, l) | none ↦ none ]
 
-abbrev pub namedLiteral : State → ℕ → ℕ → Option (Derivation × Literal)
-namedLiteral S c n = literalIn n (clauseOf S c)
+abbrev pub literalNamed : State → ℕ → ℕ → Option (Derivation × Literal)
+literalNamed S c n = literalIn n (clauseOf S c)
 
 abbrev pub leftOf : State → Record → Option (Derivation × Literal)
-leftOf S r = namedLiteral S (fieldA r) (fieldB r)
+leftOf S r = literalNamed S (fieldA r) (fieldB r)
 
 abbrev pub rightOf : State → Record → Option (Derivation × Literal)
-rightOf S r = namedLiteral S (fieldC r) (fieldD r)
+rightOf S r = literalNamed S (fieldC r) (fieldD r)
 
 -- In a factor the clause of the literal deleted is that of the literal kept.
 abbrev pub deletedOf : State → Record → Option (Derivation × Literal)
-deletedOf S r = namedLiteral S (fieldA r) (fieldC r)
+deletedOf S r = literalNamed S (fieldA r) (fieldC r)
 
 -- 5: every symbol, row, clause and literal named exists, and the number of arguments is the symbol's arity.
 abbrev pub isThere {ℓ} : {A : Type ℓ} → Option A → Bool

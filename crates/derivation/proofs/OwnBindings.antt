@@ -12,7 +12,7 @@ use Rattle.unify.proofs.NewBindings.{NewBinding, NewEnd, new-run}
 use Rattle.unify.proofs.Ranges.{KeptArguments, IndicesKept}
 use Rattle.unify.proofs.Rows.{Below}
 use Rattle.derivation.specs.Derivation.{literals, input, Derivation, resolve, factor, raise, maximumIndex, joined, lookup}
-use Rattle.derivation.proofs.Known.{KnownRows, Known, KnownEnvironment, known-numbered, known-joined, known-lookup}
+use Rattle.derivation.proofs.Known.{Known, KnownRows, KnownEnvironment, known-numbered, known-joined, known-lookup}
 use Rattle.derivation.proofs.Literals.{In, each-numbered, LiteralIn, literals-in}
 use Rattle.derivation.proofs.Validity.{Unified, Valid, kept-joined, lookup-in}
 
