@@ -15,3 +15,12 @@ pub mod Failures
 pub mod Room
 pub mod Edges
 pub mod Clearing
+pub mod Limits
+pub mod Links
+pub mod Writing
+pub mod Halving
+pub mod Machine
+pub mod BindingsAdded
+pub mod Occurrence
+pub mod PairWalk
+pub mod Answer

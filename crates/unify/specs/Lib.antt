@@ -8,3 +8,6 @@ pub mod Unifier
 pub mod Nodes
 pub mod Values
 pub mod Clearing
+pub mod Bindings
+pub mod Unifying
+pub mod Walks

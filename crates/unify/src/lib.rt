@@ -1,3 +1,30 @@
-// Unification of expressions under bindings. The definitions are in specs/.
+// Unification of expressions under bindings, over a table of rows and an array of values. The definitions are in specs/:
+// `Unification` has what unification is, and `Unifying` what this crate promises of it.
+mod bindings;
+mod follow;
 pub mod nodes;
+mod occurs;
+mod pairs;
 pub mod values;
+
+pub use pairs::Unified;
+use pairs::unify_pair;
+ghost use Rattle.unify.specs.Unifying.{Ready, Answered};
+
+// Unifies l at index i with r at index j, with all the work that a step may take and `held` bindings held before. New bindings
+// are appended to the table of bindings and put into the array of values; chains in the array may get shorter.
+pub fn unify_literals(
+    nodes: &[u16; 32768],
+    values: &mut [u16; 524416],
+    bindings: &mut [u16],
+    held: u16,
+    l: u16,
+    i: u16,
+    r: u16,
+    j: u16,
+) -> Unified
+    requires { ⌜ Ready (now nodes) (now values) (now bindings) held (l, i) (r, j) ⌝ }
+    ensures { λ u. ⌜ Answered (now (nodes .entry)) (now (values .entry)) (now (values .exit)) (now (bindings .entry)) (now (bindings .exit)) held (l, i) (r, j) u ⌝ }
+{
+    unify_pair(nodes, values, bindings, held, l, i, r, j, 16384)
+}

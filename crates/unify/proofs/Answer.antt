@@ -1,0 +1,44 @@
+-- What the walk over a pair ensures, put into the terms of unification.
+use mathlib.Core.Path.{_≡_, refl, ap, _∙_}
+use mathlib.Core.List.{List, [], _∷_, append-nil}
+use Prim.Native.Nat.{ℕ, _-_, _*_, _<_}
+use native.Mathlib.Nat.{add-zero}
+use lib.ListN.{length, getD}
+use Rattle.unify.specs.Bindings.{bindingsFrom}
+use Rattle.unify.specs.Environment.{Binding, Environment}
+use Rattle.unify.specs.Nodes.{nodeRow}
+use Rattle.unify.specs.Row.{Expression}
+use Rattle.unify.specs.Unification.{mostWork, mostLinks, unified, unifying, noRoom, run}
+use Rattle.unify.specs.Unifying.{outcomeOf, Facing, Ready, Counted, Answered}
+use Rattle.unify.specs.Walks.{Filed, outcomeOnto, Stand, Stands, Paired}
+use Rattle.unify.proofs.Machine.{whole}
+use Rattle.unify.specs.declared.pairs.Unified.{Unified}
+use Rattle.unify.specs.declared.pairs.Unified.the-variants.{Done, Refused}
+
+onto-nothing : (u : Unified) (B : List ℕ) (held : ℕ) → outcomeOnto u B held [] ≡ outcomeOf B held u
+onto-nothing (Done w h) B held = ap (λ (bs : List Binding). unified bs w) (append-nil (bindingsFrom B held (h - held)))
+onto-nothing (Refused n) B held = refl
+
+filed-low : (B B′ : List ℕ) (held : ℕ) (u : Unified) → Filed B B′ held u → (k : ℕ) → k < 4 * held → getD B′ k 0 ≡ getD B k 0
+filed-low B B′ held (Done w h) a k l = a .low k l
+filed-low B B′ held (Refused n) a k l = a .low k l
+
+module _ (N A A′ B B′ : List ℕ) (held : ℕ) (e d : Expression) (u : Unified) (R : Ready N A B held e d) where
+  stand : (top : ℕ) (ρ : Environment) → Facing N top A held ρ e d → Stand N top A B held ρ [] held
+  stand top ρ F = record { models = F .models; count = add-zero held; few = R .few; short = F .short; room = R .bindings }
+
+  filed-counted : (top : ℕ) (ρ : Environment) (v : Unified) → Filed B B′ held v → Stands N top A′ B′ held ρ [] held v → Counted B B′ held v
+  filed-counted top ρ (Done w h) a s = (a .le, s .few, a .high)
+  filed-counted top ρ (Refused n) a s = tt
+
+  pub answered : (w : ℕ) → mostWork ≡ w → Paired N A A′ B B′ held e d w u → Filed B B′ held u → length A′ ≡ 524416 → length B′ ≡ length B → Answered N A A′ B B′ held e d u
+  answered w q P a l m =
+      record {
+        outcome = λ top ρ F. ap (λ (n : ℕ). run (nodeRow N) mostLinks (noRoom held) ρ n (unifying [] ((e, d) ∷ []))) q
+            ∙ whole (nodeRow N) mostLinks (noRoom held) ρ w e d (outcomeOnto u B′ held []) (P top held ρ [] (stand top ρ F) (F .left) (F .right) .ok)
+            ∙ onto-nothing u B′ held;
+        values = l;
+        bindings = m;
+        before = filed-low B B′ held u a;
+        counted = filed-counted (R .top) (R .environment) u a (P (R .top) held (R .environment) [] (stand (R .top) (R .environment) (R .facing)) (R .facing .left) (R .facing .right) .after);
+      }

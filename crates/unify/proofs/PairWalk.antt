@@ -1,0 +1,226 @@
+-- The program's walk over pairs and the machine's come to the same.
+use mathlib.Core.Path.{_≡_, refl, sym, ap, ap₂, _∙_, subst}
+use mathlib.Core.Bool.{Bool, true, false}
+use mathlib.Core.List.{List, [], _∷_}
+use Prim.Native.Nat.{ℕ, suc, _+_, _-_, _%_, _≤_, _<_}
+use native.Mathlib.Omega.{arith}
+use lib.Dec.{leb, T}
+use lib.ListN.{length}
+use native.Mathlib.Numerals.{add-one}
+use borrow.Author.Tests.{ne-eqb, le-leb, lt-leb}
+use Rattle.unify.specs.Bindings.{push, KeptBelow, Added}
+use Rattle.unify.specs.Environment.{Binding, Environment, extend, unbound, applied}
+use Rattle.unify.specs.Nodes.{isVariable, part, nodeArity, HasRow, argumentsFrom, nodeRowIf, nodeRow, NodesOk}
+use Rattle.unify.specs.Row.{Expression, same}
+use Rattle.unify.specs.Unification.{mostLinks, clash, occurs, overwork, Outcome, unified, failed, noRoom}
+use Rattle.unify.specs.Unifying.{failureOf}
+use Rattle.unify.specs.Values.{slot, put, InStep, Models}
+use Rattle.unify.specs.Walks.{viewOf, Walked, Follows, absent, broken, testedOf, LeavesLess, LeavesNoMore, PairRuns, ArgumentsRun, TestRuns, Looking, Looked, Filed, bindingsOnto, outcomeOnto, Stand, Stands, Settled, isApplication, isOther, Alike, Pairing, Paired, Bound, Argued}
+use Rattle.unify.proofs.BindingsAdded.{added-then, added-below, onto-none, onto-then, onto-push, length-push}
+use Rattle.unify.proofs.Chains.{Short, short-le, Firm, short-with}
+use Rattle.unify.proofs.Halving.{walked-app, walked-var}
+use Rattle.unify.proofs.Limits.{links-8192, bindings-8192}
+use Rattle.unify.proofs.Machine.{pair-spent, pair-same, pair-args, pair-clash, pair-left, pair-right, arguments-none, arguments-next, arguments-failed}
+use Rattle.unify.proofs.Meaning.{with}
+use Rattle.unify.proofs.Occurrence.{suc-pred, arg-good, args-eq}
+use Rattle.unify.proofs.Tests.{same-eq, same-refl, true-not-false}
+use Rattle.unify.proofs.Writing.{models-bind}
+use Rattle.unify.specs.declared.follow.Followed.{Followed}
+use Rattle.unify.specs.declared.follow.Followed.the-variants.{Variable, Application}
+use Rattle.unify.specs.declared.occurs.Occurs.{Occurs}
+use Rattle.unify.specs.declared.occurs.Occurs.the-variants.{No, Yes, Spent}
+use Rattle.unify.specs.declared.pairs.Unified.{Unified}
+use Rattle.unify.specs.declared.pairs.Unified.the-variants.{Done, Refused}
+
+pub leaves-less : (w v : ℕ) (u : Unified) → v < w → LeavesNoMore v u → LeavesLess w u
+leaves-less w v (Done l h) p q = omega arith
+leaves-less w v (Refused n) p q = tt
+
+pub filed-then : {B B₁ : List ℕ} {h m : ℕ} (B₂ : List ℕ) (u : Unified) → Added B B₁ h m → Filed B₁ B₂ m u → Filed B B₂ h u
+filed-then B₂ (Done w n) a b = added-then a b
+filed-then B₂ (Refused n) a b = added-below a b
+
+-- In the arguments of v at index a and t at index b: what holds from argument n on, with `left` work left, holds of all.
+module _ (N : List ℕ) (top : ℕ) (A B : List ℕ) (first : ℕ) (base : Environment) (bs : List Binding) (held : ℕ) where
+  pub record Matching (v a t b w n rest left total : ℕ) : Type 0 where
+    pub stand : Stand N top A B first base (bindingsOnto B held (total - held) bs) total
+    pub whole : (q : Outcome) → ArgumentsRun (nodeRow N) mostLinks (noRoom first) base left (bindingsOnto B held (total - held) bs) (argumentsFrom N v rest n) a (argumentsFrom N t rest n) b q → ArgumentsRun (nodeRow N) mostLinks (noRoom first) base w bs (argumentsFrom N v (nodeArity N v) 1) a (argumentsFrom N t (nodeArity N t) 1) b q
+
+abbrev pub Matched : List ℕ → List ℕ → List ℕ → List ℕ → List ℕ → ℕ → ℕ → ℕ → ℕ → ℕ → ℕ → ℕ → ℕ → ℕ → ℕ → Type 0
+Matched N A A′ B B′ held v a t b w n rest left total = (top first : ℕ) (base : Environment) (bs : List Binding) → Stand N top A B first base bs held → Alike N top v a t b → Matching N top A′ B′ first base bs held v a t b w n rest left total
+
+settled-firm : (N : List ℕ) (ρ : Environment) (x d : Expression) → Settled N ρ x d → Firm (HasRow N) (nodeRow N) ρ x d
+settled-firm N ρ x d (isApplication h) = (applied (part N (d .0) 0) (argumentsFrom N (d .0) (nodeArity N (d .0)) 1) d, refl, ap (nodeRowIf N (d .0)) h, tt, λ q. q)
+settled-firm N ρ x d (isOther h f n) = (unbound (part N (d .0) 0) d, refl, (ap (nodeRowIf N (d .0)) h, f), tt, n)
+
+full-at : (first : ℕ) (bs : List Binding) (b : Bool) → leb 8192 (first + length bs) ≡ b → noRoom first bs ≡ b
+full-at first bs b h = ap (λ (m : ℕ). leb m (first + length bs)) bindings-8192 ∙ h
+
+-- A binding is made, or refused.
+module _ (N A A₁ B : List ℕ) (held : ℕ) (x : Expression) (d : Expression) (w : ℕ) (o : Occurs) (L : Looked N A A₁ x d w o) where
+  pub bound-yes : o ≡ Yes → Bound N A A₁ B B held x d w (Refused 11)
+  bound-yes q top first base bs S gx vx gd f F =
+      let L′ = L top (noRoom first) base bs (S .models) gd in
+      record { tested = broken occurs; ok = subst (λ (z : Occurs). TestRuns (nodeRow N) mostLinks (noRoom first) base w bs x d d (testedOf z)) q (L′ .ok d); res = refl; after = tt }
+
+  pub bound-spent : o ≡ Spent → Bound N A A₁ B B held x d w (Refused 12)
+  bound-spent q top first base bs S gx vx gd f F =
+      let L′ = L top (noRoom first) base bs (S .models) gd in
+      record { tested = broken overwork; ok = subst (λ (z : Occurs). TestRuns (nodeRow N) mostLinks (noRoom first) base w bs x d d (testedOf z)) q (L′ .ok d); res = refl; after = tt }
+
+  pub bound-full : (l : ℕ) → o ≡ No l → 8192 ≤ held → Bound N A A₁ B B held x d w (Refused 13)
+  bound-full l q h top first base bs S gx vx gd f F =
+      let L′ = L top (noRoom first) base bs (S .models) gd in
+      let c = S .count in
+      record { tested = absent l; ok = subst (λ (z : Occurs). TestRuns (nodeRow N) mostLinks (noRoom first) base w bs x d d (testedOf z)) q (L′ .ok d); res = rw (full-at first bs true (le-leb 8192 (first + length bs) (omega arith))); after = tt }
+
+  pub bound-done : (l : ℕ) → o ≡ No l → held < 8192 → (at m : ℕ) → at ≡ slot N (x .0) (x .1) → m ≡ (d .0 + 1) % 65536 → (A₂ B₂ : List ℕ) → A₂ ≡ put A₁ at m (d .1) → B₂ ≡ push B held (x .0) (x .1) (d .0) (d .1) → Bound N A A₂ B B₂ held x d w (Done l (held + 1))
+  bound-done l q h at m ps pm A₂ B₂ pa pb top first base bs S gx vx gd f F =
+      record { tested = absent l; ok = subst (λ (z : Occurs). TestRuns (nodeRow N) mostLinks (noRoom first) base w bs x d d (testedOf z)) q (L′ .ok d); res = rw (full-at first bs false (lt-leb 8192 (first + length bs) (let c = S .count in omega arith))) (ap (λ (z : List Binding). unified z l) (sym made)); after = subst (λ (z : List Binding). Stand N top A₂ B₂ first base z (held + 1)) (sym made) stands }
+    where
+      L′ : Looking N top A₁ (noRoom first) base bs x d w o
+      L′ = L top (noRoom first) base bs (S .models) gd
+
+      made : bindingsOnto B₂ held ((held + 1) - held) bs ≡ (x, d) ∷ bs
+      made = ap (λ (z : List ℕ). bindingsOnto z held ((held + 1) - held) bs) pb ∙ onto-push B held (x .0) (x .1) (d .0) (d .1) (let r = S .room in omega arith) bs
+
+      more : Short (HasRow N) (nodeRow N) (suc held) (with (extend base bs) x d)
+      more = short-with (HasRow N) (nodeRow N) held (extend base bs) x d f (settled-firm N (extend base bs) x d F) (S .short)
+
+      cells : A₂ ≡ put A₁ (slot N (x .0) (x .1)) (suc (d .0)) (d .1)
+      cells =
+          let r = S .models .table .room (d .0) (gd .row) in
+          let z : m ≡ suc (d .0) = omega arith in
+          pa ∙ ap₂ (λ (s n : ℕ). put A₁ s n (d .1)) ps z
+
+      stands : Stand N top A₂ B₂ first base ((x, d) ∷ bs) (held + 1)
+      stands = record { models = subst (λ (z : List ℕ). Models N top z (with (extend base bs) x d)) (sym cells) (models-bind N top A₁ (extend base bs) (L′ .models) x gx vx (d .0) (d .1) f gd (short-le (HasRow N) (nodeRow N) (suc held) mostLinks (with (extend base bs) x d) (let l = links-8192 in omega arith) more)); count = let c = S .count in omega arith; few = omega arith; short = rw add-one more; room = rw (ap length pb ∙ length-push B held (x .0) (x .1) (d .0) (d .1)) (S .room) }
+
+module _ (N A B : List ℕ) (held : ℕ) (e d : Expression) (w : ℕ) where
+  pub paired-spent : w ≡ 0 → Paired N A A B B held e d w (Refused 12)
+  paired-spent z top first base bs S ge gd = record { ok = subst (λ (n : ℕ). PairRuns (nodeRow N) mostLinks (noRoom first) base n bs e d (failed overwork)) (sym z) (pair-spent (nodeRow N) mostLinks (noRoom first) base bs e d); after = tt }
+
+  module _ (A₁ A₂ : List ℕ) (nz : w ≡ 0 → ⊥) (f g : Followed) (W₁ : Follows N A A₁ e f) (W₂ : Follows N A₁ A₂ d g) where
+    -- Both sides are followed.
+    module _ (f′ g′ : Followed) (pf : f ≡ f′) (pg : g ≡ g′) (top first : ℕ) (base : Environment) (bs : List Binding) (S : Stand N top A B first base bs held) (ge : InStep N top e) (gd : InStep N top d) where
+      X : Walked N top A₁ (extend base bs) e f′
+      X = subst (Walked N top A₁ (extend base bs) e) pf (W₁ top (extend base bs) (S .models) ge)
+
+      Y : Walked N top A₂ (extend base bs) d g′
+      Y = subst (Walked N top A₂ (extend base bs) d) pg (W₂ top (extend base bs) (X .models) gd)
+
+      S₂ : Stand N top A₂ B first base bs held
+      S₂ = record { models = Y .models; count = S .count; few = S .few; short = S .short; room = S .room }
+
+      at-w : (r : Outcome) → PairRuns (nodeRow N) mostLinks (noRoom first) base (suc (w - 1)) bs e d r → PairRuns (nodeRow N) mostLinks (noRoom first) base w bs e d r
+      at-w r h = subst (λ (n : ℕ). PairRuns (nodeRow N) mostLinks (noRoom first) base n bs e d r) (suc-pred w nz) h
+
+      nothing : PairRuns (nodeRow N) mostLinks (noRoom first) base (suc (w - 1)) bs e d (unified bs (w - 1)) → Pairing N top A₂ B first base bs held e d w (Done (w - 1) held)
+      nothing h = record { ok = at-w (unified (bindingsOnto B held (held - held) bs) (w - 1)) (rw (onto-none B held bs) h); after = subst (λ (z : List Binding). Stand N top A₂ B first base z held) (sym (onto-none B held bs)) S₂ }
+
+    pub paired-same-var : (v a t b : ℕ) → f ≡ Variable v a → g ≡ Variable t b → (s : Bool) → s ≡ same (v, a) (t, b) → s ≡ true → Paired N A A₂ B B held e d w (Done (w - 1) held)
+    paired-same-var v a t b pf pg s ps h top first base bs S ge gd =
+        nothing (Variable v a) (Variable t b) pf pg top first base bs S ge gd
+        (pair-same (nodeRow N) mostLinks (noRoom first) base (w - 1) bs e d (unbound (part N v 0) (v, a)) (unbound (part N t 0) (t, b)) (X (Variable v a) (Variable t b) pf pg top first base bs S ge gd .seen) (Y (Variable v a) (Variable t b) pf pg top first base bs S ge gd .seen) tt (same-eq (v, a) (t, b) (sym ps ∙ h)) (λ ps′. rw (sym ps ∙ h)))
+
+    pub paired-same-app : (v a t b : ℕ) → f ≡ Application v a → g ≡ Application t b → (s : Bool) → s ≡ same (v, a) (t, b) → s ≡ true → Paired N A A₂ B B held e d w (Done (w - 1) held)
+    paired-same-app v a t b pf pg s ps h top first base bs S ge gd =
+        nothing (Application v a) (Application t b) pf pg top first base bs S ge gd
+        (pair-same (nodeRow N) mostLinks (noRoom first) base (w - 1) bs e d (viewOf N (Application v a)) (viewOf N (Application t b)) (X (Application v a) (Application t b) pf pg top first base bs S ge gd .seen) (Y (Application v a) (Application t b) pf pg top first base bs S ge gd .seen) tt (same-eq (v, a) (t, b) (sym ps ∙ h)) (λ ps′. rw (sym ps ∙ h)))
+
+    module _ (A₃ B₃ : List ℕ) (u : Unified) where
+      pub paired-vars : (v a t b : ℕ) → f ≡ Variable v a → g ≡ Variable t b → (s : Bool) → s ≡ same (v, a) (t, b) → s ≡ false → Bound N A₂ A₃ B B₃ held (v, a) (t, b) (w - 1) u → Paired N A A₃ B B₃ held e d w u
+      paired-vars v a t b pf pg s ps h K top first base bs S ge gd =
+          let x = X (Variable v a) (Variable t b) pf pg top first base bs S ge gd in
+          let y = Y (Variable v a) (Variable t b) pf pg top first base bs S ge gd in
+          let z = walked-var N top A₁ (extend base bs) e v a x in
+          let y′ = walked-var N top A₂ (extend base bs) d t b y in
+          let apart : ¬ (_≡_ {A = Expression} (t, b) (v, a)) = λ q. differ (v, a) (t, b) (sym ps ∙ h) (sym q) in
+          let k = K top first base bs (S₂ (Variable v a) (Variable t b) pf pg top first base bs S ge gd) (x .good) (z .0) (y .good) (z .1) (isOther (y′ .0) (y′ .1) apart) in
+          record { ok = at-w (Variable v a) (Variable t b) pf pg top first base bs S ge gd (outcomeOnto u B₃ held bs) (rw (k .res) at (pair-left (nodeRow N) mostLinks (noRoom first) base (w - 1) bs e d (part N v 0) (v, a) (unbound (part N t 0) (t, b)) (x .seen) (y .seen) tt (sym ps ∙ h) (k .tested) (k .ok))); after = k .after }
+        where
+          differ : (x y : Expression) → same x y ≡ false → ¬ (x ≡ y)
+          differ x y p q = true-not-false (ap (same x) (sym q) ∙ same-refl x) p
+
+      pub paired-left : (v a t b : ℕ) → f ≡ Variable v a → g ≡ Application t b → Bound N A₂ A₃ B B₃ held (v, a) (t, b) (w - 1) u → Paired N A A₃ B B₃ held e d w u
+      paired-left v a t b pf pg K top first base bs S ge gd =
+          let x = X (Variable v a) (Application t b) pf pg top first base bs S ge gd in
+          let y = Y (Variable v a) (Application t b) pf pg top first base bs S ge gd in
+          let z = walked-var N top A₁ (extend base bs) e v a x in
+          let y′ = walked-app N top A₂ (extend base bs) d t b y in
+          let k = K top first base bs (S₂ (Variable v a) (Application t b) pf pg top first base bs S ge gd) (x .good) (z .0) (y .good) (z .1) (isApplication y′) in
+          record { ok = at-w (Variable v a) (Application t b) pf pg top first base bs S ge gd (outcomeOnto u B₃ held bs) (rw (k .res) at (pair-left (nodeRow N) mostLinks (noRoom first) base (w - 1) bs e d (part N v 0) (v, a) (viewOf N (Application t b)) (x .seen) (y .seen) tt (apart (z .0) y′ (same (v, a) (t, b)) refl) (k .tested) (k .ok))); after = k .after }
+        where
+          apart : isVariable N v ≡ true → isVariable N t ≡ false → (s : Bool) → same (v, a) (t, b) ≡ s → s ≡ false
+          apart p q false r = refl
+          apart p q true r = absurd (true-not-false (ap (λ (x : Expression). isVariable N (x .0)) (sym (same-eq (v, a) (t, b) r)) ∙ p) q)
+
+      pub paired-right : (v a t b : ℕ) → f ≡ Application v a → g ≡ Variable t b → Bound N A₂ A₃ B B₃ held (t, b) (v, a) (w - 1) u → Paired N A A₃ B B₃ held e d w u
+      paired-right v a t b pf pg K top first base bs S ge gd =
+          let x = X (Application v a) (Variable t b) pf pg top first base bs S ge gd in
+          let y = Y (Application v a) (Variable t b) pf pg top first base bs S ge gd in
+          let z = walked-var N top A₂ (extend base bs) d t b y in
+          let k = K top first base bs (S₂ (Application v a) (Variable t b) pf pg top first base bs S ge gd) (y .good) (z .0) (x .good) (z .1) (isApplication (walked-app N top A₁ (extend base bs) e v a x)) in
+          record { ok = at-w (Application v a) (Variable t b) pf pg top first base bs S ge gd (outcomeOnto u B₃ held bs) (rw (k .res) at (pair-right (nodeRow N) mostLinks (noRoom first) base (w - 1) bs e d (part N v 0) (argumentsFrom N v (nodeArity N v) 1) (v, a) (part N t 0) (t, b) (x .seen) (y .seen) (k .tested) (k .ok))); after = k .after }
+
+      module _ (v a t b : ℕ) (pf : f ≡ Application v a) (pg : g ≡ Application t b) (s : Bool) (ps : s ≡ same (v, a) (t, b)) (h : s ≡ false) (m n : ℕ) (pm : m ≡ part N v 0) (pn : n ≡ part N t 0) where
+        pub paired-args : m ≡ n → Argued N A₂ A₃ B B₃ held v a t b (w - 1) u → Paired N A A₃ B B₃ held e d w u
+        paired-args q K top first base bs S ge gd =
+            let x = X (Application v a) (Application t b) pf pg top first base bs S ge gd in
+            let y = Y (Application v a) (Application t b) pf pg top first base bs S ge gd in
+            let one : part N t 0 ≡ part N v 0 = sym pn ∙ sym q ∙ pm in
+            let k = K top first base bs (S₂ (Application v a) (Application t b) pf pg top first base bs S ge gd) (record { left = x .good; right = y .good; leftRow = walked-app N top A₁ (extend base bs) e v a x; rightRow = walked-app N top A₂ (extend base bs) d t b y; symbol = sym one }) in
+            record { ok = at-w (Application v a) (Application t b) pf pg top first base bs S ge gd (outcomeOnto u B₃ held bs) (pair-args (nodeRow N) mostLinks (noRoom first) base (w - 1) bs e d (part N v 0) (argumentsFrom N v (nodeArity N v) 1) (argumentsFrom N t (nodeArity N t) 1) (v, a) (t, b) (x .seen) (y .seen ∙ ap (λ (z : ℕ). applied z (argumentsFrom N t (nodeArity N t) 1) (t, b)) one) (sym ps ∙ h) (outcomeOnto u B₃ held bs) (k .ok)); after = k .after }
+
+    pub paired-clash : (v a t b : ℕ) → f ≡ Application v a → g ≡ Application t b → (s : Bool) → s ≡ same (v, a) (t, b) → s ≡ false → (m n : ℕ) → m ≡ part N v 0 → n ≡ part N t 0 → (m ≡ n → ⊥) → Paired N A A₂ B B held e d w (Refused 10)
+    paired-clash v a t b pf pg s ps h m n pm pn q top first base bs S ge gd =
+        let x = X (Application v a) (Application t b) pf pg top first base bs S ge gd in
+        let y = Y (Application v a) (Application t b) pf pg top first base bs S ge gd in
+        record { ok = at-w (Application v a) (Application t b) pf pg top first base bs S ge gd (failed clash) (pair-clash (nodeRow N) mostLinks (noRoom first) base (w - 1) bs e d (part N v 0) (part N t 0) (argumentsFrom N v (nodeArity N v) 1) (argumentsFrom N t (nodeArity N t) 1) (v, a) (t, b) (x .seen) (y .seen) (sym ps ∙ h) (ne-eqb (part N v 0) (part N t 0) (λ z. q (pm ∙ z ∙ sym pn)))); after = tt }
+
+-- The arguments, in order.
+module _ (N A B : List ℕ) (held v a t b w : ℕ) where
+  arities : NodesOk N → {top : ℕ} → Alike N top v a t b → nodeArity N v ≡ nodeArity N t
+  arities T L = T .alike v t (L .left .row) (L .right .row) (L .leftRow) (L .rightRow) (L .symbol)
+
+  pub match-start : (rest : ℕ) → rest ≡ nodeArity N v → Matched N A A B B held v a t b w 1 rest w held
+  match-start rest p top first base bs S L =
+      record { stand = subst (λ (z : List Binding). Stand N top A B first base z held) (sym (onto-none B held bs)) S; whole = λ q h. subst (λ (z : ℕ). ArgumentsRun (nodeRow N) mostLinks (noRoom first) base w bs (argumentsFrom N v (nodeArity N v) 1) a (argumentsFrom N t z 1) b q) (p ∙ arities (S .models .table) L) (subst (λ (z : ℕ). ArgumentsRun (nodeRow N) mostLinks (noRoom first) base w bs (argumentsFrom N v z 1) a (argumentsFrom N t rest 1) b q) p (subst (λ (z : List Binding). ArgumentsRun (nodeRow N) mostLinks (noRoom first) base w z (argumentsFrom N v rest 1) a (argumentsFrom N t rest 1) b q) (onto-none B held bs) h)) }
+
+  module _ (A₁ B₁ : List ℕ) (n rest left total : ℕ) (K : Matched N A A₁ B B₁ held v a t b w n rest left total) where
+    pub match-end : rest ≡ 0 → Argued N A A₁ B B₁ held v a t b w (Done left total)
+    match-end z top first base bs S L =
+        let k = K top first base bs S L in
+        record { ok = k .whole (unified (bindingsOnto B₁ held (total - held) bs) left) (subst (λ (m : ℕ). ArgumentsRun (nodeRow N) mostLinks (noRoom first) base left (bindingsOnto B₁ held (total - held) bs) (argumentsFrom N v m n) a (argumentsFrom N t m n) b (unified (bindingsOnto B₁ held (total - held) bs) left)) (sym z) (arguments-none (nodeRow N) mostLinks (noRoom first) base left (bindingsOnto B₁ held (total - held) bs) a [] b)); after = k .stand }
+
+    module _ (pos : 0 < rest) (low : 1 ≤ n) (all : n + rest ≡ nodeArity N v + 1) (c d : ℕ) (pc : c ≡ part N v n) (pd : d ≡ part N t n) (A₂ B₂ : List ℕ) (u : Unified) (P : Paired N A₁ A₂ B₁ B₂ total (c, a) (d, b) left u) where
+      module _ (top first : ℕ) (base : Environment) (bs : List Binding) (S : Stand N top A B first base bs held) (L : Alike N top v a t b) where
+        here : Pairing N top A₂ B₂ first base (bindingsOnto B₁ held (total - held) bs) total (c, a) (d, b) left u
+        here =
+            let k = K top first base bs S L in
+            let T = S .models .table in
+            P top first base (bindingsOnto B₁ held (total - held) bs) (k .stand) (arg-good N top v n rest pos c pc a low all T (L .left) (L .leftRow)) (arg-good N top t n rest pos d pd b low (all ∙ ap (λ (z : ℕ). z + 1) (arities T L)) T (L .right) (L .rightRow))
+
+        ahead : (q : Outcome) → ArgumentsRun (nodeRow N) mostLinks (noRoom first) base left (bindingsOnto B₁ held (total - held) bs) (c ∷ argumentsFrom N v (rest - 1) (n + 1)) a (d ∷ argumentsFrom N t (rest - 1) (n + 1)) b q → ArgumentsRun (nodeRow N) mostLinks (noRoom first) base w bs (argumentsFrom N v (nodeArity N v) 1) a (argumentsFrom N t (nodeArity N t) 1) b q
+        ahead q h = K top first base bs S L .whole q (rw (args-eq N top v n rest pos c pc, args-eq N top t n rest pos d pd) h)
+
+      pub match-refused : (x : ℕ) → u ≡ Refused x → Argued N A A₂ B B₂ held v a t b w (Refused x)
+      match-refused x p top first base bs S L =
+          record { ok = ahead top first base bs S L (failed (failureOf x)) (arguments-failed (nodeRow N) mostLinks (noRoom first) base left (bindingsOnto B₁ held (total - held) bs) c a d b (argumentsFrom N v (rest - 1) (n + 1)) (argumentsFrom N t (rest - 1) (n + 1)) (failureOf x) (subst (λ (z : Unified). PairRuns (nodeRow N) mostLinks (noRoom first) base left (bindingsOnto B₁ held (total - held) bs) (c, a) (d, b) (outcomeOnto z B₂ total (bindingsOnto B₁ held (total - held) bs))) p (here top first base bs S L .ok))); after = tt }
+
+      pub match-next : (l h : ℕ) → u ≡ Done l h → Added B B₁ held total → Added B₁ B₂ total h → Matched N A A₂ B B₂ held v a t b w (n + 1) (rest - 1) l h
+      match-next l h p k₁ k₂ top first base bs S L =
+          let j = onto-then bs k₁ k₂ in
+          let y = here top first base bs S L in
+          let o : PairRuns (nodeRow N) mostLinks (noRoom first) base left (bindingsOnto B₁ held (total - held) bs) (c, a) (d, b) (unified (bindingsOnto B₂ held (h - held) bs) l) = subst (λ (z : List Binding). PairRuns (nodeRow N) mostLinks (noRoom first) base left (bindingsOnto B₁ held (total - held) bs) (c, a) (d, b) (unified z l)) j (subst (λ (z : Unified). PairRuns (nodeRow N) mostLinks (noRoom first) base left (bindingsOnto B₁ held (total - held) bs) (c, a) (d, b) (outcomeOnto z B₂ total (bindingsOnto B₁ held (total - held) bs))) p (y .ok)) in
+          record { stand = subst (λ (z : List Binding). Stand N top A₂ B₂ first base z h) j (subst (λ (z : Unified). Stands N top A₂ B₂ first base (bindingsOnto B₁ held (total - held) bs) total z) p (y .after)); whole = λ q g. ahead top first base bs S L q (arguments-next (nodeRow N) mostLinks (noRoom first) base left (bindingsOnto B₁ held (total - held) bs) c a d b (argumentsFrom N v (rest - 1) (n + 1)) (argumentsFrom N t (rest - 1) (n + 1)) (bindingsOnto B₂ held (h - held) bs) l q o g) }
+
+-- an answer that is hasRow
+pub filed-done : (B B′ : List ℕ) (held : ℕ) (u : Unified) (l h : ℕ) → u ≡ Done l h → Filed B B′ held u → Added B B′ held h
+filed-done B B′ held u l h p k = subst (Filed B B′ held) p k
+
+pub filed-refused : (B B′ : List ℕ) (held : ℕ) (u : Unified) (n : ℕ) → u ≡ Refused n → Filed B B′ held u → KeptBelow B B′ held
+filed-refused B B′ held u n p k = subst (Filed B B′ held) p k
+
+pub less-done : (w : ℕ) (u : Unified) (l h : ℕ) → u ≡ Done l h → LeavesLess w u → l < w
+less-done w u l h p k = subst (LeavesLess w) p k

@@ -1,0 +1,56 @@
+-- What `unify_literals` asks of its caller and ensures. `Walks` has the contracts of the functions behind it.
+use mathlib.Core.Path.{_≡_}
+use mathlib.Core.List.{List}
+use Prim.Native.Nat.{ℕ, _-_, _*_, _≤_, _<_}
+use lib.Dec.{eqb}
+use lib.ListN.{length, getD}
+use Rattle.record.specs.Record.{pick}
+use Rattle.unify.specs.Bindings.{bindingsFrom}
+use Rattle.unify.specs.Environment.{follow, Environment, Ends}
+use Rattle.unify.specs.Nodes.{HasRow, nodeRow}
+use Rattle.unify.specs.Row.{Expression}
+use Rattle.unify.specs.Unification.{unify, Failure, clash, occurs, overwork, full, Outcome, unified, failed}
+use Rattle.unify.specs.Values.{InStep, Models}
+use Rattle.unify.specs.declared.pairs.Unified.{Unified}
+use Rattle.unify.specs.declared.pairs.Unified.the-variants.{Done, Refused}
+
+-- The failures by the numbers of document 01's table.
+abbrev pub failureOf : ℕ → Failure
+failureOf n = pick (eqb n 10) clash (pick (eqb n 11) occurs (pick (eqb n 12) overwork full))
+
+-- The answer as an outcome of unification: the bindings are those that the table holds from `held` on.
+abbrev pub outcomeOf : List ℕ → ℕ → Unified → Outcome
+outcomeOf B held (Done w h) = unified (bindingsFrom B held (h - held)) w
+outcomeOf B held (Refused n) = failed (failureOf n)
+
+-- The array stands for ρ on the indices up to top, chains of ρ have at most `held` links, and both expressions are there.
+pub record Facing (N : List ℕ) (top : ℕ) (A : List ℕ) (held : ℕ) (ρ : Environment) (e d : Expression) : Type 0 where
+  pub models : Models N top A ρ
+  pub short : (c : Expression) → HasRow N (c .0) → Ends (follow (nodeRow N) held ρ c)
+  pub left : InStep N top e
+  pub right : InStep N top d
+
+-- What the caller has to provide: the tables at their full size, room for the bindings, and some environment and maximum index
+-- that the array stands for.
+pub record Ready (N A B : List ℕ) (held : ℕ) (e d : Expression) : Type 0 where
+  pub nodes : length N ≡ 32768
+  pub values : length A ≡ 524416
+  pub bindings : 32768 ≤ length B
+  pub few : held ≤ 8192
+  pub top : ℕ
+  pub environment : Environment
+  pub facing : Facing N top A held environment e d
+
+-- Bindings were added up to h, and the cells from there on are as they were.
+abbrev pub Counted : List ℕ → List ℕ → ℕ → Unified → Type 0
+Counted B B′ held (Done w h) = (held ≤ h) × (h ≤ 8192) × ((k : ℕ) → 4 * h ≤ k → getD B′ k 0 ≡ getD B k 0)
+Counted B B′ held (Refused n) = Unit {0}
+
+-- What the caller gets: the outcome of unification in every environment that the array stands for. The table of bindings keeps
+-- its length and the bindings held before; after a refusal the cells from 4 * held on may have been written.
+pub record Answered (N A A′ B B′ : List ℕ) (held : ℕ) (e d : Expression) (u : Unified) : Type 0 where
+  pub outcome : (top : ℕ) (ρ : Environment) → Facing N top A held ρ e d → unify (nodeRow N) held ρ e d ≡ outcomeOf B′ held u
+  pub values : length A′ ≡ 524416
+  pub bindings : length B′ ≡ length B
+  pub before : (k : ℕ) → k < 4 * held → getD B′ k 0 ≡ getD B k 0
+  pub counted : Counted B B′ held u
