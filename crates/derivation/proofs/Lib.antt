@@ -10,3 +10,6 @@ pub mod Forms
 pub mod Known
 pub mod Numbers
 pub mod Origins
+pub mod Loading
+pub mod LoadedModels
+pub mod Putting

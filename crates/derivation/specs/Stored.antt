@@ -1,10 +1,11 @@
 -- Clauses as the program keeps them: in the file, five cells a clause in the table of clauses, and four cells a binding in the table of
 -- bindings (document 01, "Verdict, tables and refusals").
 use mathlib.Core.Path.{_≡_}
-use mathlib.Core.List.{List, [], _∷_}
-use Prim.Native.Nat.{ℕ, zero, suc, _+_, _*_, _<_}
+use mathlib.Core.List.{List}
+use Prim.Native.Nat.{ℕ, _+_, _*_, _<_}
 use lib.ListN.{length, getD}
 use Rattle.record.specs.Record.{Record, recordPart, decoded, fieldA, fieldB, fieldC, fieldD}
+use Rattle.unify.specs.Bindings.{bindingsFrom}
 use Rattle.unify.specs.Environment.{Binding}
 use Rattle.derivation.specs.Derivation.{literals, input, RowLiteral, inputLiterals, Derivation, resolve, factor, maximumIndex, ownBindings}
 
@@ -27,14 +28,6 @@ bindingsCell C c = getD C (5 * c + 4) 0
 -- The record of clause c.
 abbrev pub recordOf : List ℕ → List ℕ → ℕ → Record
 recordOf F C c = decoded (recordPart F (recordCell C c))
-
--- Binding h of the table, and the n bindings from the first on, the newest first.
-abbrev pub bindingAt : List ℕ → ℕ → Binding
-bindingAt B h = ((getD B (4 * h) 0, getD B (4 * h + 1) 0), (getD B (4 * h + 2) 0, getD B (4 * h + 3) 0))
-
-abbrev pub bindingsFrom : List ℕ → ℕ → ℕ → List Binding
-bindingsFrom B first zero = []
-bindingsFrom B first (suc n) = bindingAt B (first + n) ∷ bindingsFrom B first n
 
 -- The cells of clause c are those of the derivation d.
 pub record Cells (C B : List ℕ) (c : ℕ) (d : Derivation) : Type 0 where
