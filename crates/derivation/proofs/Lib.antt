@@ -11,3 +11,6 @@ pub mod Known
 pub mod OwnBindings
 pub mod Numbers
 pub mod Origins
+pub mod Loading
+pub mod LoadedModels
+pub mod Putting

@@ -4,3 +4,4 @@ pub mod Textbook
 pub mod Ground
 pub mod Stored
 pub mod Named
+pub mod Loaded

@@ -4,6 +4,7 @@ ghost use lib.ListN.{getD};
 ghost use Rattle.derivation.specs.Stored.{recordCell, literalsCell, indexCell, firstCell, bindingsCell};
 
 pub mod literal;
+pub mod load;
 
 // Cell `at` of a table, 0 outside.
 pub fn cell(table: &[u16], at: usize) -> u16

@@ -1,0 +1,159 @@
+-- Putting the bindings of the table into the array, and loading a clause and its parents, in the numbers of the code.
+use mathlib.Core.Path.{_≡_, refl, sym, ap, ap₂, _∙_, subst}
+use mathlib.Core.Bool.{Bool, true, false}
+use mathlib.Core.List.{List}
+use Prim.Native.Nat.{ℕ, zero, suc, _+_, _*_, _≤_, _<_}
+use native.Mathlib.Omega.{arith}
+use lib.Dec.{eqb}
+use lib.ListN.{getD}
+use Rattle.record.specs.Record.{recordPart, kindOf, fieldOf, fieldA, fieldC}
+use Rattle.unify.specs.Bindings.{bindingAt, bindingsFrom}
+use Rattle.unify.specs.Environment.{Binding}
+use Rattle.unify.specs.Nodes.{isVariable}
+use Rattle.unify.specs.Row.{Variable}
+use Rattle.unify.specs.Values.{slot, put, InStep}
+use Rattle.derivation.specs.Derivation.{input, Derivation, resolve, factor, maximumIndex, ownBindings, lookup}
+use Rattle.derivation.specs.Loaded.{readCell, orElse, within, putBindings, putClause, putParents, BindingIn, AllIn, BindingsIn, Loadable, Loaded, LoadedParents, Puttable, BindingsPut}
+use Rattle.derivation.specs.Stored.{recordCell, indexCell, firstCell, bindingsCell, recordOf, Stored, storedInput, storedResolve, storedFactor}
+use Rattle.derivation.proofs.LoadedModels.{stored-once}
+use Rattle.derivation.proofs.Loading.{clause-read}
+use Rattle.derivation.proofs.Origins.{stored-cells}
+use native.Mathlib.Numerals.{add-one}
+use borrow.Author.Tests.{eqb-true, eqb-false}
+
+-- Each binding that is to be put into the array is in range.
+pub all-at : (N B : List ℕ) (m first n k : ℕ) → AllIn N m (bindingsFrom B first n) → k < n → BindingIn N m (bindingAt B (first + k))
+all-at N B m first zero k K h = absurd (omega arith)
+all-at N B m first (suc n) k K h = try (eqb k n) refl (λ l. all-at N B m first n k (K .1) l)
+  where
+    try : (b : Bool) → eqb k n ≡ b → (k < n → BindingIn N m (bindingAt B (first + k))) → BindingIn N m (bindingAt B (first + k))
+    try true q more = subst (λ (j : ℕ). BindingIn N m (bindingAt B (first + j))) (sym (eqb-true k n q)) (K .0)
+    try false q more = let d = eqb-false k n q in more (omega arith)
+
+-- One binding more.
+pub put-one : (N B A : List ℕ) (o first k : ℕ) {A₁ A₂ : List ℕ} {v i t j at : ℕ} → A₁ ≡ putBindings N o (bindingsFrom B first k) A
+    → v ≡ getD B (4 * (first + k)) 0 → i ≡ getD B (4 * (first + k) + 1) 0 → t ≡ getD B (4 * (first + k) + 2) 0 → j ≡ getD B (4 * (first + k) + 3) 0
+    → at ≡ slot N v (o + i) → A₂ ≡ put A₁ at (t + 1) (o + j) → A₂ ≡ putBindings N o (bindingsFrom B first (k + 1)) A
+put-one N B A o first k q pv pi pt pj pa q′ =
+    rw add-one (q′ ∙ (λ x. put (q x) ((pa ∙ ap₂ (λ (r h : ℕ). slot N r (o + h)) pv pi) x) (pt x + 1) (o + pj x)))
+
+-- Where the parents of a stored clause are, and what loading them asks.
+module _ {F C B N A : List ℕ} {c o rc u p : ℕ} {w : List ℕ} (L : Loadable F C B N A c o) (pr : rc ≡ recordCell C c) (pw : w ≡ recordPart F rc) (pu : u ≡ kindOf w) (pp : p ≡ fieldOf w 0) where
+  whole : w ≡ recordPart F (recordCell C c)
+  whole = pw ∙ ap (recordPart F) pr
+
+  kind-is : {k : ℕ} → u ≡ k → recordOf F C c .kind ≡ k
+  kind-is q = sym (pu ∙ ap kindOf whole) ∙ q
+
+  isLeft : p ≡ fieldA (recordOf F C c)
+  isLeft = pp ∙ ap (λ (y : List ℕ). fieldOf y 0) whole
+
+  pub to-parent : u ≡ 6 → (p < c) × Loadable F C B N A p o
+  to-parent six = try (L .derivation) (L .stored) (L .bindings) (L .fits)
+    where
+      try : (d : Derivation) → Stored F C B c d → BindingsIn N d → o + maximumIndex d ≤ 4096 → (p < c) × Loadable F C B N A p o
+      try d (storedInput k q s) K fits = let z = kind-is six in absurd (omega arith)
+      try d (storedResolve k la sa qa lb sb qb s) K fits = let z = kind-is six in absurd (omega arith)
+      try d (storedFactor {d = e} k l t qa qb s) K fits =
+          let z = isLeft in (
+            omega arith,
+            record { nodes = L .nodes; nodeRoom = L .nodeRoom; room = L .room; derivation = e; stored = subst (λ (k : ℕ). Stored F C B k e) (sym isLeft) t; bindings = K .0; fits = fits },
+          )
+
+  pub from-parent : u ≡ 6 → {A₁ : List ℕ} → Loaded F C B N A A₁ p o → LoadedParents F C B N A A₁ c o
+  from-parent six {A₁} G = record { room = G .room; cells = cells }
+    where
+      cells : (d : Derivation) → Stored F C B c d → A₁ ≡ putParents N o d A
+      cells d (storedInput k q s) = let z = kind-is six in absurd (omega arith)
+      cells d (storedResolve k la sa qa lb sb qb s) = let z = kind-is six in absurd (omega arith)
+      cells d (storedFactor {d = e} k l t qa qb s) = G .cells e (subst (λ (k : ℕ). Stored F C B k e) (sym isLeft) t)
+
+  -- A clause that is neither a resolvent nor a factor has no parents.
+  pub from-none : (u ≡ 5 → ⊥) → (u ≡ 6 → ⊥) → LoadedParents F C B N A A c o
+  from-none no₅ no₆ = record { room = L .room; cells = cells }
+    where
+      cells : (d : Derivation) → Stored F C B c d → A ≡ putParents N o d A
+      cells d (storedInput k q s) = refl
+      cells d (storedResolve k la sa qa lb sb qb s) = absurd (no₅ (pu ∙ ap kindOf whole ∙ k))
+      cells d (storedFactor k l t qa qb s) = absurd (no₆ (pu ∙ ap kindOf whole ∙ k))
+
+  pub to-left : u ≡ 5 → (p < c) × Loadable F C B N A p o
+  to-left five = try (L .derivation) (L .stored) (L .bindings) (L .fits)
+    where
+      try : (d : Derivation) → Stored F C B c d → BindingsIn N d → o + maximumIndex d ≤ 4096 → (p < c) × Loadable F C B N A p o
+      try d (storedInput k q s) K fits = let z = kind-is five in absurd (omega arith)
+      try d (storedFactor k l t qa qb s) K fits = let z = kind-is five in absurd (omega arith)
+      try d (storedResolve {l = l} {r = r} k la sa qa lb sb qb s) K fits =
+          let z = isLeft in (
+            omega arith,
+            record { nodes = L .nodes; nodeRoom = L .nodeRoom; room = L .room; derivation = l; stored = subst (λ (k : ℕ). Stored F C B k l) (sym isLeft) sa; bindings = K .0; fits = omega arith },
+          )
+
+  module _ {q m : ℕ} (five : u ≡ 5) (pq : q ≡ fieldOf w 2) (pm : m ≡ indexCell C p) {A₁ : List ℕ} (G : Loaded F C B N A A₁ p o) where
+    isRight : q ≡ fieldC (recordOf F C c)
+    isRight = pq ∙ ap (λ (y : List ℕ). fieldOf y 2) whole
+
+    left-index : {l : Derivation} → Stored F C B (fieldA (recordOf F C c)) l → m ≡ maximumIndex l
+    left-index {l} t = pm ∙ stored-cells (subst (λ (k : ℕ). Stored F C B k l) (sym isLeft) t) .index
+
+    pub to-right : (q < c) × Loadable F C B N A₁ q (o + m)
+    to-right = try (L .derivation) (L .stored) (L .bindings) (L .fits)
+      where
+        try : (d : Derivation) → Stored F C B c d → BindingsIn N d → o + maximumIndex d ≤ 4096 → (q < c) × Loadable F C B N A₁ q (o + m)
+        try d (storedInput k q₁ s) K fits = let z = kind-is five in absurd (omega arith)
+        try d (storedFactor k l t qa qb s) K fits = let z = kind-is five in absurd (omega arith)
+        try d (storedResolve {l = l} {r = r} k la sa qa lb sb qb s) K fits =
+            let z = isRight in
+            let y = left-index sa in (
+              omega arith,
+              record { nodes = L .nodes; nodeRoom = L .nodeRoom; room = G .room; derivation = r; stored = subst (λ (k : ℕ). Stored F C B k r) (sym isRight) sb; bindings = K .1; fits = omega arith },
+            )
+
+    pub from-both : {A₂ : List ℕ} → Loaded F C B N A₁ A₂ q (o + m) → LoadedParents F C B N A A₂ c o
+    from-both {A₂} H = record { room = H .room; cells = cells }
+      where
+        cells : (d : Derivation) → Stored F C B c d → A₂ ≡ putParents N o d A
+        cells d (storedInput k q₁ s) = let z = kind-is five in absurd (omega arith)
+        cells d (storedFactor k l t qa qb s) = let z = kind-is five in absurd (omega arith)
+        cells d (storedResolve {l = l} {r = r} k la sa qa lb sb qb s) =
+            H .cells r (subst (λ (k : ℕ). Stored F C B k r) (sym isRight) sb)
+            ∙ ap₂ (λ (k : ℕ) (y : List ℕ). putClause N (o + k) r y) (left-index sa) (G .cells l (subst (λ (k : ℕ). Stored F C B k l) (sym isLeft) sa))
+
+-- A clause's bindings are its own over its parents'.
+put-own : (N : List ℕ) (o : ℕ) (d : Derivation) (A : List ℕ) → putBindings N o (ownBindings d) (putParents N o d A) ≡ putClause N o d A
+put-own N o (input ls) A = refl
+put-own N o (resolve l a r b bs) A = refl
+put-own N o (factor d a b bs) A = refl
+
+own-all : (N : List ℕ) (d : Derivation) → BindingsIn N d → AllIn N (maximumIndex d) (ownBindings d)
+own-all N (input ls) K = tt
+own-all N (resolve l a r b bs) K = K .2
+own-all N (factor d a b bs) K = K .1
+
+module _ {F C B N A A₁ : List ℕ} {c o first n : ℕ} (L : Loadable F C B N A c o) (P : LoadedParents F C B N A A₁ c o) (pf : first ≡ firstCell C c) (pn : n ≡ bindingsCell C c) where
+  own-is : {d : Derivation} → Stored F C B c d → bindingsFrom B first n ≡ ownBindings d
+  own-is s = ap₂ (bindingsFrom B) pf pn ∙ stored-cells s .own
+
+  pub own-puttable : Puttable B N A₁ first n o
+  own-puttable =
+      record {
+        nodes = L .nodes;
+        nodeRoom = L .nodeRoom;
+        room = P .room;
+        top = maximumIndex (L .derivation);
+        all = subst (AllIn N (maximumIndex (L .derivation))) (sym (own-is (L .stored))) (own-all N (L .derivation) (L .bindings));
+        fits = L .fits;
+      }
+
+  pub own-loaded : {A₂ : List ℕ} → BindingsPut B N A₁ A₂ first n o → Loaded F C B N A A₂ c o
+  own-loaded {A₂} G = record { room = G .room; cells = cells; reads = reads }
+    where
+      cells : (d : Derivation) → Stored F C B c d → A₂ ≡ putClause N o d A
+      cells d s = G .cells ∙ ap₂ (λ (bs : List Binding) (y : List ℕ). putBindings N o bs y) (own-is s) (P .cells d s) ∙ put-own N o d A
+
+      reads : (d : Derivation) → Stored F C B c d → (x : Variable) → InStep N 4096 x → isVariable N (x .0) ≡ true
+          → readCell N A₂ x ≡ orElse (within o (maximumIndex d) (lookup d) x) (readCell N A x)
+      reads d s x g v =
+          let e : L .derivation ≡ d = stored-once (L .stored) s in
+          ap (λ (y : List ℕ). readCell N y x) (cells d s)
+          ∙ clause-read N (L .nodes) d (subst (BindingsIn N) e (L .bindings)) o (subst (λ (k : Derivation). o + maximumIndex k ≤ 4096) e (L .fits)) A (L .room) x g v

@@ -1,0 +1,110 @@
+-- Document 01, "Indices and bindings", by document 000's array of values: every binding that looking up in a clause can find is put
+-- into the array once, the parents' first, with indices raised as on the way back from a right parent.
+use mathlib.Core.Path.{_≡_}
+use mathlib.Core.Bool.{true}
+use mathlib.Core.Option.{Option, none, some}
+use mathlib.Core.List.{List, [], _∷_}
+use Prim.Native.Nat.{ℕ, zero, suc, _+_, _-_, _≤_}
+use lib.Dec.{leb}
+use lib.ListN.{length}
+use Rattle.record.specs.Record.{pick}
+use Rattle.unify.specs.Bindings.{bindingsFrom}
+use Rattle.unify.specs.Environment.{Binding, Environment}
+use Rattle.unify.specs.Nodes.{isVariable, NodesOk}
+use Rattle.unify.specs.Row.{Expression, Variable}
+use Rattle.unify.specs.Values.{slot, put, cellOf, indexOf, InStep}
+use Rattle.derivation.specs.Derivation.{input, Derivation, resolve, factor, maximumIndex, raiseAnswer, lookup}
+use Rattle.derivation.specs.Stored.{Stored}
+
+-- What the array holds for a variable at an index: nothing where the cell is free.
+abbrev pub heldValue : ℕ → ℕ → Option Expression
+heldValue zero i = none
+heldValue (suc r) i = some (r, i)
+
+abbrev pub readCell : List ℕ → List ℕ → Environment
+readCell N A x = heldValue (cellOf N A x) (indexOf N A x)
+
+-- The first answer, or the second where the first is none.
+abbrev pub orElse : Option Expression → Option Expression → Option Expression
+orElse none q = q
+orElse (some e) q = some e
+
+-- An environment moved up by o: an index above o is lowered by o, looked up, and the answer raised again. `within` has nothing past
+-- the m indices that follow o.
+abbrev pub above : ℕ → Environment → Environment
+above o ρ x = pick (leb (x .1) o) none (raiseAnswer o (ρ (x .0, x .1 - o)))
+
+abbrev pub within : ℕ → ℕ → Environment → Environment
+within o m ρ x = pick (leb (x .1) (o + m)) (above o ρ x) none
+
+-- A binding put into the array, its indices raised by o; and several, the oldest first.
+abbrev pub putBinding : List ℕ → ℕ → Binding → List ℕ → List ℕ
+putBinding N o b A = put A (slot N (b .0 .0) (o + b .0 .1)) (b .1 .0 + 1) (o + b .1 .1)
+
+abbrev pub putBindings : List ℕ → ℕ → List Binding → List ℕ → List ℕ
+putBindings N o [] A = A
+putBindings N o (b ∷ bs) A = putBinding N o b (putBindings N o bs A)
+
+-- All bindings of a derivation put into the array: those of its parents, the right one's raised by the left maximum index, then its own.
+abbrev pub putClause : List ℕ → ℕ → Derivation → List ℕ → List ℕ
+putClause N o (input ls) A = A
+putClause N o (resolve l a r b bs) A = putBindings N o bs (putClause N (o + maximumIndex l) r (putClause N o l A))
+putClause N o (factor d a b bs) A = putBindings N o bs (putClause N o d A)
+
+abbrev pub putParents : List ℕ → ℕ → Derivation → List ℕ → List ℕ
+putParents N o (input ls) A = A
+putParents N o (resolve l a r b bs) A = putClause N (o + maximumIndex l) r (putClause N o l A)
+putParents N o (factor d a b bs) A = putClause N o d A
+
+-- A binding of a clause whose maximum index is m: of a variable of the table, to an expression of the table, at indices from 1 to m.
+pub record BindingIn (N : List ℕ) (m : ℕ) (b : Binding) : Type 0 where
+  pub bound : InStep N m (b .0)
+  pub ofVariable : isVariable N (b .0 .0) ≡ true
+  pub value : InStep N m (b .1)
+
+abbrev pub AllIn : List ℕ → ℕ → List Binding → Type 0
+AllIn N m [] = Unit {0}
+AllIn N m (b ∷ bs) = BindingIn N m b × AllIn N m bs
+
+-- So are all bindings of a derivation, each in the clause that owns it.
+abbrev pub BindingsIn : List ℕ → Derivation → Type 0
+BindingsIn N (input ls) = Unit {0}
+BindingsIn N (resolve l a r b bs) = BindingsIn N l × BindingsIn N r × AllIn N (maximumIndex l + maximumIndex r) bs
+BindingsIn N (factor d a b bs) = BindingsIn N d × AllIn N (maximumIndex d) bs
+
+-- What loading clause c at offset o asks: the lengths of node table N and array A, and a derivation that is clause c of the tables, whose
+-- bindings are in range and whose indices, raised by o, are within document 01's limit.
+pub record Loadable (F C B N A : List ℕ) (c o : ℕ) : Type 0 where
+  pub nodes : NodesOk N
+  pub nodeRoom : length N ≡ 32768
+  pub room : length A ≡ 524416
+  pub derivation : Derivation
+  pub stored : Stored F C B c derivation
+  pub bindings : BindingsIn N derivation
+  pub fits : o + maximumIndex derivation ≤ 4096
+
+-- What it says of the array A′ left: every cell, by its definition; and what a variable reads: what is looked up in the clause, and else
+-- what was read before.
+pub record Loaded (F C B N A A′ : List ℕ) (c o : ℕ) : Type 0 where
+  pub room : length A′ ≡ 524416
+  pub cells : (d : Derivation) → Stored F C B c d → A′ ≡ putClause N o d A
+  pub reads : (d : Derivation) → Stored F C B c d → (x : Variable) → InStep N 4096 x → isVariable N (x .0) ≡ true
+      → readCell N A′ x ≡ orElse (within o (maximumIndex d) (lookup d) x) (readCell N A x)
+
+-- The same for the parents alone.
+pub record LoadedParents (F C B N A A′ : List ℕ) (c o : ℕ) : Type 0 where
+  pub room : length A′ ≡ 524416
+  pub cells : (d : Derivation) → Stored F C B c d → A′ ≡ putParents N o d A
+
+-- The bindings of the table that are to be put into the array are in range.
+pub record Puttable (B N A : List ℕ) (first n o : ℕ) : Type 0 where
+  pub nodes : NodesOk N
+  pub nodeRoom : length N ≡ 32768
+  pub room : length A ≡ 524416
+  pub top : ℕ
+  pub all : AllIn N top (bindingsFrom B first n)
+  pub fits : o + top ≤ 4096
+
+pub record BindingsPut (B N A A′ : List ℕ) (first n o : ℕ) : Type 0 where
+  pub room : length A′ ≡ 524416
+  pub cells : A′ ≡ putBindings N o (bindingsFrom B first n) A
