@@ -14,3 +14,4 @@ pub mod Stability
 pub mod Failures
 pub mod Room
 pub mod Edges
+pub mod Clearing

@@ -7,3 +7,4 @@ pub mod Failing
 pub mod Unifier
 pub mod Nodes
 pub mod Values
+pub mod Clearing
