@@ -7,3 +7,6 @@ pub mod Resolution
 pub mod Refusals
 pub mod Demanded
 pub mod CasesProved
+pub mod ClearedCells
+pub mod FieldLaws
+pub mod NodeLaws
