@@ -12,3 +12,6 @@ pub mod Tabled
 pub mod Advance
 pub mod NodeTable
 pub mod Filling
+pub mod ClearedCells
+pub mod FieldLaws
+pub mod NodeLaws

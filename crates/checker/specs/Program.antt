@@ -3,12 +3,14 @@ use mathlib.Core.Bool.{Bool, true, false, _&&_, not}
 use mathlib.Core.Option.{Option, none, some}
 use mathlib.Core.List.{List, [], _∷_, _++_}
 use Prim.Native.Nat.{ℕ, zero, suc, _+_, _-_, _*_}
-use lib.Dec.{ltb}
+use lib.Dec.{eqb, ltb}
 use lib.ListN.{getD, take, drop, set, replicate}
-use Rattle.record.specs.Record.{pick, recordPart, countOf, fieldsOf}
+use Rattle.record.specs.Record.{pick, Record, recordPart, countOf, fieldsOf}
 use Rattle.unify.specs.Nodes.{isVariable, part}
 use Rattle.derivation.specs.Derivation.{literals, RowLiteral}
-use Rattle.checker.specs.Refusal.{equalLists}
+use Rattle.checker.specs.Refusal.{zeros, equalLists}
+use Rattle.checker.specs.declared.fields.Arity.{Arity}
+use Rattle.checker.specs.declared.fields.Arity.the-variants.{Is, Missing}
 
 -- Cells from `from` up to `to` set to zero.
 abbrev pub clearedPart : ℕ → ℕ → List ℕ → List ℕ
@@ -44,3 +46,12 @@ arityIn F symbols n s = pick (ltb s n) (some (countOf (recordPart F (getD symbol
 abbrev pub noVariable : List ℕ → List RowLiteral → Bool
 noVariable N [] = true
 noVariable N (l ∷ ls) = not (isVariable N (l .1)) && noVariable N ls
+
+-- The arity as the program answers it.
+abbrev pub arityAnswer : Option ℕ → Arity
+arityAnswer none = Missing
+arityAnswer (some n) = Is n
+
+-- Byte 1 of a step is zero, and so are the fields that it does not use.
+abbrev pub stepInRange : ℕ → Record → Bool
+stepInRange used r = eqb (r .count) 0 && zeros (drop used (r .fields))
