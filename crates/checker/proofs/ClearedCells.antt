@@ -1,13 +1,14 @@
 -- Cells of a table written one after the other: a part cleared, and the five cells of a clause.
-use mathlib.Core.Path.{_≡_, ap, sym}
+use mathlib.Core.Path.{_≡_, sym, ap}
 use mathlib.Core.List.{List, [], _∷_}
 use Prim.Native.Nat.{ℕ, zero, suc, _+_, _-_, _*_, _≤_, _<_}
+use native.Mathlib.Omega.{arith}
+use lib.ListN.{length, set, take-append-drop}
+use Rattle.derivation.specs.Derivation.{literals}
+use Rattle.checker.specs.Program.{clearedPart, withClauseCells}
 use native.Mathlib.Nat.{not-suc-le-zero, le-of-suc-le-suc}
 use native.Mathlib.Numerals.{add-one}
-use native.Mathlib.Omega.{arith}
 use borrow.Author.Fill.{fill-more}
-use lib.ListN.{length, set, take-append-drop}
-use Rattle.checker.specs.Program.{clearedPart, withClauseCells}
 
 pub cleared-none : (t : List ℕ) (from : ℕ) → t ≡ clearedPart from from t
 cleared-none t from = let e : from - from ≡ 0 = omega arith in rw e (sym (take-append-drop from t))

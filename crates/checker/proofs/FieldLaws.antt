@@ -4,14 +4,15 @@ use mathlib.Core.Bool.{Bool, true, false, _&&_}
 use mathlib.Core.List.{List, [], _∷_, map}
 use Prim.Native.Nat.{ℕ, zero, suc, _+_, _-_, _/_, _≤_, _<_}
 use native.Mathlib.Omega.{arith}
-use borrow.Author.Tests.{lt-ltb, le-ltb, le-leb, lt-leb, eq-eqb, ne-eqb}
 use lib.Dec.{eqb, leb}
-use lib.ListN.{getD, take, drop, drop-of-length-le}
-use Rattle.record.specs.Record.{decoded, recordPart, kindOf, countOf, fieldOf, fieldsOf, Kind, otherKind, kindNumbered}
+use lib.ListN.{getD, take, drop}
+use borrow.Author.Tests.{eq-eqb, ne-eqb, lt-ltb, le-ltb, le-leb, lt-leb}
+use Rattle.record.specs.Record.{recordPart, kindOf, countOf, fieldOf, fieldsOf, decoded, otherKind, Kind, kindNumbered}
 use Rattle.unify.specs.Nodes.{isVariable}
 use Rattle.derivation.specs.Derivation.{literalOf}
+use Rattle.checker.specs.Program.{arityIn, noVariable, arityAnswer}
 use Rattle.checker.specs.Refusal.{kindOfRecord, zeros, inRange, allBelow}
-use Rattle.checker.specs.Program.{arityIn, arityAnswer, noVariable}
+use lib.ListN.{drop-of-length-le}
 use Rattle.checker.specs.declared.fields.Arity.{Arity}
 use Rattle.checker.specs.declared.fields.Arity.the-variants.{Is, Missing}
 

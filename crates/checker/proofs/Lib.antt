@@ -15,3 +15,4 @@ pub mod Filling
 pub mod ClearedCells
 pub mod FieldLaws
 pub mod NodeLaws
+pub mod Entering

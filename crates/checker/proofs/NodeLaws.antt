@@ -3,15 +3,17 @@ use mathlib.Core.Path.{_≡_, _∙_}
 use mathlib.Core.Bool.{Bool, true, false}
 use mathlib.Core.List.{List, [], _∷_, append-assoc}
 use Prim.Native.Nat.{ℕ, zero, suc, _+_, _-_, _*_, _≤_, _<_}
+use native.Mathlib.Omega.{arith}
+use lib.ListN.{length, getD, take, drop, set}
+use borrow.Author.Tests.{eq-eqb, ne-eqb}
+use Rattle.record.specs.Record.{pick, fieldOf, fieldsOf}
+use Rattle.checker.specs.Program.{nodeCells, nodeAt, withNode, isRepeated}
+use Rattle.checker.specs.Refusal.{equalLists}
+use Rattle.checker.proofs.Standing.{room}
 use native.Mathlib.Nat.{not-suc-le-zero}
 use native.Mathlib.Numerals.{add-one}
-use native.Mathlib.Omega.{arith}
-use borrow.Author.Tests.{eq-eqb, ne-eqb}
-use lib.ListN.{length, getD, take, drop, set, drop-of-length-le}
+use lib.ListN.{drop-of-length-le}
 use lib.Seq.{drop-cons, sets-eq}
-use Rattle.record.specs.Record.{pick, fieldOf, fieldsOf}
-use Rattle.checker.specs.Refusal.{equalLists}
-use Rattle.checker.specs.Program.{nodeCells, nodeAt, withNode, isRepeated}
 
 pub node-written : (N : List ℕ) (r code : ℕ) (p : List ℕ) {a b d e f g h : ℕ} → 8 * r + 8 ≤ length N
     → a ≡ fieldOf p 0 → b ≡ fieldOf p 1 → d ≡ fieldOf p 2 → e ≡ fieldOf p 3 → f ≡ fieldOf p 4 → g ≡ fieldOf p 5 → h ≡ fieldOf p 6

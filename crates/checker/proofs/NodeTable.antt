@@ -18,21 +18,14 @@ use Rattle.unify.proofs.Lists.{Each}
 use Rattle.unify.proofs.Rows.{Below, RowsOk, row-below, row-arities}
 use Rattle.unify.proofs.Tests.{to-T, from-T, both-true, true-not-false}
 use Rattle.derivation.proofs.Literals.{leb-false-lt}
+use Rattle.checker.specs.Progress.{cellsOfRow, nodeList, nodeTableOf}
 use Rattle.checker.specs.Refusal.{equalLists, equalRows, differsFromAll}
 use Rattle.checker.proofs.Advance.{RowFits, Distinct}
 use Rattle.checker.proofs.Inversions.{not-equal}
 use Rattle.checker.proofs.Standing.{room}
 
-abbrev pub cellsOfRow : Row → List ℕ
-cellsOfRow (variable v) = 1 ∷ v ∷ 0 ∷ 0 ∷ 0 ∷ 0 ∷ 0 ∷ 0 ∷ []
-cellsOfRow (application s xs) = (2 + length xs) ∷ s ∷ (xs ++ replicate (6 - length xs) 0)
-
-abbrev pub nodeList : List Row → List ℕ
-nodeList [] = []
-nodeList (w ∷ ws) = nodeList ws ++ cellsOfRow w
-
 abbrev pub NodeTable : List Row → List ℕ → Type 0
-NodeTable ws N = N ≡ nodeList ws ++ replicate (32768 - 8 * length ws) 0
+NodeTable ws N = N ≡ nodeTableOf ws
 
 pub eight : (w : Row) → RowFits w → length (cellsOfRow w) ≡ 8
 eight (variable v) h = refl
@@ -109,7 +102,7 @@ module _ (ws : List Row) (fit : Each RowFits ws) (N : List ℕ) (table : NodeTab
       ap (λ (b : Bool). nodeRowIf N r b) (ne-eqb (getD N (8 * r) 0) 1 (λ z. omega arith))
       ∙ ap₂ application p (ap (λ (n : ℕ). argumentsFrom N r n 1) m ∙ e)
 
-  fits-at : (us : List Row) → Each RowFits us → (r : ℕ) → r < length us → RowFits (rowAt us r)
+  pub fits-at : (us : List Row) → Each RowFits us → (r : ℕ) → r < length us → RowFits (rowAt us r)
   fits-at [] h r l = absurd (omega arith)
   fits-at (u ∷ us) h r l = try (eqb r (length us)) refl (λ m. fits-at us (h .1) r m)
     where
@@ -134,10 +127,10 @@ module _ (ws : List Row) (fit : Each RowFits ws) (N : List ℕ) (table : NodeTab
       try true q = let z = no-node r (leb→le (length ws) r (to-T (leb (length ws) r) q)) in absurd (omega arith)
       try false q = leb-false-lt (length ws) r q
 
-  variable-row : (r : ℕ) → r < length ws → isVariable N r ≡ true → rowAt ws r ≡ variable (part N r 0)
+  pub variable-row : (r : ℕ) → r < length ws → isVariable N r ≡ true → rowAt ws r ≡ variable (part N r 0)
   variable-row r l v = sym (node-row r l) ∙ ap (λ (b : Bool). nodeRowIf N r b) v
 
-  application-row : (r : ℕ) → r < length ws → isVariable N r ≡ false → rowAt ws r ≡ application (part N r 0) (argumentsFrom N r (nodeArity N r) 1)
+  pub application-row : (r : ℕ) → r < length ws → isVariable N r ≡ false → rowAt ws r ≡ application (part N r 0) (argumentsFrom N r (nodeArity N r) 1)
   application-row r l v = sym (node-row r l) ∙ ap (λ (b : Bool). nodeRowIf N r b) v
 
   from-length : (r n m : ℕ) → length (argumentsFrom N r m n) ≡ m

@@ -6,3 +6,4 @@ pub mod Tables
 pub mod Demands
 pub mod Cases
 pub mod Program
+pub mod Progress
