@@ -10,3 +10,4 @@ pub mod CasesProved
 pub mod ClearedCells
 pub mod FieldLaws
 pub mod NodeLaws
+pub mod EntryLaws
