@@ -16,3 +16,4 @@ pub mod ClearedCells
 pub mod FieldLaws
 pub mod NodeLaws
 pub mod Entering
+pub mod EntryLaws

@@ -1,14 +1,17 @@
 -- How the program keeps the state of a check: the contracts of its inner functions. No demand needs this file.
 use mathlib.Core.Bool.{Bool, true, false, _&&_, not}
 use mathlib.Core.Option.{Option, none, some}
-use mathlib.Core.List.{List, [], _∷_, _++_}
+use mathlib.Core.List.{List, [], _∷_, _++_, map}
 use Prim.Native.Nat.{ℕ, zero, suc, _+_, _-_, _*_}
 use lib.Dec.{eqb, ltb}
 use lib.ListN.{getD, take, drop, set, replicate}
-use Rattle.record.specs.Record.{pick, Record, recordPart, countOf, fieldsOf}
+use Rattle.record.specs.Record.{pick, Record, recordPart, countOf, fieldOf, fieldsOf, decoded, symbolKind, variableKind, applicationKind, inputKind}
 use Rattle.unify.specs.Nodes.{isVariable, part}
-use Rattle.derivation.specs.Derivation.{literals, RowLiteral}
-use Rattle.checker.specs.Refusal.{zeros, equalLists}
+use Rattle.derivation.specs.Derivation.{literals, RowLiteral, inputLiterals}
+use Rattle.checker.specs.Refusal.{reasonNumber, outOfRange, notThere, repeatedRow, variableLiteral, zeros, inRange, argumentRows, hasArity, allBelow, equalLists}
+use Rattle.checker.specs.declared.entry.Counts.{Counts}
+use Rattle.checker.specs.declared.entry.Entered.{Entered}
+use Rattle.checker.specs.declared.entry.Entered.the-variants.{Stands, Refused}
 use Rattle.checker.specs.declared.fields.Arity.{Arity}
 use Rattle.checker.specs.declared.fields.Arity.the-variants.{Is, Missing}
 
@@ -55,3 +58,79 @@ arityAnswer (some n) = Is n
 -- Byte 1 of a step is zero, and so are the fields that it does not use.
 abbrev pub stepInRange : ℕ → Record → Bool
 stepInRange used r = eqb (r .count) 0 && zeros (drop used (r .fields))
+
+-- One symbol, row or clause more.
+abbrev pub moreSymbols : Counts → Counts
+moreSymbols n = record { symbols = n .symbols + 1; rows = n .rows; clauses = n .clauses; bindings = n .bindings }
+
+abbrev pub moreRows : Counts → Counts
+moreRows n = record { symbols = n .symbols; rows = n .rows + 1; clauses = n .clauses; bindings = n .bindings }
+
+abbrev pub moreClauses : Counts → Counts
+moreClauses n = record { symbols = n .symbols; rows = n .rows; clauses = n .clauses + 1; bindings = n .bindings }
+
+-- Kind 1: the answer, and the table of symbols after it.
+pub record SymbolLeft : Type 0 where
+  pub answer : Entered
+  pub symbols : List ℕ
+
+abbrev pub symbolLeft : Entered → List ℕ → SymbolLeft
+symbolLeft e symbols = record { answer = e; symbols = symbols }
+
+unfoldable pub symbolEntered : List ℕ → ℕ → Counts → List ℕ → SymbolLeft
+symbolEntered part k n symbols =
+    pick (inRange symbolKind (decoded part))
+    (symbolLeft (Stands (moreSymbols n)) (set symbols (n .symbols) k))
+    (symbolLeft (Refused (reasonNumber outOfRange)) symbols)
+
+-- Kinds 2 and 3: the answer, the table of rows and the node table after it.
+pub record RowLeft : Type 0 where
+  pub answer : Entered
+  pub rows : List ℕ
+  pub nodes : List ℕ
+
+abbrev pub rowLeft : Entered → List ℕ → List ℕ → RowLeft
+rowLeft e rows N = record { answer = e; rows = rows; nodes = N }
+
+-- The row's code and fields, if no earlier row has them.
+unfoldable pub rowEntered : List ℕ → ℕ → ℕ → Counts → List ℕ → List ℕ → RowLeft
+rowEntered part k code n rows N =
+    pick (isRepeated N (n .rows) (nodeCells code part))
+    (rowLeft (Refused (reasonNumber repeatedRow)) rows N)
+    (rowLeft (Stands (moreRows n)) (set rows (n .rows) k) (withNode N (n .rows) (nodeCells code part)))
+
+unfoldable pub variableEntered : List ℕ → ℕ → Counts → List ℕ → List ℕ → RowLeft
+variableEntered part k n rows N =
+    pick (inRange variableKind (decoded part))
+    (rowEntered part k 1 n rows N)
+    (rowLeft (Refused (reasonNumber outOfRange)) rows N)
+
+unfoldable pub applicationThere : List ℕ → List ℕ → Counts → List ℕ → Bool
+applicationThere F part n symbols =
+    hasArity (countOf part) (arityIn F symbols (n .symbols) (fieldOf part 0)) && allBelow (n .rows) (argumentRows (decoded part))
+
+unfoldable pub applicationEntered : List ℕ → List ℕ → ℕ → Counts → List ℕ → List ℕ → List ℕ → RowLeft
+applicationEntered F part k n symbols rows N =
+    pick (inRange applicationKind (decoded part))
+    (pick (applicationThere F part n symbols)
+    (rowEntered part k (2 + countOf part) n rows N)
+    (rowLeft (Refused (reasonNumber notThere)) rows N))
+    (rowLeft (Refused (reasonNumber outOfRange)) rows N)
+
+-- Kind 4: the answer, and the table of clauses after it.
+pub record InputLeft : Type 0 where
+  pub answer : Entered
+  pub clauses : List ℕ
+
+abbrev pub inputLeft : Entered → List ℕ → InputLeft
+inputLeft e clauses = record { answer = e; clauses = clauses }
+
+unfoldable pub inputEntered : List ℕ → ℕ → Counts → List ℕ → List ℕ → InputLeft
+inputEntered part k n clauses N =
+    pick (inRange inputKind (decoded part))
+    (pick (allBelow (n .rows) (map (λ l. l .1) (inputLiterals (decoded part))))
+    (pick (noVariable N (inputLiterals (decoded part)))
+    (inputLeft (Stands (moreClauses n)) (withClauseCells clauses (n .clauses) k (countOf part) 1 (n .bindings) 0))
+    (inputLeft (Refused (reasonNumber variableLiteral)) clauses))
+    (inputLeft (Refused (reasonNumber notThere)) clauses))
+    (inputLeft (Refused (reasonNumber outOfRange)) clauses)

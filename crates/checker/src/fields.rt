@@ -5,7 +5,6 @@ use record::field;
 use record::kind;
 use record::record_part;
 ghost use mathlib.Core.Path.{_≡_};
-ghost use mathlib.Core.Bool.{_&&_};
 ghost use mathlib.Core.List.{map};
 ghost use Prim.Native.Nat.{_≤_};
 ghost use lib.ListN.{drop};
@@ -35,7 +34,7 @@ pub fn zeros_from(part: &[u8], from: u8) -> bool
 }
 
 // A symbol has an arity of at most 6 and no fields.
-fn symbol_in_range(part: &[u8]) -> bool
+pub fn symbol_in_range(part: &[u8]) -> bool
     ensures { λ b. ⌜ b ≡ inRange symbolKind (decoded (now (part .entry))) ⌝ }
 {
     if count(part) <= 6 {
@@ -46,7 +45,7 @@ fn symbol_in_range(part: &[u8]) -> bool
 }
 
 // A variable has a number of at most 63 and nothing else.
-fn variable_in_range(part: &[u8]) -> bool
+pub fn variable_in_range(part: &[u8]) -> bool
     ensures { λ b. ⌜ b ≡ inRange variableKind (decoded (now (part .entry))) ⌝ }
 {
     if count(part) != 0 {
@@ -60,7 +59,7 @@ fn variable_in_range(part: &[u8]) -> bool
 }
 
 // An application has at most 6 arguments, after its symbol.
-fn application_in_range(part: &[u8]) -> bool
+pub fn application_in_range(part: &[u8]) -> bool
     ensures { λ b. ⌜ b ≡ inRange applicationKind (decoded (now (part .entry))) ⌝ }
 {
     let n = count(part);
@@ -72,7 +71,7 @@ fn application_in_range(part: &[u8]) -> bool
 }
 
 // An input clause has at most 7 literals.
-fn input_in_range(part: &[u8]) -> bool
+pub fn input_in_range(part: &[u8]) -> bool
     ensures { λ b. ⌜ b ≡ inRange inputKind (decoded (now (part .entry))) ⌝ }
 {
     let n = count(part);
@@ -80,7 +79,7 @@ fn input_in_range(part: &[u8]) -> bool
 }
 
 // A resolve uses four fields, a factor three; byte 1 is zero in both.
-fn step_in_range(part: &[u8], used: u8) -> bool
+pub fn step_in_range(part: &[u8], used: u8) -> bool
     ensures { λ b. ⌜ b ≡ stepInRange used (decoded (now (part .entry))) ⌝ }
 {
     if count(part) == 0 {

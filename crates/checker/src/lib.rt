@@ -1,5 +1,6 @@
 // The check of a proof file. The definitions are in specs/: `Verdict` and `Tables` have what the check answers, and `Program` how
 // this program keeps its state while it reads.
+pub mod entry;
 pub mod fields;
 pub mod rows;
 pub mod tables;
