@@ -64,7 +64,7 @@ read-on S j (x ∷ xs) ys T q = try (step S j x) refl q (λ U p. read-on U (suc 
     try (stands U) e p ih = ih U p ∙ ap (λ (i : ℕ). read T i ys) (suc-add j (length xs) ∙ sym (add-suc j (length xs)))
     try (refused p) e q ih = absurd (no q)
 
-take-next : (k : ℕ) (rs : List Record) (r : Record) (rest : List Record) → drop k rs ≡ r ∷ rest → take (suc k) rs ≡ take k rs ++ (r ∷ [])
+pub take-next : (k : ℕ) (rs : List Record) (r : Record) (rest : List Record) → drop k rs ≡ r ∷ rest → take (suc k) rs ≡ take k rs ++ (r ∷ [])
 take-next zero [] r rest q = absurd (let z : _≡_ {A = ℕ} 0 1 = cc in omega arith)
 take-next zero (x ∷ rs) r rest q = let e : x ≡ r = cc in ap (λ (y : Record). y ∷ []) e
 take-next (suc k) [] r rest q = absurd (let z : _≡_ {A = ℕ} 0 1 = cc in omega arith)
@@ -83,7 +83,7 @@ module _ (F : List ℕ) (k : ℕ) (S : State) (H : Standing F k S) (l : k < reco
   seven : length (rec .fields) ≡ 7
   seven = refl
 
-  read-one : (ys : List Record) → read start 0 (take k (records F) ++ ys) ≡ read S k ys
+  pub read-one : (ys : List Record) → read start 0 (take k (records F) ++ ys) ≡ read S k ys
   read-one ys = read-on start 0 (take k (records F)) ys S (H .before) ∙ ap (λ (i : ℕ). read S i ys) (zero-add (length (take k (records F))) ∙ taken)
 
   module _ (T : State) (q : step S k (decoded (recordPart F k)) ≡ stands T) where

@@ -2,12 +2,12 @@
 use mathlib.Core.Path.{_≡_, sym, ap}
 use mathlib.Core.List.{List, [], _∷_}
 use Prim.Native.Nat.{ℕ, zero, suc, _+_, _-_, _*_, _≤_, _<_}
+use native.Mathlib.Numerals.{add-one}
 use native.Mathlib.Omega.{arith}
 use lib.ListN.{length, set, take-append-drop}
 use Rattle.derivation.specs.Derivation.{literals}
 use Rattle.checker.specs.Program.{clearedPart, withClauseCells}
 use native.Mathlib.Nat.{not-suc-le-zero, le-of-suc-le-suc}
-use native.Mathlib.Numerals.{add-one}
 use borrow.Author.Fill.{fill-more}
 
 pub cleared-none : (t : List ℕ) (from : ℕ) → t ≡ clearedPart from from t

@@ -5,14 +5,16 @@ use mathlib.Core.Option.{Option, none, some}
 use mathlib.Core.List.{List, map}
 use Prim.Native.Nat.{ℕ, _+_, _≤_}
 use native.Mathlib.Omega.{arith}
-use borrow.Author.Tests.{leb-true, eq-eqb, ne-eqb, not-true, not-false}
-use lib.Dec.{leb}
+use lib.Dec.{leb, T}
 use lib.ListN.{drop, set}
+use borrow.Author.Tests.{eq-eqb, ne-eqb}
 use Rattle.record.specs.Record.{pick, countOf, fieldOf, decoded, symbolKind, variableKind, applicationKind, inputKind}
+use Rattle.unify.specs.Nodes.{part}
 use Rattle.unify.proofs.Tests.{both-true}
 use Rattle.derivation.specs.Derivation.{inputLiterals}
+use Rattle.checker.specs.Program.{withClauseCells, nodeCells, withNode, isRepeated, arityIn, noVariable, arityAnswer, moreSymbols, moreRows, moreClauses, symbolLeft, symbolEntered, RowLeft, rowLeft, rowEntered, variableEntered, applicationThere, applicationEntered, inputLeft, inputEntered}
 use Rattle.checker.specs.Refusal.{zeros, inRange, argumentRows, hasArity, allBelow}
-use Rattle.checker.specs.Program.{nodeCells, withNode, withClauseCells, isRepeated, arityIn, noVariable, arityAnswer, moreSymbols, moreRows, moreClauses, symbolLeft, symbolEntered, RowLeft, rowLeft, rowEntered, variableEntered, applicationThere, applicationEntered, inputLeft, inputEntered}
+use borrow.Author.Tests.{leb-true, not-true, not-false}
 use Rattle.checker.specs.declared.entry.Counts.{Counts}
 use Rattle.checker.specs.declared.entry.Entered.the-variants.{Stands, Refused}
 use Rattle.checker.specs.declared.fields.Arity.{Arity}

@@ -17,3 +17,5 @@ pub mod FieldLaws
 pub mod NodeLaws
 pub mod Entering
 pub mod EntryLaws
+pub mod Kept
+pub mod Declaring

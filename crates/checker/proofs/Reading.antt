@@ -30,7 +30,7 @@ stands-not-refused p = let z : _≡_ {A = ℕ} 0 1 = cc in omega arith
 same-state : {S T : State} {p q : Reason} {j k : ℕ} → refusedAt S p j ≡ refusedAt T q k → (S ≡ T) × (p ≡ q) × (j ≡ k)
 same-state e = (cc, cc, cc)
 
-state-more : (n m : ℕ) (S : State) → n ≤ m → StateOk n S → StateOk m S
+pub state-more : (n m : ℕ) (S : State) → n ≤ m → StateOk n S → StateOk m S
 state-more n m S l h = record { rowsOk = h .rowsOk; few = let k = h .few in omega arith; heldOk = h .heldOk; clausesOk = h .clausesOk; inputsOk = h .inputsOk }
 
 pub read-ok : (n : ℕ) (S : State) (k : ℕ) (rs : List Record) → Shaped rs → StateOk n S → StateOk (n + length rs) (stateOf (read S k rs))
