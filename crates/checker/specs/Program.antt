@@ -69,6 +69,8 @@ moreRows n = record { symbols = n .symbols; rows = n .rows + 1; clauses = n .cla
 abbrev pub moreClauses : Counts → Counts
 moreClauses n = record { symbols = n .symbols; rows = n .rows; clauses = n .clauses + 1; bindings = n .bindings }
 
+-- What a record of kind 1 to 4 answers and leaves in the tables that it can change. The tests are in the order of their numbers; a
+-- record that is refused changes nothing.
 -- Kind 1: the answer, and the table of symbols after it.
 pub record SymbolLeft : Type 0 where
   pub answer : Entered
@@ -92,19 +94,21 @@ pub record RowLeft : Type 0 where
 abbrev pub rowLeft : Entered → List ℕ → List ℕ → RowLeft
 rowLeft e rows N = record { answer = e; rows = rows; nodes = N }
 
--- The row's code and fields, if no earlier row has them.
+-- 6: no earlier row has the same code and fields.
 unfoldable pub rowEntered : List ℕ → ℕ → ℕ → Counts → List ℕ → List ℕ → RowLeft
 rowEntered part k code n rows N =
     pick (isRepeated N (n .rows) (nodeCells code part))
     (rowLeft (Refused (reasonNumber repeatedRow)) rows N)
     (rowLeft (Stands (moreRows n)) (set rows (n .rows) k) (withNode N (n .rows) (nodeCells code part)))
 
+-- Kind 2: a variable's code in the node table is 1.
 unfoldable pub variableEntered : List ℕ → ℕ → Counts → List ℕ → List ℕ → RowLeft
 variableEntered part k n rows N =
     pick (inRange variableKind (decoded part))
     (rowEntered part k 1 n rows N)
     (rowLeft (Refused (reasonNumber outOfRange)) rows N)
 
+-- Kind 3: 5, off the tables; and an application's code in the node table is 2 more than the number of its arguments.
 unfoldable pub applicationThere : List ℕ → List ℕ → Counts → List ℕ → Bool
 applicationThere F part n symbols =
     hasArity (countOf part) (arityIn F symbols (n .symbols) (fieldOf part 0)) && allBelow (n .rows) (argumentRows (decoded part))
@@ -125,6 +129,7 @@ pub record InputLeft : Type 0 where
 abbrev pub inputLeft : Entered → List ℕ → InputLeft
 inputLeft e clauses = record { answer = e; clauses = clauses }
 
+-- An input clause has maximum index 1 and no bindings.
 unfoldable pub inputEntered : List ℕ → ℕ → Counts → List ℕ → List ℕ → InputLeft
 inputEntered part k n clauses N =
     pick (inRange inputKind (decoded part))
