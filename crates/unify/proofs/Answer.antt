@@ -21,7 +21,7 @@ onto-nothing (Refused n) B held = refl
 
 filed-low : (B B′ : List ℕ) (held : ℕ) (u : Unified) → Filed B B′ held u → (k : ℕ) → k < 4 * held → getD B′ k 0 ≡ getD B k 0
 filed-low B B′ held (Done w h) a k l = a .low k l
-filed-low B B′ held (Refused n) a k l = a .low k l
+filed-low B B′ held (Refused n) a k l = a .0 .low k l
 
 module _ (N A A′ B B′ : List ℕ) (held : ℕ) (e d : Expression) (u : Unified) (R : Ready N A B held e d) where
   stand : (top : ℕ) (ρ : Environment) → Facing N top A held ρ e d → Stand N top A B held ρ [] held
@@ -29,7 +29,7 @@ module _ (N A A′ B B′ : List ℕ) (held : ℕ) (e d : Expression) (u : Unifi
 
   filed-counted : (top : ℕ) (ρ : Environment) (v : Unified) → Filed B B′ held v → Stands N top A′ B′ held ρ [] held v → Counted B B′ held v
   filed-counted top ρ (Done w h) a s = (a .le, s .few, a .high)
-  filed-counted top ρ (Refused n) a s = tt
+  filed-counted top ρ (Refused n) a s = (a .1, a .0 .past)
 
   pub answered : (w : ℕ) → mostWork ≡ w → Paired N A A′ B B′ held e d w u → Filed B B′ held u → length A′ ≡ 524416 → length B′ ≡ length B → Answered N A A′ B B′ held e d u
   answered w q P a l m =

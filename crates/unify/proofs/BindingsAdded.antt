@@ -13,16 +13,16 @@ use Rattle.unify.specs.Walks.{bindingsOnto}
 use Rattle.unify.proofs.Writing.{length-put}
 
 pub added-none : (B : List ℕ) (h : ℕ) → Added B B h h
-added-none B h = record { le = omega arith; low = λ k l. refl; high = λ k l. refl }
+added-none B h = record { le = omega arith; low = λ k l. refl; high = λ k l. refl; past = λ k l. refl }
 
 pub added-then : {B B₁ B₂ : List ℕ} {h m n : ℕ} → Added B B₁ h m → Added B₁ B₂ m n → Added B B₂ h n
-added-then a b = record { le = let x = a .le in let y = b .le in omega arith; low = λ k l. b .low k (let x = a .le in omega arith) ∙ a .low k l; high = λ k l. b .high k l ∙ a .high k (let y = b .le in omega arith) }
+added-then a b = record { le = let x = a .le in let y = b .le in omega arith; low = λ k l. b .low k (let x = a .le in omega arith) ∙ a .low k l; high = λ k l. b .high k l ∙ a .high k (let y = b .le in omega arith); past = λ k l. b .past k l ∙ a .past k l }
 
 pub added-below : {B B₁ B₂ : List ℕ} {h m : ℕ} → Added B B₁ h m → KeptBelow B₁ B₂ m → KeptBelow B B₂ h
-added-below a b = record { low = λ k l. b .low k (let x = a .le in omega arith) ∙ a .low k l }
+added-below a b = record { low = λ k l. b .low k (let x = a .le in omega arith) ∙ a .low k l; past = λ k l. b .past k l ∙ a .past k l }
 
 pub added-as-below : {B B′ : List ℕ} {h m : ℕ} → Added B B′ h m → KeptBelow B B′ h
-added-as-below a = record { low = a .low }
+added-as-below a = record { low = a .low; past = a .past }
 
 onto-same : (B B′ : List ℕ) (h k : ℕ) (bs : List Binding) → ((n : ℕ) → n < 4 * (h + k) → getD B′ n 0 ≡ getD B n 0) → bindingsOnto B′ h k bs ≡ bindingsOnto B h k bs
 onto-same B B′ h zero bs p = refl
@@ -76,8 +76,8 @@ module _ (B : List ℕ) (h v i t j : ℕ) where
   unfolding push
   push-above k l = put-other B₁ (4 * h + 2) t j k (λ z. omega arith) (λ z. omega arith) ∙ put-other B (4 * h) v i k (λ z. omega arith) (λ z. omega arith)
 
-  pub added-push : Added B (push B h v i t j) h (h + 1)
-  added-push = record { le = omega arith; low = push-other; high = push-above }
+  pub added-push : h < 8192 → Added B (push B h v i t j) h (h + 1)
+  added-push few = record { le = omega arith; low = push-other; high = push-above; past = λ k l. push-above k (omega arith) }
 
   module _ (room : 4 * h + 3 < length B) where
     push-0 : getD (push B h v i t j) (4 * h) 0 ≡ v
@@ -110,5 +110,5 @@ pub length-push : (B : List ℕ) (h v i t j : ℕ) → length (push B h v i t j)
 unfolding push
 length-push B h v i t j = length-put (put B (4 * h) v i) (4 * h + 2) t j ∙ length-put B (4 * h) v i
 
-pub added-by : (B B₂ : List ℕ) (h v i t j : ℕ) → B₂ ≡ push B h v i t j → Added B B₂ h (h + 1)
-added-by B B₂ h v i t j p = subst (λ (z : List ℕ). Added B z h (h + 1)) (sym p) (added-push B h v i t j)
+pub added-by : (B B₂ : List ℕ) (h v i t j : ℕ) → h < 8192 → B₂ ≡ push B h v i t j → Added B B₂ h (h + 1)
+added-by B B₂ h v i t j few p = subst (λ (z : List ℕ). Added B z h (h + 1)) (sym p) (added-push B h v i t j few)

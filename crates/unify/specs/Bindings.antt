@@ -18,12 +18,14 @@ bindingsFrom B first (suc n) = bindingAt B (first + n) ∷ bindingsFrom B first 
 unfoldable pub push : List ℕ → ℕ → ℕ → ℕ → ℕ → ℕ → List ℕ
 push B h v i t j = put (put B (4 * h) v i) (4 * h + 2) t j
 
--- The bindings before h are as they were.
+-- The bindings before h are as they were, and so are the cells past the part of the table that bindings use.
 pub record KeptBelow (B B′ : List ℕ) (h : ℕ) : Type 0 where
   pub low : (k : ℕ) → k < 4 * h → getD B′ k 0 ≡ getD B k 0
+  pub past : (k : ℕ) → 32768 ≤ k → getD B′ k 0 ≡ getD B k 0
 
 -- Bindings were added from h up to m, and no other cell was changed.
 pub record Added (B B′ : List ℕ) (h m : ℕ) : Type 0 where
   pub le : h ≤ m
   pub low : (k : ℕ) → k < 4 * h → getD B′ k 0 ≡ getD B k 0
   pub high : (k : ℕ) → 4 * m ≤ k → getD B′ k 0 ≡ getD B k 0
+  pub past : (k : ℕ) → 32768 ≤ k → getD B′ k 0 ≡ getD B k 0

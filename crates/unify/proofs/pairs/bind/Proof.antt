@@ -1,3 +1,4 @@
+use mathlib.Core.Path.{refl}
 use native.Mathlib.Omega.{arith}
 use Rattle.unify.specs.Walks.{TestLeavesLess}
 use Rattle.unify.proofs.BindingsAdded.{added-none, added-as-below, added-by}
@@ -43,11 +44,11 @@ add-t21 c = search needs
 
 returns : tie.Need-returns
 returns c =
-    (bound-yes _ _ _ _ _ _ _ _ _ (c .before .before .occurs-in .ensures .0) (c .enum-told .given .1), (added-as-below (added-none _ _), tt, c .before .before .occurs-in .ensures .2))
+    (bound-yes _ _ _ _ _ _ _ _ _ (c .before .before .occurs-in .ensures .0) (c .enum-told .given .1), ((added-as-below (added-none _ _), refl), tt, c .before .before .occurs-in .ensures .2))
 
 returns-2 : tie.Need-returns-2
 returns-2 c =
-    (bound-spent _ _ _ _ _ _ _ _ _ (c .before .before .occurs-in .ensures .0) (c .enum-told2 .given .1), (added-as-below (added-none _ _), tt, c .before .before .occurs-in .ensures .2))
+    (bound-spent _ _ _ _ _ _ _ _ _ (c .before .before .occurs-in .ensures .0) (c .enum-told2 .given .1), ((added-as-below (added-none _ _), refl), tt, c .before .before .occurs-in .ensures .2))
 
 same-length : tie.Need-same-length
 same-length c = search needs
@@ -55,11 +56,11 @@ same-length c = search needs
 returns-3 : tie.Need-returns-3
 returns-3 c =
     let d : TestLeavesLess (c .before .before .before .before .before .before .before .before .before .before .before .before .before .before .before .args .work) (No _) = rw (c .before .before .before .before .before .before .before .before .before .before .o .given .1) at (c .before .before .before .before .before .before .before .before .before .before .before .before .occurs-in .ensures .1) in
-    (bound-done _ _ _ _ _ _ _ _ _ (c .before .before .before .before .before .before .before .before .before .before .before .before .occurs-in .ensures .0) _ (c .before .before .before .before .before .before .before .before .before .before .o .given .1) (c .before .before .before .before .before .before .before .before .if1 .taken) _ _ (c .before .before .before .slot-of .ensures .0) (c .before .wrapping-add-u16 .ensures) _ _ (c .write-value .ensures .0) (c .before .before .before .before .before .before .push-binding .ensures), (added-by _ _ _ _ _ _ _ (c .before .before .before .before .before .before .push-binding .ensures), omega arith, c .write-value .ensures .1))
+    (bound-done _ _ _ _ _ _ _ _ _ (c .before .before .before .before .before .before .before .before .before .before .before .before .occurs-in .ensures .0) _ (c .before .before .before .before .before .before .before .before .before .before .o .given .1) (c .before .before .before .before .before .before .before .before .if1 .taken) _ _ (c .before .before .before .slot-of .ensures .0) (c .before .wrapping-add-u16 .ensures) _ _ (c .write-value .ensures .0) (c .before .before .before .before .before .before .push-binding .ensures), (added-by _ _ _ _ _ _ _ (c .before .before .before .before .before .before .before .before .if1 .taken) (c .before .before .before .before .before .before .push-binding .ensures), omega arith, c .write-value .ensures .1))
 
 returns-4 : tie.Need-returns-4
 returns-4 c =
-    (bound-full _ _ _ _ _ _ _ _ _ (c .before .before .before .before .occurs-in .ensures .0) _ (c .before .before .o .given .1) (c .if1 .left), (added-as-below (added-none _ _), tt, c .before .before .before .before .occurs-in .ensures .2))
+    (bound-full _ _ _ _ _ _ _ _ _ (c .before .before .before .before .occurs-in .ensures .0) _ (c .before .before .o .given .1) (c .if1 .left), ((added-as-below (added-none _ _), refl), tt, c .before .before .before .before .occurs-in .ensures .2))
 
 pub bind-spec : {M : Type 1} → statement M
 bind-spec =
