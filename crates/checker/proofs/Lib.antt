@@ -19,3 +19,4 @@ pub mod Entering
 pub mod EntryLaws
 pub mod Kept
 pub mod Declaring
+pub mod StepLaws

@@ -67,8 +67,8 @@ abbrev pub cellsOf : State → List ℕ → List ℕ → List ℕ → Case
 cellsOf S file answer work = record
     { file = file; answer = answer; symbols = symbolCells S; rows = rowCells S; clauses = clauseCells (S .clauses); bindings = bindingCells (derivations S); work = work }
 
-abbrev pub outcomeOf : List ℕ → Case
-outcomeOf file =
+abbrev pub caseOf : List ℕ → Case
+caseOf file =
     pick (fittingLength (length file))
     (cellsOf (stateOf (ending file)) file (answerNumbers (check file named)) (works start 0 (records file)))
     (cellsOf start file (answerNumbers (check file named)) [])
@@ -205,7 +205,7 @@ cases = caseA ∷ caseB ∷ caseC ∷ caseD ∷ caseE ∷ caseF ∷ caseG ∷ ca
 
 -- The marked cases: the definitions give what is written.
 abbrev pub CasesHold : Type 0
-CasesHold = map (λ c. outcomeOf (c .file)) cases ≡ cases
+CasesHold = map (λ c. caseOf (c .file)) cases ≡ cases
 
 -- B and C, by length: a file of 65,536 bytes passes the length test, and those of 15 and of 65,552 bytes are refused with 1.
 pub record LengthsHold : Type 0 where

@@ -7,3 +7,4 @@ pub mod Demands
 pub mod Cases
 pub mod Program
 pub mod Progress
+pub mod Stepping

@@ -3,4 +3,5 @@
 pub mod entry;
 pub mod fields;
 pub mod rows;
+pub mod inference;
 pub mod tables;
