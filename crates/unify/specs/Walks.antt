@@ -13,7 +13,7 @@ use Rattle.unify.specs.Bindings.{bindingsFrom, KeptBelow, Added}
 use Rattle.unify.specs.Environment.{follow, Binding, Environment, extend, unbound, View, applied, Ends}
 use Rattle.unify.specs.Nodes.{isVariable, part, nodeArity, HasRow, argumentsFrom, nodeRow}
 use Rattle.unify.specs.Row.{Row, Expression}
-use Rattle.unify.specs.Unification.{mostLinks, Failure, occurs, overwork, full, Outcome, unified, failed, Pair, unifying, testing, arguments, argumentPairs, meet, noRoom, testRest, withWork, run}
+use Rattle.unify.specs.Unification.{mostLinks, Failure, occurs, overwork, full, failureNumber, Outcome, unified, failed, Pair, unifying, testing, arguments, argumentPairs, meet, noRoom, testRest, withWork, run}
 use Rattle.unify.specs.Unifying.{failureOf}
 use Rattle.unify.specs.Values.{slot, put, InStep, Models}
 use Rattle.unify.specs.declared.follow.Followed.{Followed}
@@ -127,10 +127,10 @@ abbrev pub LeavesNoMore : ℕ → Unified → Type 0
 LeavesNoMore w (Done l h) = l ≤ w
 LeavesNoMore w (Refused n) = Unit {0}
 
--- What the answer says of the table of bindings, whatever the array stands for.
+-- What the answer says of the table of bindings, whatever the array stands for; and a refusal has a number of the table of failures.
 abbrev pub Filed : List ℕ → List ℕ → ℕ → Unified → Type 0
 Filed B B′ held (Done w h) = Added B B′ held h
-Filed B B′ held (Refused n) = KeptBelow B B′ held
+Filed B B′ held (Refused n) = KeptBelow B B′ held × (failureNumber (failureOf n) ≡ n)
 
 -- The bindings bs with those of the table from `held` on before them.
 abbrev pub bindingsOnto : List ℕ → ℕ → ℕ → List Binding → List Binding

@@ -100,7 +100,7 @@ unify-args-returns : (t : ℕ) → unify-args-lts.Need-returns (unify-args-told 
 unify-args-returns t c =
     let l = c .before .before .before .before .before .before .before .before .before .before .before .loop in
     let k = filed-refused _ _ (l .total) _ _ (c .before .one2 .given .1) (c .before .before .before .before .before .unify-pair .ensures .1 .0) in
-    (match-refused _ _ _ _ _ _ _ _ _ _ _ (l .n) (l .rest) (l .left) (l .total) (l .inv .7) (c .before .before .before .before .before .before .before .before .before .before .loop-test .taken) (l .inv .3) (l .inv .4) _ _ (c .before .before .before .before .before .before .before .before .before .part-of .ensures) (c .before .before .before .before .before .before .before .before .part-of2 .ensures) _ _ _ (c .before .before .before .before .before .unify-pair .ensures .0) _ (c .before .one2 .given .1), (added-below (l .inv .6) k, tt, c .before .before .before .before .before .unify-pair .ensures .1 .2))
+    (match-refused _ _ _ _ _ _ _ _ _ _ _ (l .n) (l .rest) (l .left) (l .total) (l .inv .7) (c .before .before .before .before .before .before .before .before .before .before .loop-test .taken) (l .inv .3) (l .inv .4) _ _ (c .before .before .before .before .before .before .before .before .before .part-of .ensures) (c .before .before .before .before .before .before .before .before .part-of2 .ensures) _ _ _ (c .before .before .before .before .before .unify-pair .ensures .0) _ (c .before .one2 .given .1), ((added-below (l .inv .6) (k .0), k .1), tt, c .before .before .before .before .before .unify-pair .ensures .1 .2))
 
 unify-args-add-n : (t : ℕ) → unify-args-lts.Need-add-n (unify-args-told t) (unify-args-at t) unify-args.Post unify-args-Inv-loop unify-args-μ-loop
 unify-args-add-n t c = search needs
@@ -128,7 +128,7 @@ unify-args-returns-2 t c =
 
 unify-pair-returns : (t : ℕ) → unify-pair-lts.Need-returns (unify-pair-told t) (unify-pair-at t) unify-pair.Post
 unify-pair-returns t c =
-    (paired-spent _ _ _ _ _ _ _ (c .if1 .taken), (added-as-below (added-none _ _), tt, c .before .before .pre .1 .1))
+    (paired-spent _ _ _ _ _ _ _ (c .if1 .taken), ((added-as-below (added-none _ _), refl), tt, c .before .before .pre .1 .1))
 
 unify-pair-sub-left : (t : ℕ) → unify-pair-lts.Need-sub-left (unify-pair-told t) (unify-pair-at t) unify-pair.Post
 unify-pair-sub-left t c = search needs
@@ -178,7 +178,7 @@ unify-pair-part-of-requires-2 t c κs =
 
 unify-pair-returns-3 : (t : ℕ) → unify-pair-lts.Need-returns-3 (unify-pair-told t) (unify-pair-at t) unify-pair.Post
 unify-pair-returns-3 t c =
-    (paired-clash _ _ _ _ _ _ _ _ _ (c .before .before .before .before .before .before .before .before .before .before .before .before .before .before .before .if1 .left) _ _ (c .before .before .before .before .before .before .before .before .before .before .before .before .before .follow .ensures .0) (c .before .before .before .before .before .before .before .before .before .before .before .follow2 .ensures .0) _ _ _ _ (c .before .before .before .before .before .before .before .before .before .x2 .given .1) (c .before .before .before .before .before .before .y2 .given .1) _ (c .before .before .before .before .is-same .ensures) (c .before .before .before .if2 .left) _ _ (c .before .before .part-of .ensures) (c .before .part-of2 .ensures) (c .if3 .taken), (added-as-below (added-none _ _), tt, c .before .before .before .before .before .before .before .before .before .before .before .follow2 .ensures .1))
+    (paired-clash _ _ _ _ _ _ _ _ _ (c .before .before .before .before .before .before .before .before .before .before .before .before .before .before .before .if1 .left) _ _ (c .before .before .before .before .before .before .before .before .before .before .before .before .before .follow .ensures .0) (c .before .before .before .before .before .before .before .before .before .before .before .follow2 .ensures .0) _ _ _ _ (c .before .before .before .before .before .before .before .before .before .x2 .given .1) (c .before .before .before .before .before .before .y2 .given .1) _ (c .before .before .before .before .is-same .ensures) (c .before .before .before .if2 .left) _ _ (c .before .before .part-of .ensures) (c .before .part-of2 .ensures) (c .if3 .taken), ((added-as-below (added-none _ _), refl), tt, c .before .before .before .before .before .before .before .before .before .before .before .follow2 .ensures .1))
 
 unify-pair-unify-args-requires : (t : ℕ) → unify-pair-lts.Need-unify-args-requires (unify-pair-told t) (unify-pair-at t) unify-pair.Post
 unify-pair-unify-args-requires t c κs =
