@@ -24,3 +24,4 @@ pub mod BindingsAdded
 pub mod Occurrence
 pub mod PairWalk
 pub mod Answer
+pub mod Provided
