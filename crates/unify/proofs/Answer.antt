@@ -1,15 +1,15 @@
 -- What the walk over a pair ensures, put into the terms of unification.
-use mathlib.Core.Path.{_≡_, refl, ap, _∙_}
+use mathlib.Core.Path.{_≡_, refl, ap, _∙_, subst}
 use mathlib.Core.List.{List, [], _∷_, append-nil}
-use Prim.Native.Nat.{ℕ, _-_, _*_, _<_}
+use Prim.Native.Nat.{ℕ, _-_, _*_, _≤_, _<_}
 use native.Mathlib.Nat.{add-zero}
 use lib.ListN.{length, getD}
 use Rattle.unify.specs.Bindings.{bindingsFrom}
 use Rattle.unify.specs.Environment.{Binding, Environment}
 use Rattle.unify.specs.Nodes.{nodeRow}
 use Rattle.unify.specs.Row.{Expression}
-use Rattle.unify.specs.Unification.{mostWork, mostLinks, unified, unifying, noRoom, run}
-use Rattle.unify.specs.Unifying.{outcomeOf, Facing, Ready, Counted, Answered}
+use Rattle.unify.specs.Unification.{unify, mostWork, mostLinks, failureNumber, unified, failed, unifying, noRoom, run}
+use Rattle.unify.specs.Unifying.{failureOf, outcomeOf, Facing, Ready, Counted, Answered}
 use Rattle.unify.specs.Walks.{Filed, outcomeOnto, Stand, Stands, Paired}
 use Rattle.unify.proofs.Machine.{whole}
 use Rattle.unify.specs.declared.pairs.Unified.{Unified}
@@ -42,3 +42,17 @@ module _ (N A A′ B B′ : List ℕ) (held : ℕ) (e d : Expression) (u : Unifi
         before = filed-low B B′ held u a;
         counted = filed-counted (R .top) (R .environment) u a (P (R .top) held (R .environment) [] (stand (R .top) (R .environment) (R .facing)) (R .facing .left) (R .facing .right) .after);
       }
+
+-- What a caller has when it knows the answer.
+module _ (N A A′ B B′ : List ℕ) (held : ℕ) (e d : Expression) (u : Unified) (R : Answered N A A′ B B′ held e d u) where
+  pub answered-done : (w h : ℕ) → u ≡ Done w h → (top : ℕ) (ρ : Environment) → Facing N top A held ρ e d → unify (nodeRow N) held ρ e d ≡ unified (bindingsFrom B′ held (h - held)) w
+  answered-done w h p top ρ F = R .outcome top ρ F ∙ ap (outcomeOf B′ held) p
+
+  pub done-counted : (w h : ℕ) → u ≡ Done w h → (held ≤ h) × (h ≤ 8192) × ((k : ℕ) → 4 * h ≤ k → getD B′ k 0 ≡ getD B k 0)
+  done-counted w h p = subst (Counted B B′ held) p (R .counted)
+
+  pub answered-refused : (n : ℕ) → u ≡ Refused n → (top : ℕ) (ρ : Environment) → Facing N top A held ρ e d → unify (nodeRow N) held ρ e d ≡ failed (failureOf n)
+  answered-refused n p top ρ F = R .outcome top ρ F ∙ ap (outcomeOf B′ held) p
+
+  pub refused-number : (n : ℕ) → u ≡ Refused n → n ≡ failureNumber (failureOf n)
+  refused-number n p = subst (Counted B B′ held) p (R .counted) .0

@@ -12,7 +12,7 @@ use Rattle.record.specs.Record.{pick}
 use Rattle.unify.specs.Environment.{follow, Environment, unbound}
 use Rattle.unify.specs.Nodes.{isVariable, part, nodeArity, argumentsFrom, nodeRowIf, nodeRow}
 use Rattle.unify.specs.Row.{variable, application, Expression}
-use Rattle.unify.specs.Unification.{mostLinks, full}
+use Rattle.unify.specs.Unification.{mostLinks}
 use Rattle.unify.specs.Values.{slot, put, cellOf, indexOf, InStep, Onward, Models}
 use Rattle.unify.specs.Walks.{halved, EndsAt, Walked}
 use Rattle.unify.proofs.Limits.{links-8192}

@@ -25,3 +25,4 @@ pub mod BindingsAdded
 pub mod Occurrence
 pub mod PairWalk
 pub mod Answer
+pub mod Provided

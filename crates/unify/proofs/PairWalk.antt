@@ -11,13 +11,13 @@ use borrow.Author.Tests.{ne-eqb, le-leb, lt-leb}
 use Rattle.record.specs.Record.{pick}
 use Rattle.unify.specs.Bindings.{push, KeptBelow, Added}
 use Rattle.unify.specs.Environment.{Binding, Environment, extend, unbound, applied}
-use Rattle.unify.specs.Nodes.{isVariable, part, nodeArity, HasRow, argumentsFrom, nodeRowIf, nodeRow, NodesOk}
+use Rattle.unify.specs.Nodes.{isVariable, part, nodeArity, HasRow, argumentsFrom, nodeRow, nodeRowIf, NodesOk}
 use Rattle.unify.specs.Row.{Expression, same}
 use Rattle.unify.specs.Unification.{mostLinks, failureNumber, clash, occurs, overwork, Outcome, unified, failed, unifying, testing, goOn, noRoom, withWork, run}
 use Rattle.unify.specs.Unifying.{failureOf}
 use Rattle.unify.specs.Values.{slot, put, InStep, Models}
 use Rattle.unify.specs.Walks.{viewOf, Walked, Follows, absent, broken, testedOf, LeavesLess, LeavesNoMore, thenRun, PairRuns, ArgumentsRun, TestRuns, Looking, Looked, Filed, bindingsOnto, outcomeOnto, Stand, Stands, Settled, isApplication, isOther, Alike, Pairing, Paired, Bound, Met, Argued}
-use Rattle.unify.proofs.BindingsAdded.{added-then, added-below, onto-none, onto-then, onto-push, length-push}
+use Rattle.unify.proofs.BindingsAdded.{onto-none, onto-then, onto-push, length-push}
 use Rattle.unify.proofs.Chains.{Short, short-le, Firm, short-with}
 use Rattle.unify.proofs.Halving.{walked-app, walked-var, walked-ends}
 use Rattle.unify.proofs.Limits.{links-8192, bindings-8192}
@@ -36,10 +36,6 @@ use Rattle.unify.specs.declared.pairs.Unified.the-variants.{Done, Refuse
 pub leaves-less : (w v : ℕ) (u : Unified) → v < w → LeavesNoMore v u → LeavesLess w u
 leaves-less w v (Done l h) p q = omega arith
 leaves-less w v (Refused n) p q = tt
-
-pub filed-then : {B B₁ : List ℕ} {h m : ℕ} (B₂ : List ℕ) (u : Unified) → Added B B₁ h m → Filed B₁ B₂ m u → Filed B B₂ h u
-filed-then B₂ (Done w n) a b = added-then a b
-filed-then B₂ (Refused n) a b = (added-below a (b .0), b .1)
 
 -- In the arguments of v at index a and t at index b: what holds from argument n on, with `left` work left, holds of all.
 module _ (N : List ℕ) (top : ℕ) (A B : List ℕ) (first : ℕ) (base : Environment) (bs : List Binding) (held : ℕ) where

@@ -127,7 +127,7 @@ abbrev pub LeavesNoMore : ℕ → Unified → Type 0
 LeavesNoMore w (Done l h) = l ≤ w
 LeavesNoMore w (Refused n) = Unit {0}
 
--- What the answer says of the table of bindings, whatever the array stands for.
+-- What the answer says of the table of bindings, whatever the array stands for; and a refusal has a number of the table of failures.
 abbrev pub Filed : List ℕ → List ℕ → ℕ → Unified → Type 0
 Filed B B′ held (Done w h) = Added B B′ held h
 Filed B B′ held (Refused n) = KeptBelow B B′ held × (n ≡ failureNumber (failureOf n))

@@ -43,6 +43,7 @@ fn bind(
             if held < 8192 {
                 push_binding(bindings, held, v, i, t, j);
                 let at = slot_of(nodes, v, i);
+                // Rows are below 4,096, so this sum never wraps.
                 write_value(values, at, std::num::wrapping_add_u16(t, 1), j);
                 Unified::Done(left, held + 1)
             } else {
