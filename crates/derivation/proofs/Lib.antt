@@ -11,5 +11,6 @@ pub mod Known
 pub mod Numbers
 pub mod Origins
 pub mod Loading
+pub mod ValidBindings
 pub mod LoadedModels
 pub mod Putting
