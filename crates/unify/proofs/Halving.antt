@@ -14,7 +14,7 @@ use Rattle.unify.specs.Nodes.{isVariable, part, nodeArity, argumentsFrom
 use Rattle.unify.specs.Row.{variable, application, Expression}
 use Rattle.unify.specs.Unification.{mostLinks, full}
 use Rattle.unify.specs.Values.{slot, put, cellOf, indexOf, InStep, Onward, Models}
-use Rattle.unify.specs.Walks.{halved, Walked}
+use Rattle.unify.specs.Walks.{halved, EndsAt, Walked}
 use Rattle.unify.proofs.Limits.{links-8192}
 use Rattle.unify.proofs.Links.{onward-trans, onward-in-step, onward-follow, EndsIn, ends-onward}
 use Rattle.unify.proofs.Meaning.{Ended, follow-ends, follow-unb, follow-appl}
@@ -103,3 +103,7 @@ module _ (N : List ℕ) (top : ℕ) (A : List ℕ) (ρ : Environment) (e : Expre
 
   pub walked-var : Walked N top A ρ e (Variable r i) → (isVariable N r ≡ true) × (ρ (r, i) ≡ none)
   walked-var W = let h : Ended (nodeRow N) ρ (unbound (part N r 0) (r, i)) = rw (W .seen) at (follow-ends (nodeRow N) mostLinks ρ e) in (row-var N r _ (isVariable N r) refl (h .0), h .1)
+
+pub walked-ends : (N : List ℕ) (top : ℕ) (A : List ℕ) (ρ : Environment) (e : Expression) (x : Followed) → Walked N top A ρ e x → EndsAt N ρ x
+walked-ends N top A ρ e (Variable r i) W = walked-var N top A ρ e r i W
+walked-ends N top A ρ e (Application r i) W = walked-app N top A ρ e r i W

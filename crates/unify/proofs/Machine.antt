@@ -8,7 +8,7 @@ use Rattle.record.specs.Record.{pick}
 use Rattle.unify.specs.Environment.{follow, Binding, Environment, extend, unbound, link, View, applied, Ends}
 use Rattle.unify.specs.Row.{Row, Expression, same}
 use Rattle.unify.specs.Unification.{Failure, clash, occurs, overwork, full, Outcome, unified, failed, Pair, Task, unifying, testing, Turn, goOn, stop, arguments, argumentPairs, meet, testRest, testOne, withoutWork, withWork, run}
-use Rattle.unify.specs.Walks.{absent, Tested, broken, thenRun, thenTest, PairRuns, ArgumentsRun, TestRuns, TestsRun, bindOutcome}
+use Rattle.unify.specs.Walks.{absent, Tested, broken, thenRun, thenTest, PairRuns, MeetRuns, ArgumentsRun, TestRuns, TestsRun, bindOutcome}
 use Rattle.unify.proofs.Meaning.{expressionOf}
 use Rattle.unify.proofs.Tests.{from-T}
 
@@ -29,7 +29,7 @@ module _ (row : ℕ → Row) (links : ℕ) (isFull : List Binding → Bool) (bas
   whole n e d r h = h [] ∙ then-nil r
 
   -- One turn, once both sides are followed.
-  pair-turn : (n : ℕ) (bs : List Binding) (e d : Expression) (v w : View) → F bs e ≡ v → F bs d ≡ w → (ps : List Pair) → R (suc n) (unifying bs ((e, d) ∷ ps)) ≡ withWork (λ s. R n s) (suc n) (meet v w bs ps)
+  pub pair-turn : (n : ℕ) (bs : List Binding) (e d : Expression) (v w : View) → F bs e ≡ v → F bs d ≡ w → (ps : List Pair) → R (suc n) (unifying bs ((e, d) ∷ ps)) ≡ withWork (λ s. R n s) (suc n) (meet v w bs ps)
   unfolding run
   pair-turn n bs e d v w p q ps = ap₂ (λ v w. withWork (λ s. R n s) (suc n) (meet v w bs ps)) p q
 
@@ -73,13 +73,12 @@ module _ (row : ℕ → Row) (links : ℕ) (isFull : List Binding → Bool) (bas
       try false = refl
   bind-then (broken r) bs x d ps = refl
 
-  pub pair-left : (n : ℕ) (bs : List Binding) (e d : Expression) (v : ℕ) (e′ : Expression) (w : View) → F bs e ≡ unbound v e′ → F bs d ≡ w → Ends w → same e′ (expressionOf w) ≡ false → (o : Tested) → TestRuns row links isFull base n bs e′ (expressionOf w) (expressionOf w) o → PairRuns row links isFull base (suc n) bs e d (bindOutcome row links isFull base o bs e′ (expressionOf w))
-  pair-left n bs e d v e′ (unbound u d′) p q z y o h ps =
-      pair-turn n bs e d (unbound v e′) (unbound u d′) p q ps
-      ∙ ap (λ b. withWork (λ t. R n t) (suc n) (pick b (goOn (unifying bs ps)) (goOn (testing bs e′ d′ d′ [] ps)))) y
-      ∙ h [] ps ∙ bind-then o bs e′ d′ ps
-  pair-left n bs e d v e′ (applied t ys d′) p q z y o h ps = pair-turn n bs e d (unbound v e′) (applied t ys d′) p q ps ∙ h [] ps ∙ bind-then o bs e′ d′ ps
-  pair-left n bs e d v e′ (link d′) p q z y o h ps = absurd z
+  pub meet-left : (n : ℕ) (bs : List Binding) (v : ℕ) (e′ : Expression) (w : View) → Ends w → same e′ (expressionOf w) ≡ false → (o : Tested) → TestRuns row links isFull base n bs e′ (expressionOf w) (expressionOf w) o
+      → MeetRuns row links isFull base n bs (unbound v e′) w (bindOutcome row links isFull base o bs e′ (expressionOf w))
+  meet-left n bs v e′ (unbound u d′) z y o h ps =
+      ap (λ b. withWork (λ t. R n t) (suc n) (pick b (goOn (unifying bs ps)) (goOn (testing bs e′ d′ d′ [] ps)))) y ∙ h [] ps ∙ bind-then o bs e′ d′ ps
+  meet-left n bs v e′ (applied t ys d′) z y o h ps = h [] ps ∙ bind-then o bs e′ d′ ps
+  meet-left n bs v e′ (link d′) z y o h ps = absurd z
 
   pub pair-right : (n : ℕ) (bs : List Binding) (e d : Expression) (s : ℕ) (xs : List ℕ) (e′ : Expression) (w : ℕ) (d′ : Expression) → F bs e ≡ applied s xs e′ → F bs d ≡ unbound w d′ → (o : Tested) → TestRuns row links isFull base n bs d′ e′ e′ o → PairRuns row links isFull base (suc n) bs e d (bindOutcome row links isFull base o bs d′ e′)
   pair-right n bs e d s xs e′ w d′ p q o h ps = pair-turn n bs e d (applied s xs e′) (unbound w d′) p q ps ∙ h [] ps ∙ bind-then o bs d′ e′ ps

@@ -8,19 +8,20 @@ use lib.Dec.{leb, T}
 use lib.ListN.{length}
 use native.Mathlib.Numerals.{add-one}
 use borrow.Author.Tests.{ne-eqb, le-leb, lt-leb}
+use Rattle.record.specs.Record.{pick}
 use Rattle.unify.specs.Bindings.{push, KeptBelow, Added}
 use Rattle.unify.specs.Environment.{Binding, Environment, extend, unbound, applied}
-use Rattle.unify.specs.Nodes.{isVariable, part, nodeArity, HasRow, argumentsFrom, nodeRowIf, nodeRow, NodesOk}
+use Rattle.unify.specs.Nodes.{isVariable, part, nodeArity, HasRow, argumentsFrom, nodeRow, nodeRowIf, NodesOk}
 use Rattle.unify.specs.Row.{Expression, same}
-use Rattle.unify.specs.Unification.{mostLinks, clash, occurs, overwork, Outcome, unified, failed, noRoom}
+use Rattle.unify.specs.Unification.{mostLinks, clash, occurs, overwork, failureNumber, Outcome, unified, failed, unifying, testing, goOn, noRoom, withWork, run}
 use Rattle.unify.specs.Unifying.{failureOf}
 use Rattle.unify.specs.Values.{slot, put, InStep, Models}
-use Rattle.unify.specs.Walks.{viewOf, Walked, Follows, absent, broken, testedOf, LeavesLess, LeavesNoMore, PairRuns, ArgumentsRun, TestRuns, Looking, Looked, Filed, bindingsOnto, outcomeOnto, Stand, Stands, Settled, isApplication, isOther, Alike, Pairing, Paired, Bound, Argued}
-use Rattle.unify.proofs.BindingsAdded.{added-then, added-below, onto-none, onto-then, onto-push, length-push}
+use Rattle.unify.specs.Walks.{viewOf, Walked, Follows, absent, broken, testedOf, LeavesLess, LeavesNoMore, thenRun, PairRuns, ArgumentsRun, TestRuns, Looking, Looked, Filed, bindingsOnto, outcomeOnto, Stand, Stands, Settled, isApplication, isOther, Alike, Pairing, Paired, Bound, Met, Argued}
+use Rattle.unify.proofs.BindingsAdded.{onto-none, onto-then, onto-push, length-push}
 use Rattle.unify.proofs.Chains.{Short, short-le, Firm, short-with}
-use Rattle.unify.proofs.Halving.{walked-app, walked-var}
+use Rattle.unify.proofs.Halving.{walked-app, walked-var, walked-ends}
 use Rattle.unify.proofs.Limits.{links-8192, bindings-8192}
-use Rattle.unify.proofs.Machine.{pair-spent, pair-same, pair-args, pair-clash, pair-left, pair-right, arguments-none, arguments-next, arguments-failed}
+use Rattle.unify.proofs.Machine.{pair-turn, pair-spent, pair-same, pair-args, pair-clash, meet-left, pair-right, arguments-none, arguments-next, arguments-failed}
 use Rattle.unify.proofs.Meaning.{with}
 use Rattle.unify.proofs.Occurrence.{suc-pred, arg-good, args-eq}
 use Rattle.unify.proofs.Tests.{same-eq, same-refl, true-not-false}
@@ -35,10 +36,6 @@ use Rattle.unify.specs.declared.pairs.Unified.the-variants.{Done, Refuse
 pub leaves-less : (w v : ℕ) (u : Unified) → v < w → LeavesNoMore v u → LeavesLess w u
 leaves-less w v (Done l h) p q = omega arith
 leaves-less w v (Refused n) p q = tt
-
-pub filed-then : {B B₁ : List ℕ} {h m : ℕ} (B₂ : List ℕ) (u : Unified) → Added B B₁ h m → Filed B₁ B₂ m u → Filed B B₂ h u
-filed-then B₂ (Done w n) a b = added-then a b
-filed-then B₂ (Refused n) a b = added-below a b
 
 -- In the arguments of v at index a and t at index b: what holds from argument n on, with `left` work left, holds of all.
 module _ (N : List ℕ) (top : ℕ) (A B : List ℕ) (first : ℕ) (base : Environment) (bs : List Binding) (held : ℕ) where
@@ -96,6 +93,39 @@ module _ (N A A₁ B : List ℕ) (held : ℕ) (x : Expression) (d : Expression) 
       stands : Stand N top A₂ B₂ first base ((x, d) ∷ bs) (held + 1)
       stands = record { models = subst (λ (z : List ℕ). Models N top z (with (extend base bs) x d)) (sym cells) (models-bind N top A₁ (extend base bs) (L′ .models) x gx vx (d .0) (d .1) f gd (short-le (HasRow N) (nodeRow N) (suc held) mostLinks (with (extend base bs) x d) (let l = links-8192 in omega arith) more)); count = let c = S .count in omega arith; few = omega arith; short = rw add-one more; room = rw (ap length pb ∙ length-push B held (x .0) (x .1) (d .0) (d .1)) (S .room) }
 
+-- An unbound variable on the left meets what the right side was followed to.
+module _ (N A B : List ℕ) (held : ℕ) (x : Expression) (y : Followed) (w : ℕ) where
+  differ : (x y : Expression) → same x y ≡ false → ¬ (x ≡ y)
+  differ x y p q = true-not-false (ap (same x) (sym q) ∙ same-refl x) p
+
+  apart : (g b : ℕ) → isVariable N (x .0) ≡ true → isVariable N g ≡ false → (s : Bool) → same x (g, b) ≡ s → s ≡ false
+  apart g b p q false r = refl
+  apart g b p q true r = absurd (true-not-false (ap (λ (c : Expression). isVariable N (c .0)) (sym (same-eq x (g, b) r)) ∙ p) q)
+
+  pub met-same : (t b : ℕ) → y ≡ Variable t b → (s : Bool) → s ≡ same x (t, b) → s ≡ true → Met N A A B B held x y w (Done w held)
+  met-same t b p s q h = subst (λ (z : Followed). Met N A A B B held x z w (Done w held)) (sym p) met
+    where
+      met : Met N A A B B held x (Variable t b) w (Done w held)
+      met top first base bs S gx vx fx gy ey =
+          record { ok = λ ps. ap (λ (c : Bool). withWork (λ s. run (nodeRow N) mostLinks (noRoom first) base w s) (suc w) (pick c (goOn (unifying bs ps)) (goOn (testing bs x (t, b) (t, b) [] ps)))) (sym q ∙ h) ∙ ap (λ (l : List Binding). run (nodeRow N) mostLinks (noRoom first) base w (unifying l ps)) (sym (onto-none B held bs)); after = subst (λ (z : List Binding). Stand N top A B first base z held) (sym (onto-none B held bs)) S }
+
+  module _ (A′ B′ : List ℕ) (u : Unified) where
+    pub met-other : (t b : ℕ) → y ≡ Variable t b → (s : Bool) → s ≡ same x (t, b) → s ≡ false → Bound N A A′ B B′ held x (t, b) w u → Met N A A′ B B′ held x y w u
+    met-other t b p s q h K = subst (λ (z : Followed). Met N A A′ B B′ held x z w u) (sym p) met
+      where
+        met : Met N A A′ B B′ held x (Variable t b) w u
+        met top first base bs S gx vx fx gy ey =
+            let k = K top first base bs S gx vx gy fx (isOther (ey .0) (ey .1) (λ z. differ x (t, b) (sym q ∙ h) (sym z))) in
+            record { ok = λ ps. meet-left (nodeRow N) mostLinks (noRoom first) base w bs (part N (x .0) 0) x (unbound (part N t 0) (t, b)) tt (sym q ∙ h) (k .tested) (k .ok) ps ∙ ap (λ (r : Outcome). thenRun (nodeRow N) mostLinks (noRoom first) base r ps) (k .res); after = k .after }
+
+    pub met-application : (g b : ℕ) → y ≡ Application g b → Bound N A A′ B B′ held x (g, b) w u → Met N A A′ B B′ held x y w u
+    met-application g b p K = subst (λ (z : Followed). Met N A A′ B B′ held x z w u) (sym p) met
+      where
+        met : Met N A A′ B B′ held x (Application g b) w u
+        met top first base bs S gx vx fx gy ey =
+            let k = K top first base bs S gx vx gy fx (isApplication ey) in
+            record { ok = λ ps. meet-left (nodeRow N) mostLinks (noRoom first) base w bs (part N (x .0) 0) x (viewOf N (Application g b)) tt (apart g b vx ey (same x (g, b)) refl) (k .tested) (k .ok) ps ∙ ap (λ (r : Outcome). thenRun (nodeRow N) mostLinks (noRoom first) base r ps) (k .res); after = k .after }
+
 module _ (N A B : List ℕ) (held : ℕ) (e d : Expression) (w : ℕ) where
   pub paired-spent : w ≡ 0 → Paired N A A B B held e d w (Refused 12)
   paired-spent z top first base bs S ge gd = record { ok = subst (λ (n : ℕ). PairRuns (nodeRow N) mostLinks (noRoom first) base n bs e d (failed overwork)) (sym z) (pair-spent (nodeRow N) mostLinks (noRoom first) base bs e d); after = tt }
@@ -118,42 +148,19 @@ module _ (N A B : List ℕ) (held : ℕ) (e d : Expression) (w : ℕ) where
       nothing : PairRuns (nodeRow N) mostLinks (noRoom first) base (suc (w - 1)) bs e d (unified bs (w - 1)) → Pairing N top A₂ B first base bs held e d w (Done (w - 1) held)
       nothing h = record { ok = at-w (unified (bindingsOnto B held (held - held) bs) (w - 1)) (rw (onto-none B held bs) h); after = subst (λ (z : List Binding). Stand N top A₂ B first base z held) (sym (onto-none B held bs)) S₂ }
 
-    pub paired-same-var : (v a t b : ℕ) → f ≡ Variable v a → g ≡ Variable t b → (s : Bool) → s ≡ same (v, a) (t, b) → s ≡ true → Paired N A A₂ B B held e d w (Done (w - 1) held)
-    paired-same-var v a t b pf pg s ps h top first base bs S ge gd =
-        nothing (Variable v a) (Variable t b) pf pg top first base bs S ge gd
-        (pair-same (nodeRow N) mostLinks (noRoom first) base (w - 1) bs e d (unbound (part N v 0) (v, a)) (unbound (part N t 0) (t, b)) (X (Variable v a) (Variable t b) pf pg top first base bs S ge gd .seen) (Y (Variable v a) (Variable t b) pf pg top first base bs S ge gd .seen) tt (same-eq (v, a) (t, b) (sym ps ∙ h)) (λ ps′. rw (sym ps ∙ h)))
-
     pub paired-same-app : (v a t b : ℕ) → f ≡ Application v a → g ≡ Application t b → (s : Bool) → s ≡ same (v, a) (t, b) → s ≡ true → Paired N A A₂ B B held e d w (Done (w - 1) held)
     paired-same-app v a t b pf pg s ps h top first base bs S ge gd =
         nothing (Application v a) (Application t b) pf pg top first base bs S ge gd
         (pair-same (nodeRow N) mostLinks (noRoom first) base (w - 1) bs e d (viewOf N (Application v a)) (viewOf N (Application t b)) (X (Application v a) (Application t b) pf pg top first base bs S ge gd .seen) (Y (Application v a) (Application t b) pf pg top first base bs S ge gd .seen) tt (same-eq (v, a) (t, b) (sym ps ∙ h)) (λ ps′. rw (sym ps ∙ h)))
 
     module _ (A₃ B₃ : List ℕ) (u : Unified) where
-      pub paired-vars : (v a t b : ℕ) → f ≡ Variable v a → g ≡ Variable t b → (s : Bool) → s ≡ same (v, a) (t, b) → s ≡ false → Bound N A₂ A₃ B B₃ held (v, a) (t, b) (w - 1) u → Paired N A A₃ B B₃ held e d w u
-      paired-vars v a t b pf pg s ps h K top first base bs S ge gd =
-          let x = X (Variable v a) (Variable t b) pf pg top first base bs S ge gd in
-          let y = Y (Variable v a) (Variable t b) pf pg top first base bs S ge gd in
+      pub paired-variable : (v a : ℕ) → f ≡ Variable v a → Met N A₂ A₃ B B₃ held (v, a) g (w - 1) u → Paired N A A₃ B B₃ held e d w u
+      paired-variable v a pf K top first base bs S ge gd =
+          let x = X (Variable v a) g pf refl top first base bs S ge gd in
+          let y = Y (Variable v a) g pf refl top first base bs S ge gd in
           let z = walked-var N top A₁ (extend base bs) e v a x in
-          let y′ = walked-var N top A₂ (extend base bs) d t b y in
-          let apart : ¬ (_≡_ {A = Expression} (t, b) (v, a)) = λ q. differ (v, a) (t, b) (sym ps ∙ h) (sym q) in
-          let k = K top first base bs (S₂ (Variable v a) (Variable t b) pf pg top first base bs S ge gd) (x .good) (z .0) (y .good) (z .1) (isOther (y′ .0) (y′ .1) apart) in
-          record { ok = at-w (Variable v a) (Variable t b) pf pg top first base bs S ge gd (outcomeOnto u B₃ held bs) (rw (k .res) at (pair-left (nodeRow N) mostLinks (noRoom first) base (w - 1) bs e d (part N v 0) (v, a) (unbound (part N t 0) (t, b)) (x .seen) (y .seen) tt (sym ps ∙ h) (k .tested) (k .ok))); after = k .after }
-        where
-          differ : (x y : Expression) → same x y ≡ false → ¬ (x ≡ y)
-          differ x y p q = true-not-false (ap (same x) (sym q) ∙ same-refl x) p
-
-      pub paired-left : (v a t b : ℕ) → f ≡ Variable v a → g ≡ Application t b → Bound N A₂ A₃ B B₃ held (v, a) (t, b) (w - 1) u → Paired N A A₃ B B₃ held e d w u
-      paired-left v a t b pf pg K top first base bs S ge gd =
-          let x = X (Variable v a) (Application t b) pf pg top first base bs S ge gd in
-          let y = Y (Variable v a) (Application t b) pf pg top first base bs S ge gd in
-          let z = walked-var N top A₁ (extend base bs) e v a x in
-          let y′ = walked-app N top A₂ (extend base bs) d t b y in
-          let k = K top first base bs (S₂ (Variable v a) (Application t b) pf pg top first base bs S ge gd) (x .good) (z .0) (y .good) (z .1) (isApplication y′) in
-          record { ok = at-w (Variable v a) (Application t b) pf pg top first base bs S ge gd (outcomeOnto u B₃ held bs) (rw (k .res) at (pair-left (nodeRow N) mostLinks (noRoom first) base (w - 1) bs e d (part N v 0) (v, a) (viewOf N (Application t b)) (x .seen) (y .seen) tt (apart (z .0) y′ (same (v, a) (t, b)) refl) (k .tested) (k .ok))); after = k .after }
-        where
-          apart : isVariable N v ≡ true → isVariable N t ≡ false → (s : Bool) → same (v, a) (t, b) ≡ s → s ≡ false
-          apart p q false r = refl
-          apart p q true r = absurd (true-not-false (ap (λ (x : Expression). isVariable N (x .0)) (sym (same-eq (v, a) (t, b) r)) ∙ p) q)
+          let k = K top first base bs (S₂ (Variable v a) g pf refl top first base bs S ge gd) (x .good) (z .0) (z .1) (y .good) (walked-ends N top A₂ (extend base bs) d g y) in
+          record { ok = at-w (Variable v a) g pf refl top first base bs S ge gd (outcomeOnto u B₃ held bs) (λ ps. pair-turn (nodeRow N) mostLinks (noRoom first) base (w - 1) bs e d (unbound (part N v 0) (v, a)) (viewOf N g) (x .seen) (y .seen) ps ∙ k .ok ps); after = k .after }
 
       pub paired-right : (v a t b : ℕ) → f ≡ Application v a → g ≡ Variable t b → Bound N A₂ A₃ B B₃ held (t, b) (v, a) (w - 1) u → Paired N A A₃ B B₃ held e d w u
       paired-right v a t b pf pg K top first base bs S ge gd =
@@ -215,11 +222,11 @@ module _ (N A B : List ℕ) (held v a t b w : ℕ) where
           let o : PairRuns (nodeRow N) mostLinks (noRoom first) base left (bindingsOnto B₁ held (total - held) bs) (c, a) (d, b) (unified (bindingsOnto B₂ held (h - held) bs) l) = subst (λ (z : List Binding). PairRuns (nodeRow N) mostLinks (noRoom first) base left (bindingsOnto B₁ held (total - held) bs) (c, a) (d, b) (unified z l)) j (subst (λ (z : Unified). PairRuns (nodeRow N) mostLinks (noRoom first) base left (bindingsOnto B₁ held (total - held) bs) (c, a) (d, b) (outcomeOnto z B₂ total (bindingsOnto B₁ held (total - held) bs))) p (y .ok)) in
           record { stand = subst (λ (z : List Binding). Stand N top A₂ B₂ first base z h) j (subst (λ (z : Unified). Stands N top A₂ B₂ first base (bindingsOnto B₁ held (total - held) bs) total z) p (y .after)); whole = λ q g. ahead top first base bs S L q (arguments-next (nodeRow N) mostLinks (noRoom first) base left (bindingsOnto B₁ held (total - held) bs) c a d b (argumentsFrom N v (rest - 1) (n + 1)) (argumentsFrom N t (rest - 1) (n + 1)) (bindingsOnto B₂ held (h - held) bs) l q o g) }
 
--- an answer that is hasRow
+-- An answer that is known.
 pub filed-done : (B B′ : List ℕ) (held : ℕ) (u : Unified) (l h : ℕ) → u ≡ Done l h → Filed B B′ held u → Added B B′ held h
 filed-done B B′ held u l h p k = subst (Filed B B′ held) p k
 
-pub filed-refused : (B B′ : List ℕ) (held : ℕ) (u : Unified) (n : ℕ) → u ≡ Refused n → Filed B B′ held u → KeptBelow B B′ held
+pub filed-refused : (B B′ : List ℕ) (held : ℕ) (u : Unified) (n : ℕ) → u ≡ Refused n → Filed B B′ held u → KeptBelow B B′ held × (failureNumber (failureOf n) ≡ n)
 filed-refused B B′ held u n p k = subst (Filed B B′ held) p k
 
 pub less-done : (w : ℕ) (u : Unified) (l h : ℕ) → u ≡ Done l h → LeavesLess w u → l < w

@@ -9,7 +9,7 @@ use Rattle.unify.specs.Bindings.{bindingsFrom}
 use Rattle.unify.specs.Environment.{follow, Environment, Ends}
 use Rattle.unify.specs.Nodes.{HasRow, nodeRow}
 use Rattle.unify.specs.Row.{Expression}
-use Rattle.unify.specs.Unification.{unify, Failure, clash, occurs, overwork, full, Outcome, unified, failed}
+use Rattle.unify.specs.Unification.{unify, Failure, clash, occurs, overwork, full, failureNumber, Outcome, unified, failed}
 use Rattle.unify.specs.Values.{InStep, Models}
 use Rattle.unify.specs.declared.pairs.Unified.{Unified}
 use Rattle.unify.specs.declared.pairs.Unified.the-variants.{Done, Refused}
@@ -41,10 +41,10 @@ pub record Ready (N A B : List ℕ) (held : ℕ) (e d : Expression) : Type 0 whe
   pub environment : Environment
   pub facing : Facing N top A held environment e d
 
--- Bindings were added up to h, and the cells from there on are as they were.
+-- Bindings were added up to h, and the cells from there on are as they were; or the refusal has the number of its failure.
 abbrev pub Counted : List ℕ → List ℕ → ℕ → Unified → Type 0
 Counted B B′ held (Done w h) = (held ≤ h) × (h ≤ 8192) × ((k : ℕ) → 4 * h ≤ k → getD B′ k 0 ≡ getD B k 0)
-Counted B B′ held (Refused n) = Unit {0}
+Counted B B′ held (Refused n) = failureNumber (failureOf n) ≡ n
 
 -- What the caller gets: the outcome of unification in every environment that the array stands for. The table of bindings keeps
 -- its length and the bindings held before; after a refusal the cells from 4 * held on may have been written.

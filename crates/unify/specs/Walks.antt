@@ -5,7 +5,7 @@ use mathlib.Core.Path.{_≡_}
 use mathlib.Core.Bool.{Bool, true, false}
 use mathlib.Core.Option.{none}
 use mathlib.Core.List.{List, _∷_, _++_}
-use Prim.Native.Nat.{ℕ, _+_, _-_, _≤_, _<_}
+use Prim.Native.Nat.{ℕ, suc, _+_, _-_, _≤_, _<_}
 use lib.Dec.{eqb}
 use lib.ListN.{length, getD}
 use Rattle.record.specs.Record.{pick}
@@ -13,7 +13,7 @@ use Rattle.unify.specs.Bindings.{bindingsFrom, KeptBelow, Added}
 use Rattle.unify.specs.Environment.{follow, Binding, Environment, extend, unbound, View, applied, Ends}
 use Rattle.unify.specs.Nodes.{isVariable, part, nodeArity, HasRow, argumentsFrom, nodeRow}
 use Rattle.unify.specs.Row.{Row, Expression}
-use Rattle.unify.specs.Unification.{mostLinks, Failure, occurs, overwork, full, Outcome, unified, failed, Pair, unifying, testing, arguments, argumentPairs, noRoom, testRest, withWork, run}
+use Rattle.unify.specs.Unification.{mostLinks, Failure, occurs, overwork, full, failureNumber, Outcome, unified, failed, Pair, unifying, testing, arguments, argumentPairs, meet, noRoom, testRest, withWork, run}
 use Rattle.unify.specs.Unifying.{failureOf}
 use Rattle.unify.specs.Values.{slot, put, InStep, Models}
 use Rattle.unify.specs.declared.follow.Followed.{Followed}
@@ -35,6 +35,11 @@ endOf (Application r i) = (r, i)
 -- The cells at `at` hold t at index k. Where that is a bound variable, they are set to what its own cells hold.
 unfoldable pub halved : List ℕ → List ℕ → ℕ → ℕ → ℕ → List ℕ
 halved N A at t k = pick (isVariable N t) (pick (eqb (getD A (slot N t k) 0) 0) A (put A at (getD A (slot N t k) 0) (getD A (slot N t k + 1) 0))) A
+
+-- What is known of where following ends.
+abbrev pub EndsAt : List ℕ → Environment → Followed → Type 0
+EndsAt N ρ (Variable r i) = (isVariable N r ≡ true) × (ρ (r, i) ≡ none)
+EndsAt N ρ (Application r i) = isVariable N r ≡ false
 
 -- Following e ended on x, and the array, shortened, still stands for ρ.
 pub record Walked (N : List ℕ) (top : ℕ) (A : List ℕ) (ρ : Environment) (e : Expression) (x : Followed) : Type 0 where
@@ -76,9 +81,12 @@ module _ (row : ℕ → Row) (links : ℕ) (isFull : List Binding → Bool) (bas
   thenTest (absent n) bs x e os ps = withWork (λ s. run row links isFull base n s) 0 (testRest isFull bs x e os ps)
   thenTest (broken r) bs x e os ps = failed r
 
-  -- One pair, and the arguments of two applications.
+  -- One pair, a pair whose sides were followed, and the arguments of two applications.
   abbrev pub PairRuns : ℕ → List Binding → Expression → Expression → Outcome → Type 0
   PairRuns n bs e d r = (ps : List Pair) → run row links isFull base n (unifying bs ((e, d) ∷ ps)) ≡ thenRun r ps
+
+  abbrev pub MeetRuns : ℕ → List Binding → View → View → Outcome → Type 0
+  MeetRuns n bs v w r = (ps : List Pair) → withWork (λ s. run row links isFull base n s) (suc n) (meet v w bs ps) ≡ thenRun r ps
 
   abbrev pub ArgumentsRun : ℕ → List Binding → List ℕ → ℕ → List ℕ → ℕ → Outcome → Type 0
   ArgumentsRun n bs xs i ys j r = (ps : List Pair) → run row links isFull base n (unifying bs (argumentPairs xs i ys j ps)) ≡ thenRun r ps
@@ -119,10 +127,10 @@ abbrev pub LeavesNoMore : ℕ → Unified → Type 0
 LeavesNoMore w (Done l h) = l ≤ w
 LeavesNoMore w (Refused n) = Unit {0}
 
--- What the answer says of the table of bindings, whatever the array stands for.
+-- What the answer says of the table of bindings, whatever the array stands for; and a refusal has a number of the table of failures.
 abbrev pub Filed : List ℕ → List ℕ → ℕ → Unified → Type 0
 Filed B B′ held (Done w h) = Added B B′ held h
-Filed B B′ held (Refused n) = KeptBelow B B′ held
+Filed B B′ held (Refused n) = KeptBelow B B′ held × (failureNumber (failureOf n) ≡ n)
 
 -- The bindings bs with those of the table from `held` on before them.
 abbrev pub bindingsOnto : List ℕ → ℕ → ℕ → List Binding → List Binding
@@ -158,7 +166,8 @@ pub record Alike (N : List ℕ) (top v a t b : ℕ) : Type 0 where
   pub rightRow : isVariable N t ≡ false
   pub symbol : part N v 0 ≡ part N t 0
 
--- The machine at a pair, at a binding to be made, and at the arguments of two applications; and where the step stands afterwards.
+-- The machine at a pair, at a binding to be made, at an unbound variable on the left, and at the arguments of two applications; and
+-- where the step stands afterwards.
 module _ (N : List ℕ) (top : ℕ) (A B : List ℕ) (first : ℕ) (base : Environment) (bs : List Binding) (held : ℕ) where
   pub record Pairing (e d : Expression) (w : ℕ) (u : Unified) : Type 0 where
     pub ok : PairRuns (nodeRow N) mostLinks (noRoom first) base w bs e d (outcomeOnto u B held bs)
@@ -170,6 +179,10 @@ module _ (N : List ℕ) (top : ℕ) (A B : List ℕ) (first : ℕ) (base : Envir
     pub res : bindOutcome (nodeRow N) mostLinks (noRoom first) base tested bs x d ≡ outcomeOnto u B held bs
     pub after : Stands N top A B first base bs held u
 
+  pub record Meeting (x : Expression) (y : Followed) (w : ℕ) (u : Unified) : Type 0 where
+    pub ok : MeetRuns (nodeRow N) mostLinks (noRoom first) base w bs (unbound (part N (x .0) 0) x) (viewOf N y) (outcomeOnto u B held bs)
+    pub after : Stands N top A B first base bs held u
+
   pub record Arguing (v a t b w : ℕ) (u : Unified) : Type 0 where
     pub ok : ArgumentsRun (nodeRow N) mostLinks (noRoom first) base w bs (argumentsFrom N v (nodeArity N v) 1) a (argumentsFrom N t (nodeArity N t) 1) b (outcomeOnto u B held bs)
     pub after : Stands N top A B first base bs held u
@@ -179,6 +192,11 @@ Paired N A A′ B B′ held e d w u = (top first : ℕ) (base : Environment) (bs
 
 abbrev pub Bound : List ℕ → List ℕ → List ℕ → List ℕ → List ℕ → ℕ → Expression → Expression → ℕ → Unified → Type 0
 Bound N A A′ B B′ held x d w u = (top first : ℕ) (base : Environment) (bs : List Binding) → Stand N top A B first base bs held → InStep N top x → isVariable N (x .0) ≡ true → InStep N top d → extend base bs x ≡ none → Settled N (extend base bs) x d → Tying N top A′ B′ first base bs held x d w u
+
+abbrev pub Met : List ℕ → List ℕ → List ℕ → List ℕ → List ℕ → ℕ → Expression → Followed → ℕ → Unified → Type 0
+Met N A A′ B B′ held x y w u =
+    (top first : ℕ) (base : Environment) (bs : List Binding) → Stand N top A B first base bs held → InStep N top x → isVariable N (x .0) ≡ true → extend base bs x ≡ none
+    → InStep N top (endOf y) → EndsAt N (extend base bs) y → Meeting N top A′ B′ first base bs held x y w u
 
 abbrev pub Argued : List ℕ → List ℕ → List ℕ → List ℕ → List ℕ → ℕ → ℕ → ℕ → ℕ → ℕ → ℕ → Unified → Type 0
 Argued N A A′ B B′ held v a t b w u = (top first : ℕ) (base : Environment) (bs : List Binding) → Stand N top A B first base bs held → Alike N top v a t b → Arguing N top A′ B′ first base bs held v a t b w u

@@ -11,7 +11,7 @@ use super::values::slot_of;
 use super::values::write_value;
 ghost use mathlib.Core.Path.{_≡_};
 ghost use lib.ListN.{length};
-ghost use Rattle.unify.specs.Walks.{Paired, Bound, Argued, Filed, LeavesLess, LeavesNoMore};
+ghost use Rattle.unify.specs.Walks.{Paired, Bound, Met, Argued, Filed, LeavesLess, LeavesNoMore};
 
 // The work left and the number of bindings held; or the reason for the refusal, 10 to 13.
 pub enum Unified {
@@ -52,8 +52,36 @@ fn bind(
     }
 }
 
-// Unifies l at index i with r at index j: both are followed first, then compared, and a variable is bound, the left one if
-// both are variables; two applications of one symbol go on with their arguments.
+// Unifies the unbound variable v at index a with what the right side was followed to: nothing is to be done if that is the
+// same variable, and else v is bound to it.
+fn unify_variable(
+    nodes: &[u16; 32768],
+    values: &mut [u16; 524416],
+    bindings: &mut [u16],
+    held: u16,
+    v: u16,
+    a: u16,
+    y: Followed,
+    work: u16,
+) -> Unified
+    requires { ⌜ (length (now nodes) ≡ 32768) × (length (now values) ≡ 524416) ⌝ }
+    ensures { λ u. ⌜ Met (now (nodes .entry)) (now (values .entry)) (now (values .exit)) (now (bindings .entry)) (now (bindings .exit)) held (v, a) y work u ⌝ }
+    ensures { λ u. ⌜ Filed (now (bindings .entry)) (now (bindings .exit)) held u × LeavesNoMore work u × (length (now (values .exit)) ≡ 524416) ⌝ }
+{
+    match y {
+        Followed::Variable(t, b) => {
+            if is_same(v, a, t, b) {
+                Unified::Done(work, held)
+            } else {
+                bind(nodes, values, bindings, held, v, a, t, b, work)
+            }
+        }
+        Followed::Application(g, b) => bind(nodes, values, bindings, held, v, a, g, b, work),
+    }
+}
+
+// Unifies l at index i with r at index j. Both are followed first; then an unbound variable is bound, the left one if both
+// are, and two applications of one symbol go on with their arguments.
 pub fn unify_pair(
     nodes: &[u16; 32768],
     values: &mut [u16; 524416],
@@ -76,26 +104,17 @@ pub fn unify_pair(
     let x = follow(nodes, values, l, i);
     let y = follow(nodes, values, r, j);
     match x {
-        Followed::Variable(v, a) => match y {
-            Followed::Variable(t, b) => {
-                if is_same(v, a, t, b) {
-                    Unified::Done(left, held)
-                } else {
-                    bind(nodes, values, bindings, held, v, a, t, b, left)
-                }
-            }
-            Followed::Application(t, b) => bind(nodes, values, bindings, held, v, a, t, b, left),
-        },
-        Followed::Application(v, a) => match y {
-            Followed::Variable(t, b) => bind(nodes, values, bindings, held, t, b, v, a, left),
-            Followed::Application(t, b) => {
-                if is_same(v, a, t, b) {
+        Followed::Variable(v, a) => unify_variable(nodes, values, bindings, held, v, a, y, left),
+        Followed::Application(f, a) => match y {
+            Followed::Variable(t, b) => bind(nodes, values, bindings, held, t, b, f, a, left),
+            Followed::Application(g, b) => {
+                if is_same(f, a, g, b) {
                     return Unified::Done(left, held);
                 }
-                if part_of(nodes, v, 0) != part_of(nodes, t, 0) {
+                if part_of(nodes, f, 0) != part_of(nodes, g, 0) {
                     return Unified::Refused(10);
                 }
-                unify_args(nodes, values, bindings, held, v, a, t, b, left)
+                unify_args(nodes, values, bindings, held, f, a, g, b, left)
             }
         },
     }
@@ -107,23 +126,23 @@ fn unify_args(
     values: &mut [u16; 524416],
     bindings: &mut [u16],
     held: u16,
-    v: u16,
+    f: u16,
     a: u16,
-    t: u16,
+    g: u16,
     b: u16,
     work: u16,
 ) -> Unified
     requires { ⌜ (length (now nodes) ≡ 32768) × (length (now values) ≡ 524416) ⌝ }
-    ensures { λ u. ⌜ Argued (now (nodes .entry)) (now (values .entry)) (now (values .exit)) (now (bindings .entry)) (now (bindings .exit)) held v a t b work u ⌝ }
+    ensures { λ u. ⌜ Argued (now (nodes .entry)) (now (values .entry)) (now (values .exit)) (now (bindings .entry)) (now (bindings .exit)) held f a g b work u ⌝ }
     ensures { λ u. ⌜ Filed (now (bindings .entry)) (now (bindings .exit)) held u × LeavesNoMore work u × (length (now (values .exit)) ≡ 524416) ⌝ }
 {
     let mut n: u16 = 1;
-    let mut rest = arity_of(nodes, v);
+    let mut rest = arity_of(nodes, f);
     let mut left = work;
     let mut total = held;
     while rest > 0 {
-        let c = part_of(nodes, v, n);
-        let d = part_of(nodes, t, n);
+        let c = part_of(nodes, f, n);
+        let d = part_of(nodes, g, n);
         let one = unify_pair(nodes, values, bindings, total, c, a, d, b, left);
         match one {
             Unified::Done(w, h) => {

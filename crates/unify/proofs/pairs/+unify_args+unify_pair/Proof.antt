@@ -5,7 +5,7 @@ use lib.ListN.{length}
 use Rattle.unify.specs.Nodes.{nodeArity}
 use Rattle.unify.specs.Bindings.{Added}
 use Rattle.unify.proofs.BindingsAdded.{added-none, added-as-below, added-then, added-below}
-use Rattle.unify.proofs.PairWalk.{leaves-less, less-done, filed-done, filed-refused, Matched, paired-spent, paired-same-var, paired-same-app, paired-vars, paired-left, paired-right, paired-args, paired-clash, match-start, match-end, match-refused, match-next}
+use Rattle.unify.proofs.PairWalk.{leaves-less, less-done, filed-done, filed-refused, Matched, paired-spent, paired-variable, paired-same-app, paired-right, paired-args, paired-clash, match-start, match-end, match-refused, match-next}
 use borrow.Author.Needs.{needs}
 use Prim.Native.Nat.{ℕ, _<_}
 use borrow.Fn.Kinds.{In}
@@ -21,6 +21,7 @@ use Rattle.unify.proofs.follow.is_same.Reads as is-same-reads
 use Rattle.unify.proofs.nodes.arity_of.Reads as arity-of-reads
 use Rattle.unify.proofs.nodes.part_of.Reads as part-of-reads
 use Rattle.unify.proofs.pairs.bind.Reads as bind-reads
+use Rattle.unify.proofs.pairs.unify_variable.Reads as unify-variable-reads
 use Rattle.unify.proofs.pairs.+unify_args+unify_pair.{statement}
 use Rattle.unify.proofs.pairs.+unify_args+unify_pair.Tie.{close}
 
@@ -49,11 +50,11 @@ unify-pair-below t =
     and 3 unify-pair-kinds.ps (falls 3 unify-pair-kinds.ps _<_ μ-unify-pair t) unify-pair.Pre
 
 abbrev unify-args-Inv-loop : unify-args-lts.InvT-loop
-unify-args-Inv-loop nodes values₀ bindings₀ held v a t b work n₀ rest₀ left₀ total₀ values bindings n rest left total =
-    (length values ≡ 524416) × (length bindings ≡ length bindings₀) × (left ≤ work) × (1 ≤ n) × (n + rest ≡ nodeArity nodes v + 1) × (n + rest < 65535) × Added bindings₀ bindings held total × Matched nodes values₀ values bindings₀ bindings held v a t b work n rest left total
+unify-args-Inv-loop nodes values₀ bindings₀ held f a g b work n₀ rest₀ left₀ total₀ values bindings n rest left total =
+    (length values ≡ 524416) × (length bindings ≡ length bindings₀) × (left ≤ work) × (1 ≤ n) × (n + rest ≡ nodeArity nodes f + 1) × (n + rest < 65535) × Added bindings₀ bindings held total × Matched nodes values₀ values bindings₀ bindings held f a g b work n rest left total
 
 abbrev unify-args-μ-loop : unify-args-lts.MeasureT-loop
-unify-args-μ-loop nodes values₀ bindings₀ held v a t b work n₀ rest₀ left₀ total₀ values bindings n rest left total =
+unify-args-μ-loop nodes values₀ bindings₀ held f a g b work n₀ rest₀ left₀ total₀ values bindings n rest left total =
     rest
 
 -- what the callees of `unify-args` say, its own calls below t
@@ -62,7 +63,7 @@ unify-args-told t = (arity-of-reads.Asked, arity-of-reads.Learnt, part-of-reads.
 
 -- what the callees of `unify-pair` say, its own calls below t
 abbrev unify-pair-told : ℕ → unify-pair-lts.Claims
-unify-pair-told t = (follow-reads.Asked, follow-reads.Learnt, is-same-reads.Asked, is-same-reads.Learnt, bind-reads.Asked, bind-reads.Learnt, part-of-reads.Asked, part-of-reads.Learnt, unify-args-below t, unify-args.Post)
+unify-pair-told t = (follow-reads.Asked, follow-reads.Learnt, unify-variable-reads.Asked, unify-variable-reads.Learnt, bind-reads.Asked, bind-reads.Learnt, is-same-reads.Asked, is-same-reads.Learnt, part-of-reads.Asked, part-of-reads.Learnt, unify-args-below t, unify-args.Post)
 
 unify-args-arity-of-requires : (t : ℕ) → unify-args-lts.Need-arity-of-requires (unify-args-told t) (unify-args-at t) unify-args.Post unify-args-Inv-loop unify-args-μ-loop
 unify-args-arity-of-requires t c κs =
@@ -99,7 +100,7 @@ unify-args-returns : (t : ℕ) → unify-args-lts.Need-returns (unify-args-told 
 unify-args-returns t c =
     let l = c .before .before .before .before .before .before .before .before .before .before .before .loop in
     let k = filed-refused _ _ (l .total) _ _ (c .before .one2 .given .1) (c .before .before .before .before .before .unify-pair .ensures .1 .0) in
-    (match-refused _ _ _ _ _ _ _ _ _ _ _ (l .n) (l .rest) (l .left) (l .total) (l .inv .7) (c .before .before .before .before .before .before .before .before .before .before .loop-test .taken) (l .inv .3) (l .inv .4) _ _ (c .before .before .before .before .before .before .before .before .before .part-of .ensures) (c .before .before .before .before .before .before .before .before .part-of2 .ensures) _ _ _ (c .before .before .before .before .before .unify-pair .ensures .0) _ (c .before .one2 .given .1), (added-below (l .inv .6) k, tt, c .before .before .before .before .before .unify-pair .ensures .1 .2))
+    (match-refused _ _ _ _ _ _ _ _ _ _ _ (l .n) (l .rest) (l .left) (l .total) (l .inv .7) (c .before .before .before .before .before .before .before .before .before .before .loop-test .taken) (l .inv .3) (l .inv .4) _ _ (c .before .before .before .before .before .before .before .before .before .part-of .ensures) (c .before .before .before .before .before .before .before .before .part-of2 .ensures) _ _ _ (c .before .before .before .before .before .unify-pair .ensures .0) _ (c .before .one2 .given .1), ((added-below (l .inv .6) (k .0), k .1), tt, c .before .before .before .before .before .unify-pair .ensures .1 .2))
 
 unify-args-add-n : (t : ℕ) → unify-args-lts.Need-add-n (unify-args-told t) (unify-args-at t) unify-args.Post unify-args-Inv-loop unify-args-μ-loop
 unify-args-add-n t c = search needs
@@ -127,7 +128,7 @@ unify-args-returns-2 t c =
 
 unify-pair-returns : (t : ℕ) → unify-pair-lts.Need-returns (unify-pair-told t) (unify-pair-at t) unify-pair.Post
 unify-pair-returns t c =
-    (paired-spent _ _ _ _ _ _ _ (c .if1 .taken), (added-as-below (added-none _ _), tt, c .before .before .pre .1 .1))
+    (paired-spent _ _ _ _ _ _ _ (c .if1 .taken), ((added-as-below (added-none _ _), refl), tt, c .before .before .pre .1 .1))
 
 unify-pair-sub-left : (t : ℕ) → unify-pair-lts.Need-sub-left (unify-pair-told t) (unify-pair-at t) unify-pair.Post
 unify-pair-sub-left t c = search needs
@@ -143,42 +144,29 @@ unify-pair-follow-requires-2 t c κs =
 unify-pair-enum-known-x : (t : ℕ) → unify-pair-lts.Need-enum-known-x (unify-pair-told t) (unify-pair-at t) unify-pair.Post
 unify-pair-enum-known-x t c = search needs
 
-unify-pair-enum-known-y : (t : ℕ) → unify-pair-lts.Need-enum-known-y (unify-pair-told t) (unify-pair-at t) unify-pair.Post
-unify-pair-enum-known-y t c = search needs
-
-unify-pair-is-same-requires : (t : ℕ) → unify-pair-lts.Need-is-same-requires (unify-pair-told t) (unify-pair-at t) unify-pair.Post
-unify-pair-is-same-requires t c κs = search needs
-
-unify-pair-bind-requires : (t : ℕ) → unify-pair-lts.Need-bind-requires (unify-pair-told t) (unify-pair-at t) unify-pair.Post
-unify-pair-bind-requires t c κs =
-    (c .before .before .before .before .before .before .before .before .before .before .before .before .before .before .before .before .pre .1 .0, c .before .before .before .before .before .before .before .before .before .before .follow2 .ensures .1)
-
-unify-pair-enum-known-y-2 : (t : ℕ) → unify-pair-lts.Need-enum-known-y-2 (unify-pair-told t) (unify-pair-at t) unify-pair.Post
-unify-pair-enum-known-y-2 t c = search needs
-
-unify-pair-bind-requires-2 : (t : ℕ) → unify-pair-lts.Need-bind-requires-2 (unify-pair-told t) (unify-pair-at t) unify-pair.Post
-unify-pair-bind-requires-2 t c κs =
-    (c .before .before .before .before .before .before .before .before .before .before .before .before .before .before .pre .1 .0, c .before .before .before .before .before .before .before .before .follow2 .ensures .1)
+unify-pair-unify-variable-requires : (t : ℕ) → unify-pair-lts.Need-unify-variable-requires (unify-pair-told t) (unify-pair-at t) unify-pair.Post
+unify-pair-unify-variable-requires t c κs =
+    (c .before .before .before .before .before .before .before .before .before .before .before .pre .1 .0, c .before .before .before .before .before .follow2 .ensures .1)
 
 unify-pair-enum-known-x-2 : (t : ℕ) → unify-pair-lts.Need-enum-known-x-2 (unify-pair-told t) (unify-pair-at t) unify-pair.Post
 unify-pair-enum-known-x-2 t c = search needs
 
-unify-pair-enum-known-y-3 : (t : ℕ) → unify-pair-lts.Need-enum-known-y-3 (unify-pair-told t) (unify-pair-at t) unify-pair.Post
-unify-pair-enum-known-y-3 t c = search needs
+unify-pair-enum-known-y : (t : ℕ) → unify-pair-lts.Need-enum-known-y (unify-pair-told t) (unify-pair-at t) unify-pair.Post
+unify-pair-enum-known-y t c = search needs
 
-unify-pair-bind-requires-3 : (t : ℕ) → unify-pair-lts.Need-bind-requires-3 (unify-pair-told t) (unify-pair-at t) unify-pair.Post
-unify-pair-bind-requires-3 t c κs =
+unify-pair-bind-requires : (t : ℕ) → unify-pair-lts.Need-bind-requires (unify-pair-told t) (unify-pair-at t) unify-pair.Post
+unify-pair-bind-requires t c κs =
     (c .before .before .before .before .before .before .before .before .before .before .before .before .before .before .pre .1 .0, c .before .before .before .before .before .before .before .before .follow2 .ensures .1)
 
-unify-pair-enum-known-y-4 : (t : ℕ) → unify-pair-lts.Need-enum-known-y-4 (unify-pair-told t) (unify-pair-at t) unify-pair.Post
-unify-pair-enum-known-y-4 t c = search needs
+unify-pair-enum-known-y-2 : (t : ℕ) → unify-pair-lts.Need-enum-known-y-2 (unify-pair-told t) (unify-pair-at t) unify-pair.Post
+unify-pair-enum-known-y-2 t c = search needs
 
-unify-pair-is-same-requires-2 : (t : ℕ) → unify-pair-lts.Need-is-same-requires-2 (unify-pair-told t) (unify-pair-at t) unify-pair.Post
-unify-pair-is-same-requires-2 t c κs = search needs
+unify-pair-is-same-requires : (t : ℕ) → unify-pair-lts.Need-is-same-requires (unify-pair-told t) (unify-pair-at t) unify-pair.Post
+unify-pair-is-same-requires t c κs = search needs
 
 unify-pair-returns-2 : (t : ℕ) → unify-pair-lts.Need-returns-2 (unify-pair-told t) (unify-pair-at t) unify-pair.Post
 unify-pair-returns-2 t c =
-    (paired-same-app _ _ _ _ _ _ _ _ _ (c .before .before .before .before .before .before .before .before .before .before .before .before .if1 .left) _ _ (c .before .before .before .before .before .before .before .before .before .before .follow .ensures .0) (c .before .before .before .before .before .before .before .before .follow2 .ensures .0) _ _ _ _ (c .before .before .before .before .before .before .x2 .given .1) (c .before .before .before .y4 .given .1) _ (c .before .is-same2 .ensures) (c .if3 .taken), (added-none _ _, omega arith, c .before .before .before .before .before .before .before .before .follow2 .ensures .1))
+    (paired-same-app _ _ _ _ _ _ _ _ _ (c .before .before .before .before .before .before .before .before .before .before .before .before .if1 .left) _ _ (c .before .before .before .before .before .before .before .before .before .before .follow .ensures .0) (c .before .before .before .before .before .before .before .before .follow2 .ensures .0) _ _ _ _ (c .before .before .before .before .before .before .x2 .given .1) (c .before .before .before .y2 .given .1) _ (c .before .is-same .ensures) (c .if2 .taken), (added-none _ _, omega arith, c .before .before .before .before .before .before .before .before .follow2 .ensures .1))
 
 unify-pair-part-of-requires : (t : ℕ) → unify-pair-lts.Need-part-of-requires (unify-pair-told t) (unify-pair-at t) unify-pair.Post
 unify-pair-part-of-requires t c κs =
@@ -190,43 +178,32 @@ unify-pair-part-of-requires-2 t c κs =
 
 unify-pair-returns-3 : (t : ℕ) → unify-pair-lts.Need-returns-3 (unify-pair-told t) (unify-pair-at t) unify-pair.Post
 unify-pair-returns-3 t c =
-    (paired-clash _ _ _ _ _ _ _ _ _ (c .before .before .before .before .before .before .before .before .before .before .before .before .before .before .before .if1 .left) _ _ (c .before .before .before .before .before .before .before .before .before .before .before .before .before .follow .ensures .0) (c .before .before .before .before .before .before .before .before .before .before .before .follow2 .ensures .0) _ _ _ _ (c .before .before .before .before .before .before .before .before .before .x2 .given .1) (c .before .before .before .before .before .before .y4 .given .1) _ (c .before .before .before .before .is-same2 .ensures) (c .before .before .before .if3 .left) _ _ (c .before .before .part-of .ensures) (c .before .part-of2 .ensures) (c .if4 .taken), (added-as-below (added-none _ _), tt, c .before .before .before .before .before .before .before .before .before .before .before .follow2 .ensures .1))
+    (paired-clash _ _ _ _ _ _ _ _ _ (c .before .before .before .before .before .before .before .before .before .before .before .before .before .before .before .if1 .left) _ _ (c .before .before .before .before .before .before .before .before .before .before .before .before .before .follow .ensures .0) (c .before .before .before .before .before .before .before .before .before .before .before .follow2 .ensures .0) _ _ _ _ (c .before .before .before .before .before .before .before .before .before .x2 .given .1) (c .before .before .before .before .before .before .y2 .given .1) _ (c .before .before .before .before .is-same .ensures) (c .before .before .before .if2 .left) _ _ (c .before .before .part-of .ensures) (c .before .part-of2 .ensures) (c .if3 .taken), ((added-as-below (added-none _ _), refl), tt, c .before .before .before .before .before .before .before .before .before .before .before .follow2 .ensures .1))
 
 unify-pair-unify-args-requires : (t : ℕ) → unify-pair-lts.Need-unify-args-requires (unify-pair-told t) (unify-pair-at t) unify-pair.Post
 unify-pair-unify-args-requires t c κs =
     (omega (arith, c .before .before .before .before .before .before .before .before .before .before .before .before .before .before .before .before .before .before .before .pre .0), (c .before .before .before .before .before .before .before .before .before .before .before .before .before .before .before .before .before .before .before .pre .1 .0, c .before .before .before .before .before .before .before .before .before .before .before .before .before .follow2 .ensures .1))
 
-unify-pair-returns-4 : (t : ℕ) → unify-pair-lts.Need-returns-4 (unify-pair-told t) (unify-pair-at t) unify-pair.Post
-unify-pair-returns-4 t c =
-    (paired-same-var _ _ _ _ _ _ _ _ _ (c .before .before .before .before .before .before .before .before .before .before .before .before .if1 .left) _ _ (c .before .before .before .before .before .before .before .before .before .before .follow .ensures .0) (c .before .before .before .before .before .before .before .before .follow2 .ensures .0) _ _ _ _ (c .before .before .before .before .before .before .x .given .1) (c .before .before .before .y .given .1) _ (c .before .is-same .ensures) (c .if2 .taken), (added-none _ _, omega arith, c .before .before .before .before .before .before .before .before .follow2 .ensures .1))
-
 unify-pair-same-length : (t : ℕ) → unify-pair-lts.Need-same-length (unify-pair-told t) (unify-pair-at t) unify-pair.Post
 unify-pair-same-length t c = search needs
 
-unify-pair-returns-5 : (t : ℕ) → unify-pair-lts.Need-returns-5 (unify-pair-told t) (unify-pair-at t) unify-pair.Post
-unify-pair-returns-5 t c =
-    (paired-vars _ _ _ _ _ _ _ _ _ (c .before .before .before .before .before .before .before .before .before .before .before .before .before .before .before .before .before .if1 .left) _ _ (c .before .before .before .before .before .before .before .before .before .before .before .before .before .before .before .follow .ensures .0) (c .before .before .before .before .before .before .before .before .before .before .before .before .before .follow2 .ensures .0) _ _ _ _ _ _ _ (c .before .before .before .before .before .before .before .before .before .before .before .x .given .1) (c .before .before .before .before .before .before .before .before .y .given .1) _ (c .before .before .before .before .before .before .is-same .ensures) (c .before .before .before .before .before .if2 .left) (c .before .before .bind .ensures .0), (c .before .before .bind .ensures .1 .0, leaves-less _ _ (c .before .before .bind .result) (omega arith) (c .before .before .bind .ensures .1 .1), c .before .before .bind .ensures .1 .2))
+unify-pair-returns-4 : (t : ℕ) → unify-pair-lts.Need-returns-4 (unify-pair-told t) (unify-pair-at t) unify-pair.Post
+unify-pair-returns-4 t c =
+    (paired-variable _ _ _ _ _ _ _ _ _ (c .before .before .before .before .before .before .before .before .before .before .before .before .if1 .left) _ _ (c .before .before .before .before .before .before .before .before .before .before .follow .ensures .0) (c .before .before .before .before .before .before .before .before .follow2 .ensures .0) _ _ _ _ _ (c .before .before .before .before .before .before .x .given .1) (c .before .before .unify-variable .ensures .0), (c .before .before .unify-variable .ensures .1 .0, leaves-less _ _ (c .before .before .unify-variable .result) (omega arith) (c .before .before .unify-variable .ensures .1 .1), c .before .before .unify-variable .ensures .1 .2))
 
 unify-pair-same-length-2 : (t : ℕ) → unify-pair-lts.Need-same-length-2 (unify-pair-told t) (unify-pair-at t) unify-pair.Post
 unify-pair-same-length-2 t c = search needs
 
-unify-pair-returns-6 : (t : ℕ) → unify-pair-lts.Need-returns-6 (unify-pair-told t) (unify-pair-at t) unify-pair.Post
-unify-pair-returns-6 t c =
-    (paired-left _ _ _ _ _ _ _ _ _ (c .before .before .before .before .before .before .before .before .before .before .before .before .before .before .before .if1 .left) _ _ (c .before .before .before .before .before .before .before .before .before .before .before .before .before .follow .ensures .0) (c .before .before .before .before .before .before .before .before .before .before .before .follow2 .ensures .0) _ _ _ _ _ _ _ (c .before .before .before .before .before .before .before .before .before .x .given .1) (c .before .before .before .before .before .before .y2 .given .1) (c .before .before .bind2 .ensures .0), (c .before .before .bind2 .ensures .1 .0, leaves-less _ _ (c .before .before .bind2 .result) (omega arith) (c .before .before .bind2 .ensures .1 .1), c .before .before .bind2 .ensures .1 .2))
+unify-pair-returns-5 : (t : ℕ) → unify-pair-lts.Need-returns-5 (unify-pair-told t) (unify-pair-at t) unify-pair.Post
+unify-pair-returns-5 t c =
+    (paired-right _ _ _ _ _ _ _ _ _ (c .before .before .before .before .before .before .before .before .before .before .before .before .before .before .before .if1 .left) _ _ (c .before .before .before .before .before .before .before .before .before .before .before .before .before .follow .ensures .0) (c .before .before .before .before .before .before .before .before .before .before .before .follow2 .ensures .0) _ _ _ _ _ _ _ (c .before .before .before .before .before .before .before .before .before .x2 .given .1) (c .before .before .before .before .before .before .y .given .1) (c .before .before .bind .ensures .0), (c .before .before .bind .ensures .1 .0, leaves-less _ _ (c .before .before .bind .result) (omega arith) (c .before .before .bind .ensures .1 .1), c .before .before .bind .ensures .1 .2))
 
 unify-pair-same-length-3 : (t : ℕ) → unify-pair-lts.Need-same-length-3 (unify-pair-told t) (unify-pair-at t) unify-pair.Post
 unify-pair-same-length-3 t c = search needs
 
-unify-pair-returns-7 : (t : ℕ) → unify-pair-lts.Need-returns-7 (unify-pair-told t) (unify-pair-at t) unify-pair.Post
-unify-pair-returns-7 t c =
-    (paired-right _ _ _ _ _ _ _ _ _ (c .before .before .before .before .before .before .before .before .before .before .before .before .before .before .before .if1 .left) _ _ (c .before .before .before .before .before .before .before .before .before .before .before .before .before .follow .ensures .0) (c .before .before .before .before .before .before .before .before .before .before .before .follow2 .ensures .0) _ _ _ _ _ _ _ (c .before .before .before .before .before .before .before .before .before .x2 .given .1) (c .before .before .before .before .before .before .y3 .given .1) (c .before .before .bind3 .ensures .0), (c .before .before .bind3 .ensures .1 .0, leaves-less _ _ (c .before .before .bind3 .result) (omega arith) (c .before .before .bind3 .ensures .1 .1), c .before .before .bind3 .ensures .1 .2))
-
-unify-pair-same-length-4 : (t : ℕ) → unify-pair-lts.Need-same-length-4 (unify-pair-told t) (unify-pair-at t) unify-pair.Post
-unify-pair-same-length-4 t c = search needs
-
-unify-pair-returns-8 : (t : ℕ) → unify-pair-lts.Need-returns-8 (unify-pair-told t) (unify-pair-at t) unify-pair.Post
-unify-pair-returns-8 t c =
-    (paired-args _ _ _ _ _ _ _ _ _ (c .before .before .before .before .before .before .before .before .before .before .before .before .before .before .before .before .before .before .before .before .if1 .left) _ _ (c .before .before .before .before .before .before .before .before .before .before .before .before .before .before .before .before .before .before .follow .ensures .0) (c .before .before .before .before .before .before .before .before .before .before .before .before .before .before .before .before .follow2 .ensures .0) _ _ _ _ _ _ _ (c .before .before .before .before .before .before .before .before .before .before .before .before .before .before .x2 .given .1) (c .before .before .before .before .before .before .before .before .before .before .before .y4 .given .1) _ (c .before .before .before .before .before .before .before .before .before .is-same2 .ensures) (c .before .before .before .before .before .before .before .before .if3 .left) _ _ (c .before .before .before .before .before .before .before .part-of .ensures) (c .before .before .before .before .before .before .part-of2 .ensures) (c .before .before .before .before .before .if4 .left) (c .before .before .unify-args .ensures .0), (c .before .before .unify-args .ensures .1 .0, leaves-less _ _ (c .before .before .unify-args .result) (omega (arith, c .before .before .before .before .before .before .before .before .before .before .before .before .before .before .before .before .before .before .before .before .if1 .left)) (c .before .before .unify-args .ensures .1 .1), c .before .before .unify-args .ensures .1 .2))
+unify-pair-returns-6 : (t : ℕ) → unify-pair-lts.Need-returns-6 (unify-pair-told t) (unify-pair-at t) unify-pair.Post
+unify-pair-returns-6 t c =
+    (paired-args _ _ _ _ _ _ _ _ _ (c .before .before .before .before .before .before .before .before .before .before .before .before .before .before .before .before .before .before .before .before .if1 .left) _ _ (c .before .before .before .before .before .before .before .before .before .before .before .before .before .before .before .before .before .before .follow .ensures .0) (c .before .before .before .before .before .before .before .before .before .before .before .before .before .before .before .before .follow2 .ensures .0) _ _ _ _ _ _ _ (c .before .before .before .before .before .before .before .before .before .before .before .before .before .before .x2 .given .1) (c .before .before .before .before .before .before .before .before .before .before .before .y2 .given .1) _ (c .before .before .before .before .before .before .before .before .before .is-same .ensures) (c .before .before .before .before .before .before .before .before .if2 .left) _ _ (c .before .before .before .before .before .before .before .part-of .ensures) (c .before .before .before .before .before .before .part-of2 .ensures) (c .before .before .before .before .before .if3 .left) (c .before .before .unify-args .ensures .0), (c .before .before .unify-args .ensures .1 .0, leaves-less _ _ (c .before .before .unify-args .result) (omega (arith, c .before .before .before .before .before .before .before .before .before .before .before .before .before .before .before .before .before .before .before .before .if1 .left)) (c .before .before .unify-args .ensures .1 .1), c .before .before .unify-args .ensures .1 .2))
 
 pub +unify-args+unify-pair-spec : {M : Type 1} → statement M
 +unify-args+unify-pair-spec = close μ-unify-args μ-unify-pair (λ t. unify-args-lts.spec (
@@ -259,10 +236,12 @@ pub +unify-args+unify-pair-spec : {M : Type 1} → statement M
     λ t. unify-pair-lts.spec (
       follow-reads.Asked,
       follow-reads.Learnt,
-      is-same-reads.Asked,
-      is-same-reads.Learnt,
+      unify-variable-reads.Asked,
+      unify-variable-reads.Learnt,
       bind-reads.Asked,
       bind-reads.Learnt,
+      is-same-reads.Asked,
+      is-same-reads.Learnt,
       part-of-reads.Asked,
       part-of-reads.Learnt,
       unify-args-below t,
@@ -275,27 +254,20 @@ pub +unify-args+unify-pair-spec : {M : Type 1} → statement M
     (unify-pair-follow-requires t)
     (unify-pair-follow-requires-2 t)
     (unify-pair-enum-known-x t)
+    (unify-pair-unify-variable-requires t)
+    (unify-pair-enum-known-x-2 t)
     (unify-pair-enum-known-y t)
-    (unify-pair-is-same-requires t)
     (unify-pair-bind-requires t)
     (unify-pair-enum-known-y-2 t)
-    (unify-pair-bind-requires-2 t)
-    (unify-pair-enum-known-x-2 t)
-    (unify-pair-enum-known-y-3 t)
-    (unify-pair-bind-requires-3 t)
-    (unify-pair-enum-known-y-4 t)
-    (unify-pair-is-same-requires-2 t)
+    (unify-pair-is-same-requires t)
     (unify-pair-returns-2 t)
     (unify-pair-part-of-requires t)
     (unify-pair-part-of-requires-2 t)
     (unify-pair-returns-3 t)
     (unify-pair-unify-args-requires t)
-    (unify-pair-returns-4 t)
     (unify-pair-same-length t)
-    (unify-pair-returns-5 t)
+    (unify-pair-returns-4 t)
     (unify-pair-same-length-2 t)
-    (unify-pair-returns-6 t)
+    (unify-pair-returns-5 t)
     (unify-pair-same-length-3 t)
-    (unify-pair-returns-7 t)
-    (unify-pair-same-length-4 t)
-    (unify-pair-returns-8 t)
+    (unify-pair-returns-6 t)

@@ -1,3 +1,4 @@
+use mathlib.Core.Path.{refl}
 use native.Mathlib.Omega.{arith}
 use Rattle.unify.specs.Walks.{TestLeavesLess}
 use Rattle.unify.proofs.BindingsAdded.{added-none, added-as-below, added-by}
@@ -43,11 +44,11 @@ add-t21 c = search needs
 
 returns : tie.Need-returns
 returns c =
-    (bound-yes _ _ _ _ _ _ _ _ _ (c .before .before .occurs-in .ensures .0) (c .enum-told .given .1), (added-as-below (added-none _ _), tt, c .before .before .occurs-in .ensures .2))
+    (bound-yes _ _ _ _ _ _ _ _ _ (c .before .before .occurs-in .ensures .0) (c .enum-told .given .1), ((added-as-below (added-none _ _), refl), tt, c .before .before .occurs-in .ensures .2))
 
 returns-2 : tie.Need-returns-2
 returns-2 c =
-    (bound-spent _ _ _ _ _ _ _ _ _ (c .before .before .occurs-in .ensures .0) (c .enum-told2 .given .1), (added-as-below (added-none _ _), tt, c .before .before .occurs-in .ensures .2))
+    (bound-spent _ _ _ _ _ _ _ _ _ (c .before .before .occurs-in .ensures .0) (c .enum-told2 .given .1), ((added-as-below (added-none _ _), refl), tt, c .before .before .occurs-in .ensures .2))
 
 same-length : tie.Need-same-length
 same-length c = search needs
@@ -59,7 +60,7 @@ returns-3 c =
 
 returns-4 : tie.Need-returns-4
 returns-4 c =
-    (bound-full _ _ _ _ _ _ _ _ _ (c .before .before .before .before .occurs-in .ensures .0) _ (c .before .before .o .given .1) (c .if1 .left), (added-as-below (added-none _ _), tt, c .before .before .before .before .occurs-in .ensures .2))
+    (bound-full _ _ _ _ _ _ _ _ _ (c .before .before .before .before .occurs-in .ensures .0) _ (c .before .before .o .given .1) (c .if1 .left), ((added-as-below (added-none _ _), refl), tt, c .before .before .before .before .occurs-in .ensures .2))
 
 pub bind-spec : {M : Type 1} → statement M
 bind-spec =
