@@ -34,7 +34,7 @@ KeptIn N m ρ = Kept (VariableIn N m) (InStep N m) ρ
 pub in-larger : {N : List ℕ} {m n : ℕ} {e : Expression} → m ≤ n → InStep N m e → InStep N n e
 in-larger l g = let h = g .high in record { row = g .row; low = g .low; high = omega arith }
 
-in-raised : {N : List ℕ} {n : ℕ} {e : Expression} (m : ℕ) → InStep N n e → InStep N (m + n) (raise m e)
+pub in-raised : {N : List ℕ} {n : ℕ} {e : Expression} (m : ℕ) → InStep N n e → InStep N (m + n) (raise m e)
 in-raised m g = let l = g .low in let h = g .high in record { row = g .row; low = omega arith; high = omega arith }
 
 pub extend-in : (N : List ℕ) (m : ℕ) (ρ : Environment) (bs : List Binding) → AllIn N m bs → KeptIn N m ρ → KeptIn N m (extend ρ bs)
@@ -139,7 +139,7 @@ module _ (N : List ℕ) (T : NodesOk N) (m : ℕ) where
 
 -- So the bindings of a derivation are in range, if the rows of its input clauses are there.
 module _ (N : List ℕ) (T : NodesOk N) (k : ℕ) (there : (r : ℕ) → r < k → HasRow N r) where
-  literal-in : (d : Derivation) → KnownRows k d → (n : ℕ) (l : Literal) → numbered (literals d) n ≡ some l → InStep N (maximumIndex d) (l .1)
+  pub literal-in : (d : Derivation) → KnownRows k d → (n : ℕ) (l : Literal) → numbered (literals d) n ≡ some l → InStep N (maximumIndex d) (l .1)
   literal-in d h n l q =
       let i = each-numbered (LiteralIn (maximumIndex d)) (literals d) n l q (literals-in d) in
       record { row = there (l .1 .0) (known-numbered k d h n l q); low = i .0; high = i .1 }

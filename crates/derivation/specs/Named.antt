@@ -10,7 +10,7 @@ use Rattle.derivation.specs.Stored.{literalsCell, recordOf, Stored}
 use Rattle.derivation.specs.declared.literal.NamedLiteral.{NamedLiteral}
 use Rattle.derivation.specs.declared.literal.NamedLiteral.the-variants.{Found, Absent}
 
--- The answer of the program: a literal's sign, row and index, or that there is none.
+-- The answer of the program: a literal's sign, row and index; or that the clause lacks it, for which a step is refused with 5.
 abbrev pub namedLiteral : Option Literal → NamedLiteral
 namedLiteral none = Absent
 namedLiteral (some l) = Found (l .0) (l .1 .0) (l .1 .1)
