@@ -83,7 +83,6 @@ pub resolve-reads : {F C B N A A₁ A₂ : List ℕ} {c e o top : ℕ} {l r : De
 resolve-reads {N = N} {A = A} {A₁ = A₁} {l = l} {r = r} sl sr po q fits free L L′ x g v =
     let high = g .high in
     let z : maximumIndex l ≡ 0 + maximumIndex l = omega arith in
-    let m : ℕ = maximumIndex l in
     L′ .reads r sr x (in-larger fits g) v
     ∙ ap₂ (λ (k : ℕ) (u : Option Expression). orElse (within k (maximumIndex r) (lookup r) x) u) (po ∙ z) (L .reads l sl x (in-larger fits g) v)
     ∙ within-joined 0 (maximumIndex l) (maximumIndex r) (lookup l) (lookup r) x (readCell N A x)
