@@ -12,5 +12,6 @@ pub mod OwnBindings
 pub mod Numbers
 pub mod Origins
 pub mod Loading
+pub mod ValidBindings
 pub mod LoadedModels
 pub mod Putting

@@ -1,26 +1,28 @@
 -- What a caller has of an array into which the parents of a step have been loaded: it reads exactly what is looked up in them, and so it
 -- stands for their environment.
 use mathlib.Core.Path.{_≡_, refl, sym, ap, ap₂, _∙_, subst}
-use mathlib.Core.Bool.{Bool, true, false}
+use mathlib.Core.Bool.{true}
 use mathlib.Core.Option.{Option, none, some}
-use mathlib.Core.List.{List, [], _∷_}
+use mathlib.Core.List.{List}
 use Prim.Native.Nat.{ℕ, _+_, _-_, _*_, _≤_}
 use native.Mathlib.Omega.{arith}
-use lib.Dec.{leb, T}
+use lib.Dec.{T}
 use lib.ListN.{length}
-use Rattle.record.specs.Record.{pick}
 use Rattle.unify.specs.Clearing.{Cleared}
-use Rattle.unify.specs.Environment.{follow, Binding, Environment, extend, Ends}
+use Rattle.unify.specs.Environment.{follow, Environment, Ends}
 use Rattle.unify.specs.Nodes.{isVariable, HasRow, nodeRow, NodesOk}
-use Rattle.unify.specs.Row.{Expression, Variable, same}
+use Rattle.unify.specs.Row.{Expression, Variable}
 use Rattle.unify.specs.Unification.{mostLinks, full}
+use Rattle.unify.specs.Unifying.{Facing}
 use Rattle.unify.specs.Values.{slot, indexOf, InStep, oneLink, Models}
-use Rattle.unify.proofs.Tests.{some-not-none, some-injective}
-use Rattle.derivation.specs.Derivation.{input, Derivation, resolve, factor, maximumIndex, raiseAnswer, joined, lookup}
-use Rattle.derivation.specs.Loaded.{heldValue, readCell, orElse, within, AllIn, BindingsIn, Loaded}
+use Rattle.unify.proofs.Chains.{Short, short-le}
+use Rattle.unify.proofs.Limits.{links-8192}
+use Rattle.derivation.specs.Derivation.{input, Derivation, resolve, factor, raise, maximumIndex, raiseAnswer, joined, lookup}
+use Rattle.derivation.specs.Loaded.{heldValue, readCell, orElse, within, BindingsIn, Loaded}
 use Rattle.derivation.specs.Stored.{Stored, storedInput, storedResolve, storedFactor}
 use Rattle.derivation.proofs.Loading.{within-joined}
-use borrow.Author.Tests.{le-leb, lt-leb, leb-true, leb-false}
+use Rattle.derivation.proofs.ValidBindings.{in-larger, in-raised, joined-in, lookup-in-step}
+use borrow.Author.Tests.{le-leb, lt-leb}
 
 -- A clause of the tables is one derivation.
 pub stored-once : {F C B : List ℕ} {c : ℕ} {d e : Derivation} → Stored F C B c d → Stored F C B c e → d ≡ e
@@ -38,10 +40,6 @@ stored-once (storedFactor k la sa qa qb s) (storedResolve k′ la′ sa′ qa′
 stored-once (storedFactor k la sa qa qb s) (storedFactor k′ la′ sa′ qa′ qb′ s′) =
     let l = stored-once sa sa′ in
     λ i. factor (l i) ((sym qa ∙ qa′) i) ((sym qb ∙ qb′) i) ((sym (s .own) ∙ s′ .own) i)
-
--- An expression of a step is one of any larger step.
-pub in-larger : {N : List ℕ} {m n : ℕ} {e : Expression} → m ≤ n → InStep N m e → InStep N n e
-in-larger l g = let h = g .high in record { row = g .row; low = g .low; high = omega arith }
 
 -- Every variable of the step reads free.
 abbrev pub ReadsFree : List ℕ → ℕ → List ℕ → Type 0
@@ -85,48 +83,11 @@ pub resolve-reads : {F C B N A A₁ A₂ : List ℕ} {c e o top : ℕ} {l r : De
 resolve-reads {N = N} {A = A} {A₁ = A₁} {l = l} {r = r} sl sr po q fits free L L′ x g v =
     let high = g .high in
     let z : maximumIndex l ≡ 0 + maximumIndex l = omega arith in
-    let m : ℕ = maximumIndex l in
     L′ .reads r sr x (in-larger fits g) v
     ∙ ap₂ (λ (k : ℕ) (u : Option Expression). orElse (within k (maximumIndex r) (lookup r) x) u) (po ∙ z) (L .reads l sl x (in-larger fits g) v)
     ∙ within-joined 0 (maximumIndex l) (maximumIndex r) (lookup l) (lookup r) x (readCell N A x)
     ∙ ap (orElse (within 0 (maximumIndex l + maximumIndex r) (joined (maximumIndex l) (lookup l) (lookup r)) x)) (free x g v)
     ∙ within-zero (maximumIndex l + maximumIndex r) (joined (maximumIndex l) (lookup l) (lookup r)) x (g .low) (omega arith)
-
--- Looking up keeps to the table and to the maximum index.
-extend-kept : (N : List ℕ) (m : ℕ) (ρ : Environment) (bs : List Binding) → AllIn N m bs → (x : Variable) (e : Expression) → (ρ x ≡ some e → InStep N m e) → extend ρ bs x ≡ some e → InStep N m e
-extend-kept N m ρ [] K x e h q = h q
-extend-kept N m ρ (b ∷ bs) K x e h q = try (same x (b .0)) q (λ p. extend-kept N m ρ bs (K .1) x e h p)
-  where
-    try : (s : Bool) → pick s (some (b .1)) (extend ρ bs x) ≡ some e → (extend ρ bs x ≡ some e → InStep N m e) → InStep N m e
-    try true p k = subst (InStep N m) (some-injective p) (K .0 .value)
-    try false p k = k p
-
-raised-kept : (N : List ℕ) (m n : ℕ) (e : Expression) (o : Option Expression) → raiseAnswer m o ≡ some e → ((d : Expression) → o ≡ some d → InStep N n d) → InStep N (m + n) e
-raised-kept N m n e none q h = absurd (some-not-none refl q)
-raised-kept N m n e (some d) q h =
-    let g = h d refl in
-    let l = g .low in
-    let k = g .high in
-    let g′ : InStep N (m + n) (d .0, m + d .1) = record { row = g .row; low = omega arith; high = omega arith } in
-    subst (InStep N (m + n)) (some-injective q) g′
-
-pub joined-kept : (N : List ℕ) (m n : ℕ) (ρ ρ′ : Environment) → ((x : Variable) (e : Expression) → ρ x ≡ some e → InStep N m x → InStep N m e)
-    → ((x : Variable) (e : Expression) → ρ′ x ≡ some e → InStep N n x → InStep N n e) → (x : Variable) (e : Expression) → joined m ρ ρ′ x ≡ some e → InStep N (m + n) x → InStep N (m + n) e
-joined-kept N m n ρ ρ′ h h′ x e q g = try (leb (x .1) m) refl q
-  where
-    try : (b : Bool) → leb (x .1) m ≡ b → pick b (ρ x) (raiseAnswer m (ρ′ (x .0, x .1 - m))) ≡ some e → InStep N (m + n) e
-    try true p q = in-larger (omega arith) (h x e q (record { row = g .row; low = g .low; high = leb-true (x .1) m p }))
-    try false p q =
-        let k = leb-false (x .1) m p in
-        let y = g .high in
-        raised-kept N m n e (ρ′ (x .0, x .1 - m)) q (λ d p. h′ (x .0, x .1 - m) d p (record { row = g .row; low = omega arith; high = omega arith }))
-
-pub lookup-kept : (N : List ℕ) (d : Derivation) → BindingsIn N d → (x : Variable) (e : Expression) → lookup d x ≡ some e → InStep N (maximumIndex d) x → InStep N (maximumIndex d) e
-lookup-kept N (input ls) K x e q g = absurd (some-not-none refl q)
-lookup-kept N (resolve l a r b bs) K x e q g =
-    extend-kept N (maximumIndex l + maximumIndex r) (joined (maximumIndex l) (lookup l) (lookup r)) bs (K .2) x e
-    (λ p. joined-kept N (maximumIndex l) (maximumIndex r) (lookup l) (lookup r) (lookup-kept N l (K .0)) (lookup-kept N r (K .1)) x e p g) q
-lookup-kept N (factor d a b bs) K x e q g = extend-kept N (maximumIndex d) (lookup d) bs (K .1) x e (λ p. lookup-kept N d (K .0) x e p g) q
 
 -- An array that reads exactly what ρ has stands for ρ.
 pub models-exact : (N A : List ℕ) (top : ℕ) (ρ : Environment) → NodesOk N → top ≤ 4096 → length A ≡ 524416 → ReadsExactly N top A ρ
@@ -148,7 +109,7 @@ pub factor-models : {F C B N A A₁ : List ℕ} {c top : ℕ} {d : Derivation} �
     → ((e : Expression) → HasRow N (e .0) → Ends (follow (nodeRow N) mostLinks (lookup d) e)) → Models N top A₁ (lookup d)
 factor-models {N = N} {A₁ = A₁} {top = top} {d = d} T s K q fits free L ends =
     models-exact N A₁ top (lookup d) T fits (L .room) (factor-reads s q fits free L)
-    (λ e f p g. subst (λ (k : ℕ). InStep N k f) q (lookup-kept N d K e f p (subst (λ (k : ℕ). InStep N k e) (sym q) g))) ends
+    (λ e f p g. subst (λ (k : ℕ). InStep N k f) q (lookup-in-step N d K e f p .1)) ends
 
 pub resolve-models : {F C B N A A₁ A₂ : List ℕ} {c e o top : ℕ} {l r : Derivation} → NodesOk N → Stored F C B c l → BindingsIn N l → Stored F C B e r → BindingsIn N r
     → o ≡ maximumIndex l → maximumIndex l + maximumIndex r ≡ top → top ≤ 4096 → ReadsFree N top A → Loaded F C B N A A₁ c 0 → Loaded F C B N A₁ A₂ e o
@@ -156,7 +117,32 @@ pub resolve-models : {F C B N A A₁ A₂ : List ℕ} {c e o top : ℕ} {l r : D
     → Models N top A₂ (joined (maximumIndex l) (lookup l) (lookup r))
 resolve-models {N = N} {A₂ = A₂} {top = top} {l = l} {r = r} T sl Kl sr Kr po q fits free L L′ ends =
     models-exact N A₂ top (joined (maximumIndex l) (lookup l) (lookup r)) T fits (L′ .room) (resolve-reads sl sr po q fits free L L′)
-    (λ e f p g.
-    subst (λ (k : ℕ). InStep N k f) q
-    (joined-kept N (maximumIndex l) (maximumIndex r) (lookup l) (lookup r) (lookup-kept N l Kl) (lookup-kept N r Kr) e f p (subst (λ (k : ℕ). InStep N k e) (sym q) g)))
-    ends
+    (λ e f p g. subst (λ (k : ℕ). InStep N k f) q (joined-in N (maximumIndex l) (maximumIndex r) (lookup l) (lookup r) (lookup-in-step N l Kl) (lookup-in-step N r Kr) e f p .1)) ends
+
+-- What unifying the literals of a step asks of the array: chains have at most as many links as there are bindings held, and the
+-- literals are those of the parents.
+pub factor-facing : {F C B N A A₁ : List ℕ} {c top : ℕ} {d : Derivation} → NodesOk N → Stored F C B c d → BindingsIn N d → maximumIndex d ≡ top → top ≤ 4096
+    → ReadsFree N top A → Loaded F C B N A A₁ c 0 → (held : ℕ) → held ≤ 8192 → Short (HasRow N) (nodeRow N) held (lookup d)
+    → {e f : Expression} → InStep N (maximumIndex d) e → InStep N (maximumIndex d) f → Facing N top A₁ held (lookup d) e f
+factor-facing {N = N} {d = d} T s K q fits free L held few short {e} {f} ge gf =
+    let all : held ≤ mostLinks = subst (λ (k : ℕ). held ≤ k) (sym links-8192) few in
+    record {
+      models = factor-models T s K q fits free L (short-le (HasRow N) (nodeRow N) held mostLinks (lookup d) all short);
+      short = short;
+      left = subst (λ (k : ℕ). InStep N k e) q ge;
+      right = subst (λ (k : ℕ). InStep N k f) q gf;
+    }
+
+pub resolve-facing : {F C B N A A₁ A₂ : List ℕ} {c e o top : ℕ} {l r : Derivation} → NodesOk N → Stored F C B c l → BindingsIn N l → Stored F C B e r → BindingsIn N r
+    → o ≡ maximumIndex l → maximumIndex l + maximumIndex r ≡ top → top ≤ 4096 → ReadsFree N top A → Loaded F C B N A A₁ c 0 → Loaded F C B N A₁ A₂ e o
+    → (held : ℕ) → held ≤ 8192 → Short (HasRow N) (nodeRow N) held (joined (maximumIndex l) (lookup l) (lookup r))
+    → {f g : Expression} → InStep N (maximumIndex l) f → InStep N (maximumIndex r) g
+    → Facing N top A₂ held (joined (maximumIndex l) (lookup l) (lookup r)) f (raise (maximumIndex l) g)
+resolve-facing {N = N} {l = l} {r = r} T sl Kl sr Kr po q fits free L L′ held few short {f} {g} gf gg =
+    let all : held ≤ mostLinks = subst (λ (k : ℕ). held ≤ k) (sym links-8192) few in
+    record {
+      models = resolve-models T sl Kl sr Kr po q fits free L L′ (short-le (HasRow N) (nodeRow N) held mostLinks (joined (maximumIndex l) (lookup l) (lookup r)) all short);
+      short = short;
+      left = subst (λ (k : ℕ). InStep N k f) q (in-larger (omega arith) gf);
+      right = subst (λ (k : ℕ). InStep N k (raise (maximumIndex l) g)) q (in-raised (maximumIndex l) gg);
+    }

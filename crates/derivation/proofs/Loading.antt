@@ -123,7 +123,6 @@ module _ (N : List ℕ) (T : NodesOk N) where
       let B = K .0 in
       let low = B .bound .low in
       let high = B .bound .high in
-      let A₁ : List ℕ = putBindings N o bs A in
       let z : b .1 .0 + 1 ≡ suc (b .1 .0) = add-one (b .1 .0) in
       ap (λ (t : ℕ). readCell N (put (putBindings N o bs A) (slot N (b .0 .0) (o + b .0 .1)) t (o + b .1 .1)) x) z
       ∙ read-put (putBindings N o bs A) (length-bindings o bs A ∙ room) (b .0 .0, o + b .0 .1) (record { row = B .bound .row; low = omega arith; high = omega arith }) (B .ofVariable) (b .1 .0) (o + b .1 .1) x g v
@@ -181,7 +180,6 @@ module _ (N : List ℕ) (T : NodesOk N) where
       → readCell N (putClause N o d A) x ≡ orElse (within o (maximumIndex d) (lookup d) x) (readCell N A x)
   clause-read (input ls) K o fits A room x g v = sym (ap (λ (q : Option Expression). orElse q (readCell N A x)) (within-nothing o 1 x))
   clause-read (resolve l a r b bs) K o fits A room x g v =
-      let A₁ : List ℕ = putClause N o l A in
       let room₁ : length (putClause N o l A) ≡ 524416 = length-clause N T l o A ∙ room in
       let room₂ : length (putClause N (o + maximumIndex l) r (putClause N o l A)) ≡ 524416 = length-clause N T r (o + maximumIndex l) (putClause N o l A) ∙ room₁ in
       bindings-read N T o (maximumIndex l + maximumIndex r) fits bs (K .2) (putClause N (o + maximumIndex l) r (putClause N o l A)) room₂ x g v

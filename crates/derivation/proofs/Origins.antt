@@ -110,7 +110,6 @@ input-at : {F C B : List ℕ} {p k : ℕ} {d : Derivation} → recordOf F C p .k
 input-at four low high (storedResolve k la sa qa lb sb qb s) = absurd (omega arith)
 input-at four low high (storedFactor k l s₁ qa qb s) = absurd (omega arith)
 input-at {F} {C} {p = p} {k = k} four low high (storedInput {ls = ls} kk q s) =
-    let bytes : List ℕ = recordPart F (recordCell C p) in
     let e : length (placed 1 ls) ≡ length (placed 1 (inputLiterals (recordOf F C p))) = ap (λ (l : List RowLiteral). length (placed 1 l)) (sym q) in
     let h : k ≤ length (placed 1 (inputLiterals (recordOf F C p))) = let z = s .literalCount in omega arith in
     let few = input-few (recordPart F (recordCell C p)) in

@@ -96,7 +96,7 @@ pub record LoadedParents (F C B N A A′ : List ℕ) (c o : ℕ) : Type 0 where
   pub room : length A′ ≡ 524416
   pub cells : (d : Derivation) → Stored F C B c d → A′ ≡ putParents N o d A
 
--- The bindings of the table that are to be put into the array are in range.
+-- What putting n bindings of the table into the array asks, from the first on at offset o: they are in range; and what it says.
 pub record Puttable (B N A : List ℕ) (first n o : ℕ) : Type 0 where
   pub nodes : NodesOk N
   pub nodeRoom : length N ≡ 32768

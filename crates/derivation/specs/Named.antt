@@ -10,7 +10,7 @@ use Rattle.derivation.specs.Stored.{literalsCell, recordOf, Stored}
 use Rattle.derivation.specs.declared.literal.NamedLiteral.{NamedLiteral}
 use Rattle.derivation.specs.declared.literal.NamedLiteral.the-variants.{Found, Absent}
 
--- The answer of the program: a literal's sign, row and index, or that there is none.
+-- The answer of the program: a literal's sign, row and index; or that the clause lacks it, for which a step is refused with 5.
 abbrev pub namedLiteral : Option Literal → NamedLiteral
 namedLiteral none = Absent
 namedLiteral (some l) = Found (l .0) (l .1 .0) (l .1 .1)
@@ -35,6 +35,7 @@ leftOver count a = pick (eqb a 0) count (pick (leb a count) (count - 1) count)
 unfoldable pub passed : ℕ → ℕ → ℕ
 passed n a = pick (eqb a 0) n (pick (ltb n a) n (n + 1))
 
+-- A literal that is there, with its index raised by m.
 abbrev pub raiseNamed : ℕ → Option Literal → Option Literal
 raiseNamed m none = none
 raiseNamed m (some l) = some (raiseLiteral m l)
@@ -48,7 +49,8 @@ pub record ComesFrom (F C B : List ℕ) (d : Derivation) (n p k m : ℕ) : Type 
   pub same : numbered (literals d) n ≡ raiseNamed m (numbered (literals source) k)
   pub fits : m + maximumIndex source ≤ maximumIndex d
 
--- Literal n of clause c is literal k of clause p, whatever derivation clause c is; p is a parent, or an input clause.
+-- Literal n of clause c is literal k of clause p, its index raised by m, whatever derivation clause c is. In `ComesUp` p is a parent of
+-- clause c; in `ComesFromInput` it is an input clause, where the literal is written.
 pub record ComesUp (F C : List ℕ) (c n p k m : ℕ) : Type 0 where
   pub below : p < c
   pub from : (B : List ℕ) (d : Derivation) → Stored F C B c d → ComesFrom F C B d n p k m

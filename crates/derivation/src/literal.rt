@@ -75,10 +75,11 @@ fn parent_place(file: &[u8], clauses: &[u16], c: u16, n: u16) -> Place
             added: 0,
         };
     }
+    let raised = index_cell(clauses, left);
     Place {
         clause: right,
         number: passed_over(n - kept, record::field(part, 3)),
-        added: index_cell(clauses, left),
+        added: raised,
     }
 }
 

@@ -76,15 +76,8 @@ fn load_parents(
     if kind == 5 {
         let right = record::field(part, 2);
         load(file, clauses, bindings, nodes, values, left, offset);
-        load(
-            file,
-            clauses,
-            bindings,
-            nodes,
-            values,
-            right,
-            offset + index_cell(clauses, left),
-        );
+        let above = offset + index_cell(clauses, left);
+        load(file, clauses, bindings, nodes, values, right, above);
     } else if kind == 6 {
         load(file, clauses, bindings, nodes, values, left, offset);
     }

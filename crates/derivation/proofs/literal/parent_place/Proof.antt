@@ -54,6 +54,9 @@ returns-2 c =
     let H = c .before .before .before .before .before .before .before .before .before .before .before .before .before .pre .0 in
     comes-up (c .passed-over2 .ensures) H (left-up H (c .before .before .before .before .before .before .before .before .before .before .record-cell .ensures) (c .before .before .before .before .before .before .before .before .before .record-part .ensures) (c .before .before .before .before .before .before .kind .ensures) (c .before .before .before .before .before .if1 .left) (c .before .before .before .before .before .before .before .before .field .ensures) (c .before .before .before .before .field3 .ensures) (c .before .before .before .literals-cell .ensures) (c .before .before .left-over .ensures) (c .before .if2 .taken))
 
+index-cell-requires : tie.Need-index-cell-requires
+index-cell-requires c κs = search needs
+
 sub-passed-over : tie.Need-sub-passed-over
 sub-passed-over c = search needs
 
@@ -62,16 +65,13 @@ field-requires-4 c κs = search needs
 
 passed-over-requires-3 : tie.Need-passed-over-requires-3
 passed-over-requires-3 c κs =
-    let H = c .before .before .before .before .before .before .before .before .before .before .before .before .before .pre .0 in
-    omega (arith, comes-high H (right-up H (c .before .before .before .before .before .before .before .before .before .before .record-cell .ensures) (c .before .before .before .before .before .before .before .before .before .record-part .ensures) (c .before .before .before .before .before .before .kind .ensures) (c .before .before .before .before .before .if1 .left) (c .before .before .before .before .before .before .before .before .field .ensures) (c .before .before .before .before .field3 .ensures) (c .before .before .before .literals-cell .ensures) (c .before .before .left-over .ensures) (c .before .if2 .left) (c .before .before .before .before .before .before .before .field2 .ensures) (c .field4 .ensures) refl), c .before .before .before .before .before .before .before .before .before .before .before .shared-slice-known2 .given (5 * c .before .before .before .before .before .before .before .field2 .result + 1))
-
-index-cell-requires : tie.Need-index-cell-requires
-index-cell-requires c κs = search needs
+    let H = c .before .before .before .before .before .before .before .before .before .before .before .before .before .before .pre .0 in
+    omega (arith, comes-high H (right-up H (c .before .before .before .before .before .before .before .before .before .before .before .record-cell .ensures) (c .before .before .before .before .before .before .before .before .before .before .record-part .ensures) (c .before .before .before .before .before .before .before .kind .ensures) (c .before .before .before .before .before .before .if1 .left) (c .before .before .before .before .before .before .before .before .before .field .ensures) (c .before .before .before .before .before .field3 .ensures) (c .before .before .before .before .literals-cell .ensures) (c .before .before .before .left-over .ensures) (c .before .before .if2 .left) (c .before .before .before .before .before .before .before .before .field2 .ensures) (c .field4 .ensures) refl), c .before .before .before .before .before .before .before .before .before .before .before .before .shared-slice-known2 .given (5 * c .before .before .before .before .before .before .before .before .field2 .result + 1))
 
 returns-3 : tie.Need-returns-3
 returns-3 c =
     let H = c .before .before .before .before .before .before .before .before .before .before .before .before .before .before .before .pre .0 in
-    comes-up (c .before .passed-over3 .ensures) H (right-up H (c .before .before .before .before .before .before .before .before .before .before .before .before .record-cell .ensures) (c .before .before .before .before .before .before .before .before .before .before .before .record-part .ensures) (c .before .before .before .before .before .before .before .before .kind .ensures) (c .before .before .before .before .before .before .before .if1 .left) (c .before .before .before .before .before .before .before .before .before .before .field .ensures) (c .before .before .before .before .before .before .field3 .ensures) (c .before .before .before .before .before .literals-cell .ensures) (c .before .before .before .before .left-over .ensures) (c .before .before .before .if2 .left) (c .before .before .before .before .before .before .before .before .before .field2 .ensures) (c .before .before .field4 .ensures) (c .index-cell .ensures))
+    comes-up (c .passed-over3 .ensures) H (right-up H (c .before .before .before .before .before .before .before .before .before .before .before .before .record-cell .ensures) (c .before .before .before .before .before .before .before .before .before .before .before .record-part .ensures) (c .before .before .before .before .before .before .before .before .kind .ensures) (c .before .before .before .before .before .before .before .if1 .left) (c .before .before .before .before .before .before .before .before .before .before .field .ensures) (c .before .before .before .before .before .before .field3 .ensures) (c .before .before .before .before .before .literals-cell .ensures) (c .before .before .before .before .left-over .ensures) (c .before .before .before .if2 .left) (c .before .before .before .before .before .before .before .before .before .field2 .ensures) (c .before .field4 .ensures) (c .before .before .index-cell .ensures))
 
 pub parent-place-spec : {M : Type 1} → statement M
 parent-place-spec =
@@ -90,8 +90,8 @@ parent-place-spec =
     left-over-requires
     passed-over-requires-2
     returns-2
+    index-cell-requires
     sub-passed-over
     field-requires-4
     passed-over-requires-3
-    index-cell-requires
     returns-3)

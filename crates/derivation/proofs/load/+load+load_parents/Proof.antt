@@ -100,14 +100,14 @@ load-parents-load-requires t c κs =
 load-parents-index-cell-requires : (t : ℕ) → load-parents-lts.Need-index-cell-requires (load-parents-told t) (load-parents-at t) load-parents.Post
 load-parents-index-cell-requires t c κs = search needs
 
-load-parents-add-load : (t : ℕ) → load-parents-lts.Need-add-load (load-parents-told t) (load-parents-at t) load-parents.Post
-load-parents-add-load t c =
-    let d = to-right (c .before .before .before .before .before .before .before .before .before .before .before .before .before .pre .1) (c .before .before .before .before .before .before .before .before .before .record-cell .ensures) (c .before .before .before .before .before .before .before .before .record-part .ensures) (c .before .before .before .before .before .before .before .kind .ensures) (c .before .before .before .before .before .before .field .ensures) (c .before .before .before .before .before .if1 .taken) (c .before .before .before .before .field2 .ensures) (c .index-cell .ensures) (c .before .before .load .ensures) in
+load-parents-add-above : (t : ℕ) → load-parents-lts.Need-add-above (load-parents-told t) (load-parents-at t) load-parents.Post
+load-parents-add-above t c =
+    let d = to-right (c .before .before .before .before .before .before .before .before .before .before .before .before .pre .1) (c .before .before .before .before .before .before .before .before .record-cell .ensures) (c .before .before .before .before .before .before .before .record-part .ensures) (c .before .before .before .before .before .before .kind .ensures) (c .before .before .before .before .before .field .ensures) (c .before .before .before .before .if1 .taken) (c .before .before .before .field2 .ensures) (c .index-cell .ensures) (c .before .load .ensures) in
     omega (arith, d .1 .fits)
 
 load-parents-load-requires-2 : (t : ℕ) → load-parents-lts.Need-load-requires-2 (load-parents-told t) (load-parents-at t) load-parents.Post
 load-parents-load-requires-2 t c κs =
-    let d = to-right (c .before .before .before .before .before .before .before .before .before .before .before .before .before .pre .1) (c .before .before .before .before .before .before .before .before .before .record-cell .ensures) (c .before .before .before .before .before .before .before .before .record-part .ensures) (c .before .before .before .before .before .before .before .kind .ensures) (c .before .before .before .before .before .before .field .ensures) (c .before .before .before .before .before .if1 .taken) (c .before .before .before .before .field2 .ensures) (c .index-cell .ensures) (c .before .before .load .ensures) in
+    let d = to-right (c .before .before .before .before .before .before .before .before .before .before .before .before .before .pre .1) (c .before .before .before .before .before .before .before .before .before .record-cell .ensures) (c .before .before .before .before .before .before .before .before .record-part .ensures) (c .before .before .before .before .before .before .before .kind .ensures) (c .before .before .before .before .before .before .field .ensures) (c .before .before .before .before .before .if1 .taken) (c .before .before .before .before .field2 .ensures) (c .before .index-cell .ensures) (c .before .before .load .ensures) in
     (omega (arith, c .before .before .before .before .before .before .before .before .before .before .before .before .before .pre .0, d .0), d .1)
 
 load-parents-load-requires-3 : (t : ℕ) → load-parents-lts.Need-load-requires-3 (load-parents-told t) (load-parents-at t) load-parents.Post
@@ -117,7 +117,7 @@ load-parents-load-requires-3 t c κs =
 
 load-parents-returns : (t : ℕ) → load-parents-lts.Need-returns (load-parents-told t) (load-parents-at t) load-parents.Post
 load-parents-returns t c =
-    from-both (c .before .before .before .before .before .before .before .before .before .before .before .before .before .before .pre .1) (c .before .before .before .before .before .before .before .before .before .before .record-cell .ensures) (c .before .before .before .before .before .before .before .before .before .record-part .ensures) (c .before .before .before .before .before .before .before .before .kind .ensures) (c .before .before .before .before .before .before .before .field .ensures) (c .before .before .before .before .before .before .if1 .taken) (c .before .before .before .before .before .field2 .ensures) (c .before .index-cell .ensures) (c .before .before .before .load .ensures) (c .load2 .ensures)
+    from-both (c .before .before .before .before .before .before .before .before .before .before .before .before .before .before .pre .1) (c .before .before .before .before .before .before .before .before .before .before .record-cell .ensures) (c .before .before .before .before .before .before .before .before .before .record-part .ensures) (c .before .before .before .before .before .before .before .before .kind .ensures) (c .before .before .before .before .before .before .before .field .ensures) (c .before .before .before .before .before .before .if1 .taken) (c .before .before .before .before .before .field2 .ensures) (c .before .before .index-cell .ensures) (c .before .before .before .load .ensures) (c .load2 .ensures)
 
 load-parents-returns-2 : (t : ℕ) → load-parents-lts.Need-returns-2 (load-parents-told t) (load-parents-at t) load-parents.Post
 load-parents-returns-2 t c =
@@ -169,7 +169,7 @@ pub +load+load-parents-spec : {M : Type 1} → statement M
     (load-parents-field-requires-2 t)
     (load-parents-load-requires t)
     (load-parents-index-cell-requires t)
-    (load-parents-add-load t)
+    (load-parents-add-above t)
     (load-parents-load-requires-2 t)
     (load-parents-load-requires-3 t)
     (load-parents-returns t)
