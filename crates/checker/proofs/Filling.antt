@@ -74,6 +74,10 @@ module _ (size : ℕ) (cells t : List ℕ) (l : length cells ≤ size) where
       ∙ getD-append-add (replicate (size - length cells) 0) (drop size t) (i - size) 0
       ∙ getD-drop size t (i - size) 0 ∙ ap (λ (n : ℕ). getD t n 0) x
 
+pub bindings-count : (B : List ℕ) (first n : ℕ) → length (bindingsFrom B first n) ≡ n
+bindings-count B first zero = refl
+bindings-count B first (suc n) = ap suc (bindings-count B first n)
+
 -- The cells of bindings that were read off a table.
 cells-read : (B : List ℕ) (first n j : ℕ) → j < 4 * n → getD (cellsOfBindings (bindingsFrom B first n)) j 0 ≡ getD B (4 * first + j) 0
 cells-read B first zero j l = absurd (omega arith)
@@ -82,12 +86,8 @@ cells-read B first (suc n) j l = try (ltb j (4 * n)) refl (λ m. cells-read B fi
     X : List ℕ
     X = cellsOfBindings (bindingsFrom B first n)
 
-    count : (n : ℕ) → length (bindingsFrom B first n) ≡ n
-    count zero = refl
-    count (suc n) = ap suc (count n)
-
     size : length (cellsOfBindings (bindingsFrom B first n)) ≡ 4 * n
-    size = bindings-length (bindingsFrom B first n) ∙ ap (λ (m : ℕ). 4 * m) (count n)
+    size = bindings-length (bindingsFrom B first n) ∙ ap (λ (m : ℕ). 4 * m) (bindings-count B first n)
 
     four : List ℕ
     four = getD B (4 * (first + n)) 0 ∷ getD B (4 * (first + n) + 1) 0 ∷ getD B (4 * (first + n) + 2) 0 ∷ getD B (4 * (first + n) + 3) 0 ∷ []
@@ -121,15 +121,11 @@ module _ (cells t B : List ℕ) (held h : ℕ) (full : length cells ≡ 4 * held
   pub bindings-added : ((k : ℕ) → 4 * h ≤ k → getD B k 0 ≡ getD (filled 32768 cells t) k 0) → B ≡ filled 32768 (cells ++ cellsOfBindings (bindingsFrom B held (h - held))) t
   bindings-added high = ext-getD 0 B (filled 32768 new t) (kept ∙ old-length ∙ sym (filled-length 32768 new t (omega (arith, new-length)) long)) at
     where
-      count : (n : ℕ) → length (bindingsFrom B held n) ≡ n
-      count zero = refl
-      count (suc n) = ap suc (count n)
-
       added : List ℕ
       added = cellsOfBindings (bindingsFrom B held (h - held))
 
       added-length : length (cellsOfBindings (bindingsFrom B held (h - held))) ≡ 4 * (h - held)
-      added-length = bindings-length (bindingsFrom B held (h - held)) ∙ ap (λ (n : ℕ). 4 * n) (count (h - held))
+      added-length = bindings-length (bindingsFrom B held (h - held)) ∙ ap (λ (n : ℕ). 4 * n) (bindings-count B held (h - held))
 
       new : List ℕ
       new = cells ++ cellsOfBindings (bindingsFrom B held (h - held))

@@ -20,3 +20,6 @@ pub mod EntryLaws
 pub mod Kept
 pub mod Declaring
 pub mod StepLaws
+pub mod StepTests
+pub mod StepEnds
+pub mod StepNamed

@@ -21,11 +21,12 @@ use Rattle.unify.proofs.Stability.{follow-agree, run-agree}
 use Rattle.unify.proofs.Tests.{some-injective}
 use Rattle.derivation.specs.Derivation.{literals, input, Derivation, resolve, factor, raise, maximumIndex, joined, lookup}
 use Rattle.derivation.specs.Loaded.{BindingIn, AllIn, BindingsIn, Loadable, Loaded}
-use Rattle.derivation.specs.Stored.{literalsCell, indexCell, Cells, Stored, storedInput, storedResolve, storedFactor}
+use Rattle.derivation.specs.Stored.{literalsCell, indexCell, Stored}
 use Rattle.derivation.proofs.Chains.{short-joined}
 use Rattle.derivation.proofs.Known.{Known, KnownEnvironment, known-numbered, known-joined, known-variable, known-arguments}
 use Rattle.derivation.proofs.Literals.{In, each-numbered, LiteralIn, literals-in}
 use Rattle.derivation.proofs.LoadedModels.{cleared-free, factor-models, resolve-models}
+use Rattle.derivation.proofs.Origins.{stored-cells}
 use Rattle.derivation.proofs.OwnBindings.{BindingThere, BindingsThere, bindings-there}
 use Rattle.derivation.proofs.Validity.{lookup-in}
 use Rattle.checker.specs.Program.{clearedPart, withClauseCells}
@@ -47,11 +48,6 @@ use Rattle.unify.specs.declared.pairs.Unified.the-variants as unified-variants
 use Rattle.checker.specs.declared.entry.Entered.the-variants.{Stands, Refused}
 use Rattle.checker.specs.declared.entry.Counts.{Counts}
 use Rattle.checker.specs.declared.inference.Atom.{Atom}
-
-stored-cells : {F C B : List ℕ} {c : ℕ} {d : Derivation} → Stored F C B c d → Cells C B c d
-stored-cells (storedInput k q s) = s
-stored-cells (storedResolve k la sa qa lb sb qb s) = s
-stored-cells (storedFactor k la sa qa qb s) = s
 
 module _ {F : List ℕ} {k : ℕ} {n : Counts} {C B N A : List ℕ} (E : BeforeStep F k n C B N A) where
   abbrev S : State
@@ -146,17 +142,18 @@ module _ {F : List ℕ} {k : ℕ} {n : Counts} {C B N A : List ℕ} (E : BeforeS
 
   in-binding : (m : ℕ) (b : Binding) → BindingThere (rowOf (E .state)) (length (rowsOf (E .state))) m b → BindingIn N m b
   unfolding isVariable
-  in-binding m b t = record
-      { bound = record { row = there (b .0 .0) (t .variableRow); low = t .variableIndex .0; high = t .variableIndex .1 }
-      ; ofVariable = variable-node (b .0 .0) (t .variableRow) (t .number) (t .isVariable)
-      ; value = record { row = there (b .1 .0) (t .termRow); low = t .termIndex .0; high = t .termIndex .1 }
-      }
+  in-binding m b t = record {
+    bound = record { row = there (b .0 .0) (t .variableRow); low = t .variableIndex .0; high = t .variableIndex .1 };
+    ofVariable = variable-node (b .0 .0) (t .variableRow) (t .number) (t .isVariable);
+    value = record { row = there (b .1 .0) (t .termRow); low = t .termIndex .0; high = t .termIndex .1 };
+  }
     where
       variable-node : (r : ℕ) → r < length (rowsOf (E .state)) → (v : ℕ) → rowOf (E .state) r ≡ variable v → isVariable N r ≡ true
       variable-node r l v q = try (isVariable N r) refl
         where
           no : {s : ℕ} {xs : List ℕ} → variable v ≡ application s xs → ⊥
           no e = let z : _≡_ {A = ℕ} 0 1 = cc in omega arith
+
           try : (c : Bool) → isVariable N r ≡ c → c ≡ true
           try true p = refl
           try false p = absurd (no (sym q ∙ application-row ws fit N (E .kept .nodes) r l p))
@@ -228,7 +225,7 @@ module _ {F : List ℕ} {k : ℕ} {n : Counts} {C B N A : List ℕ} (E : BeforeS
     both-chains = short-joined (λ r. r < L) (rowOf S) (maximumIndex l) (maximumIndex r) (lookup l) (lookup r) (lookup-in (rowOf S) l (X .valid)) (lookup-in (rowOf S) r (Y .valid)) (held S) (X .chains) (Y .chains)
 
     pub resolve-facing : (raised top : ℕ) → raised ≡ indexCell C a → top ≡ raised + indexCell C d → (A₁ A₂ A₃ : List ℕ) → Cleared A A₁ (128 * (top + 1)) → Loaded F C B N A₁ A₂ a 0 → Loaded F C B N A₂ A₃ d raised
-      → Facing N top A₃ (n .bindings) (joined (maximumIndex (x .clause)) (lookup (x .clause)) (lookup (y .clause))) (b, c) (e, raised + f)
+        → Facing N top A₃ (n .bindings) (joined (maximumIndex (x .clause)) (lookup (x .clause)) (lookup (y .clause))) (b, c) (e, raised + f)
     resolve-facing raised top pr pt A₁ A₂ A₃ K U W =
         let pl : raised ≡ maximumIndex l = pr ∙ index-of a l (x .isClause) in
         let pq : top ≡ maximumIndex l + maximumIndex r = pt ∙ ap₂ _+_ pl (index-of d r (y .isClause)) in
@@ -241,11 +238,11 @@ module _ {F : List ℕ} {k : ℕ} {n : Counts} {C B N A : List ℕ} (E : BeforeS
         let xin = kx .1 in
         let yin = ky .1 in
         facing ρ top A₃ (b, c) (e, raised + f)
-          (resolve-models nodes-fine (stored-of a l (x .isClause)) (bindings-in a l (x .isClause)) (stored-of d r (y .isClause)) (bindings-in d r (y .isClause)) pl (sym pq) (omega arith) (cleared-free N A A₁ top nodes-fine K) U W
-            (λ g h. short-le-node g h))
-          both-known both-chains
-          (record { row = there b (rw (← xr) (kx .0)); low = omega arith; high = omega arith })
-          (record { row = there e (rw (← yr) (ky .0)); low = omega arith; high = omega arith })
+        (resolve-models nodes-fine (stored-of a l (x .isClause)) (bindings-in a l (x .isClause)) (stored-of d r (y .isClause)) (bindings-in d r (y .isClause)) pl (sym pq) (omega arith) (cleared-free N A A₁ top nodes-fine K) U W
+        (λ g h. short-le-node g h))
+        both-known both-chains
+        (record { row = there b (rw (← xr) (kx .0)); low = omega arith; high = omega arith })
+        (record { row = there e (rw (← yr) (ky .0)); low = omega arith; high = omega arith })
       where
         short-le-node : (g : Expression) → HasRow N (g .0) → Ends (follow (nodeRow N) mostLinks (joined (maximumIndex (x .clause)) (lookup (x .clause)) (lookup (y .clause))) g)
         short-le-node g h = node-ends mostLinks ρ both-known (short-le (λ r. r < L) (rowOf S) (held S) mostLinks ρ (held-links 4096 S ok-of) both-chains) g h
@@ -254,7 +251,7 @@ module _ {F : List ℕ} {k : ℕ} {n : Counts} {C B N A : List ℕ} (E : BeforeS
     resolve-outcome raised pr o q =
         let pl : raised ≡ maximumIndex l = pr ∙ index-of a l (x .isClause) in
         outcome-of ρ (x .literal .1) (raise (maximumIndex l) (y .literal .1)) both-known (atom-known a b c x .0) (atom-known d e f y .0) o
-          ((λ i. unify (nodeRow N) (n .bindings) ρ (x .isRow i, x .isIndex i) (y .isRow i, sym pl i + y .isIndex i)) ∙ q)
+        ((λ i. unify (nodeRow N) (n .bindings) ρ (x .isRow i, x .isIndex i) (y .isRow i, sym pl i + y .isIndex i)) ∙ q)
 
   -- The parent of a factor.
   module _ (a b c d e f : ℕ) (x : AtomOf (E .state) a b c) (y : AtomOf (E .state) d e f) (p : d ≡ a) where
@@ -290,16 +287,16 @@ module _ {F : List ℕ} {k : ℕ} {n : Counts} {C B N A : List ℕ} (E : BeforeS
         let yin : In (maximumIndex m) (y .literal .1 .1) = subst (λ (z : Derivation). In (maximumIndex z) (y .literal .1 .1)) same-clause (ky .1) in
         let s = parent-small in
         facing (lookup m) top A₂ (b, c) (e, f)
-          (factor-models nodes-fine (stored-of a m (x .isClause)) (bindings-in a m (x .isClause)) (sym pq) (omega arith) (cleared-free N A A₁ top nodes-fine K) U
-            (λ g h. node-ends mostLinks (lookup m) one-known (short-le (λ r. r < L) (rowOf S) (held S) mostLinks (lookup m) (held-links 4096 S ok-of) (O .chains)) g h))
-          one-known (O .chains)
-          (record { row = there b (rw (← xr) (kx .0)); low = omega arith; high = omega arith })
-          (record { row = there e (rw (← yr) (ky .0)); low = omega arith; high = omega arith })
+        (factor-models nodes-fine (stored-of a m (x .isClause)) (bindings-in a m (x .isClause)) (sym pq) (omega arith) (cleared-free N A A₁ top nodes-fine K) U
+        (λ g h. node-ends mostLinks (lookup m) one-known (short-le (λ r. r < L) (rowOf S) (held S) mostLinks (lookup m) (held-links 4096 S ok-of) (O .chains)) g h))
+        one-known (O .chains)
+        (record { row = there b (rw (← xr) (kx .0)); low = omega arith; high = omega arith })
+        (record { row = there e (rw (← yr) (ky .0)); low = omega arith; high = omega arith })
 
     pub factor-outcome : (o : Outcome) → unify (nodeRow N) (n .bindings) (lookup (x .clause)) (b, c) (e, f) ≡ o → unifyFactor (E .state) (atomNamed x) (atomNamed y) ≡ o
     factor-outcome o q =
         outcome-of (lookup m) (x .literal .1) (y .literal .1) one-known (atom-known a b c x .0) (atom-known d e f y .0) o
-          ((λ i. unify (nodeRow N) (n .bindings) (lookup m) (x .isRow i, x .isIndex i) (y .isRow i, y .isIndex i)) ∙ q)
+        ((λ i. unify (nodeRow N) (n .bindings) (lookup m) (x .isRow i, x .isIndex i) (y .isRow i, y .isIndex i)) ∙ q)
 
   -- What unification is handed.
   pub ready : (ρ : Environment) (top : ℕ) (Q : List ℕ) (e d : Expression) → Facing N top Q (n .bindings) ρ e d → Ready N Q B (n .bindings) e d
@@ -325,10 +322,11 @@ module _ {F : List ℕ} {k : ℕ} {n : Counts} {C B N A : List ℕ} {x y : Atom}
   factor-ready R top p A₁ A₂ K L = ready (R .step) (lookup (R .kept .clause)) top A₂ (x .row, x .index) (y .row, y .index) (factor-faces R top p A₁ A₂ K L)
 
   pub factor-unified : (top : ℕ) → top ≡ indexCell C (x .clause) → (A₁ A₂ A₃ B′ : List ℕ) (u : Unified) → Cleared A A₁ (128 * (top + 1)) → Loaded F C B N A₁ A₂ (x .clause) 0 → Answered N A₂ A₃ B B′ (n .bindings) (x .row, x .index) (y .row, y .index) u
-    → ((R : Factoring F k n C B N A x y) → unifyFactor (R .step .state) (atomNamed (R .kept)) (atomNamed (R .deleted)) ≡ outcomeOf B′ (n .bindings) u) × UnifiedTables B B′ A₃ (n .bindings) u
-  factor-unified top p A₁ A₂ A₃ B′ u K L W =
-      (λ R. factor-outcome (R .step) (x .clause) (x .row) (x .index) (y .clause) (y .row) (y .index) (R .kept) (R .deleted) (R .sameClause) (outcomeOf B′ (n .bindings) u) (W .outcome top (lookup (R .kept .clause)) (factor-faces R top p A₁ A₂ K L))
-      , unified-tables N A₂ A₃ B B′ (n .bindings) (x .row, x .index) (y .row, y .index) u W)
+      → ((R : Factoring F k n C B N A x y) → unifyFactor (R .step .state) (atomNamed (R .kept)) (atomNamed (R .deleted)) ≡ outcomeOf B′ (n .bindings) u) × UnifiedTables B B′ A₃ (n .bindings) u
+  factor-unified top p A₁ A₂ A₃ B′ u K L W = (
+    λ R. factor-outcome (R .step) (x .clause) (x .row) (x .index) (y .clause) (y .row) (y .index) (R .kept) (R .deleted) (R .sameClause) (outcomeOf B′ (n .bindings) u) (W .outcome top (lookup (R .kept .clause)) (factor-faces R top p A₁ A₂ K L)),
+    unified-tables N A₂ A₃ B B′ (n .bindings) (x .row, x .index) (y .row, y .index) u W,
+  )
 
   pub resolve-top : (R : Resolving F k n C B N A x y) (raised other : ℕ) → raised ≡ indexCell C (x .clause) → other ≡ indexCell C (y .clause) → raised + other ≤ 4096
   resolve-top R raised other p q = omega (arith, p ∙ index-of (R .step) (x .clause) (R .left .clause) (R .left .isClause), q ∙ index-of (R .step) (y .clause) (R .right .clause) (R .right .isClause), R .fits)
@@ -343,11 +341,11 @@ module _ {F : List ℕ} {k : ℕ} {n : Counts} {C B N A : List ℕ} {x y : Atom}
   resolve-load-right R raised p A₂ l = load-ready (R .step) (y .clause) raised (R .right .clause) (R .right .isClause) (omega (arith, p ∙ index-of (R .step) (x .clause) (R .left .clause) (R .left .isClause), R .fits)) A₂ l
 
   resolve-faces : (R : Resolving F k n C B N A x y) (raised other : ℕ) → raised ≡ indexCell C (x .clause) → other ≡ indexCell C (y .clause) → (A₁ A₂ A₃ : List ℕ) → Cleared A A₁ (128 * ((raised + other) + 1)) → Loaded F C B N A₁ A₂ (x .clause) 0 → Loaded F C B N A₂ A₃ (y .clause) raised
-    → Facing N (raised + other) A₃ (n .bindings) (joined (maximumIndex (R .left .clause)) (lookup (R .left .clause)) (lookup (R .right .clause))) (x .row, x .index) (y .row, raised + y .index)
+      → Facing N (raised + other) A₃ (n .bindings) (joined (maximumIndex (R .left .clause)) (lookup (R .left .clause)) (lookup (R .right .clause))) (x .row, x .index) (y .row, raised + y .index)
   resolve-faces R raised other p q A₁ A₂ A₃ K L M = resolve-facing (R .step) (x .clause) (x .row) (x .index) (y .clause) (y .row) (y .index) (R .left) (R .right) (R .fits) raised (raised + other) p (ap (λ (z : ℕ). raised + z) q) A₁ A₂ A₃ K L M
 
   pub resolve-ready : (R : Resolving F k n C B N A x y) (raised other : ℕ) → raised ≡ indexCell C (x .clause) → other ≡ indexCell C (y .clause) → (A₁ A₂ A₃ : List ℕ) → Cleared A A₁ (128 * ((raised + other) + 1)) → Loaded F C B N A₁ A₂ (x .clause) 0 → Loaded F C B N A₂ A₃ (y .clause) raised
-    → Ready N A₃ B (n .bindings) (x .row, x .index) (y .row, raised + y .index)
+      → Ready N A₃ B (n .bindings) (x .row, x .index) (y .row, raised + y .index)
   resolve-ready R raised other p q A₁ A₂ A₃ K L M =
       ready (R .step) (joined (maximumIndex (R .left .clause)) (lookup (R .left .clause)) (lookup (R .right .clause))) (raised + other) A₃ (x .row, x .index) (y .row, raised + y .index) (resolve-faces R raised other p q A₁ A₂ A₃ K L M)
 
@@ -358,11 +356,12 @@ module _ {F : List ℕ} {k : ℕ} {n : Counts} {C B N A : List ℕ} {x y : Atom}
       omega (arith, p ∙ index-of (R .step) (x .clause) (R .left .clause) (R .left .isClause), R .fits, i, R .right .isIndex)
 
   pub resolve-unified : (raised other : ℕ) → raised ≡ indexCell C (x .clause) → other ≡ indexCell C (y .clause) → (A₁ A₂ A₃ A₄ B′ : List ℕ) (u : Unified) → Cleared A A₁ (128 * ((raised + other) + 1)) → Loaded F C B N A₁ A₂ (x .clause) 0 → Loaded F C B N A₂ A₃ (y .clause) raised
-    → Answered N A₃ A₄ B B′ (n .bindings) (x .row, x .index) (y .row, raised + y .index) u
-    → ((R : Resolving F k n C B N A x y) → unifyResolve (R .step .state) (atomNamed (R .left)) (atomNamed (R .right)) ≡ outcomeOf B′ (n .bindings) u) × UnifiedTables B B′ A₄ (n .bindings) u
-  resolve-unified raised other p q A₁ A₂ A₃ A₄ B′ u K L M W =
-      (λ R. resolve-outcome (R .step) (x .clause) (x .row) (x .index) (y .clause) (y .row) (y .index) (R .left) (R .right) (R .fits) raised p (outcomeOf B′ (n .bindings) u) (W .outcome (raised + other) (joined (maximumIndex (R .left .clause)) (lookup (R .left .clause)) (lookup (R .right .clause))) (resolve-faces R raised other p q A₁ A₂ A₃ K L M))
-      , unified-tables N A₃ A₄ B B′ (n .bindings) (x .row, x .index) (y .row, raised + y .index) u W)
+      → Answered N A₃ A₄ B B′ (n .bindings) (x .row, x .index) (y .row, raised + y .index) u
+      → ((R : Resolving F k n C B N A x y) → unifyResolve (R .step .state) (atomNamed (R .left)) (atomNamed (R .right)) ≡ outcomeOf B′ (n .bindings) u) × UnifiedTables B B′ A₄ (n .bindings) u
+  resolve-unified raised other p q A₁ A₂ A₃ A₄ B′ u K L M W = (
+    λ R. resolve-outcome (R .step) (x .clause) (x .row) (x .index) (y .clause) (y .row) (y .index) (R .left) (R .right) (R .fits) raised p (outcomeOf B′ (n .bindings) u) (W .outcome (raised + other) (joined (maximumIndex (R .left .clause)) (lookup (R .left .clause)) (lookup (R .right .clause))) (resolve-faces R raised other p q A₁ A₂ A₃ K L M)),
+    unified-tables N A₃ A₄ B B′ (n .bindings) (x .row, x .index) (y .row, raised + y .index) u W,
+  )
 
 -- Finishing a step.
 pub finish-up : (held : ℕ) (u : Unified) (w h : ℕ) → u ≡ Done w h → HeldUpTo held u → (held ≤ h) × (h ≤ 8192)

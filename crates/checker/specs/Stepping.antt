@@ -1,14 +1,17 @@
 -- Resolve and factor in the program: the contracts of its inner functions. No demand needs this file.
 use mathlib.Core.Path.{_≡_}
-use mathlib.Core.Option.{some}
+use mathlib.Core.Bool.{true}
+use mathlib.Core.Option.{Option, none, some}
 use mathlib.Core.List.{List}
 use Prim.Native.Nat.{ℕ, _+_, _-_, _*_, _≤_, _<_}
 use lib.ListN.{length, getD}
-use Rattle.record.specs.Record.{recordCount}
+use Rattle.record.specs.Record.{recordCount, recordPart, kindOf, decoded, resolveKind, factorKind}
 use Rattle.unify.specs.Unifying.{Counted}
 use Rattle.derivation.specs.Derivation.{literals, Literal, Derivation, numbered, maximumIndex}
+use Rattle.derivation.specs.Stored.{Stored}
 use Rattle.checker.specs.Program.{clearedPart, withClauseCells}
-use Rattle.checker.specs.Progress.{Kept}
+use Rattle.checker.specs.Progress.{Kept, Next}
+use Rattle.checker.specs.Refusal.{inRange, leftOf, rightOf, deletedOf, fittingSigns}
 use Rattle.checker.specs.State.{State, clauseOf}
 use Rattle.checker.specs.Tables.{Tables}
 use Rattle.unify.specs.declared.pairs.Unified.{Unified}
@@ -17,6 +20,8 @@ use Rattle.checker.specs.declared.entry.Counts.{Counts}
 use Rattle.checker.specs.declared.entry.Entered.{Entered}
 use Rattle.checker.specs.declared.entry.Entered.the-variants.{Stands}
 use Rattle.checker.specs.declared.entry.Entered.the-variants as entered
+use Rattle.derivation.specs.declared.literal.NamedLiteral.{NamedLiteral}
+use Rattle.derivation.specs.declared.literal.NamedLiteral.the-variants.{Found, Absent}
 use Rattle.checker.specs.declared.inference.Atom.{Atom}
 
 -- The tables, of which a step reads and writes the clauses and the bindings.
@@ -93,3 +98,42 @@ pub record Finishing (n : Counts) (B : List ℕ) (u : Unified) : Type 0 where
   pub held : n .bindings ≤ 8192
   pub room : 32768 ≤ length B
   pub upTo : HeldUpTo (n .bindings) u
+
+-- The clauses of a state as the tables store them, for looking up literals.
+pub record ClausesStored (F C : List ℕ) (count : ℕ) : Type 0 where
+  pub state : State
+  pub bindings : List ℕ
+  pub size : length (state .clauses) ≡ count
+  pub stored : (c : ℕ) (d : Derivation) → clauseOf state c ≡ some d → Stored F C bindings c d
+  pub fits : (c : ℕ) (d : Derivation) → clauseOf state c ≡ some d → maximumIndex d ≤ 4096
+
+-- A named literal as the program answers it.
+abbrev pub namedAnswer : Option (Derivation × Literal) → NamedLiteral
+namedAnswer none = Absent
+namedAnswer (some x) = Found (x .1 .0) (x .1 .1 .0) (x .1 .1 .1)
+
+-- A resolve or a factor whose tests up to 8 have passed.
+pub record ResolveNamed (F : List ℕ) (k : ℕ) (n : Counts) (C B N A : List ℕ) (x y : Atom) : Type 0 where
+  pub step : BeforeStep F k n C B N A
+  pub isResolve : kindOf (recordPart F k) ≡ 5
+  pub ranged : inRange resolveKind (decoded (recordPart F k)) ≡ true
+  pub left : AtomOf (step .state) (x .clause) (x .row) (x .index)
+  pub right : AtomOf (step .state) (y .clause) (y .row) (y .index)
+  pub isLeft : leftOf (step .state) (decoded (recordPart F k)) ≡ some (atomNamed left)
+  pub isRight : rightOf (step .state) (decoded (recordPart F k)) ≡ some (atomNamed right)
+  pub signs : fittingSigns (step .state) resolveKind (decoded (recordPart F k)) ≡ true
+
+pub record FactorNamed (F : List ℕ) (k : ℕ) (n : Counts) (C B N A : List ℕ) (x y : Atom) : Type 0 where
+  pub step : BeforeStep F k n C B N A
+  pub isFactor : kindOf (recordPart F k) ≡ 6
+  pub ranged : inRange factorKind (decoded (recordPart F k)) ≡ true
+  pub sameClause : y .clause ≡ x .clause
+  pub kept : AtomOf (step .state) (x .clause) (x .row) (x .index)
+  pub deleted : AtomOf (step .state) (y .clause) (y .row) (y .index)
+  pub isKept : leftOf (step .state) (decoded (recordPart F k)) ≡ some (atomNamed kept)
+  pub isDeleted : deletedOf (step .state) (decoded (recordPart F k)) ≡ some (atomNamed deleted)
+  pub signs : fittingSigns (step .state) factorKind (decoded (recordPart F k)) ≡ true
+
+-- What the program has after record k, by the state before it.
+pub record StepRead (F : List ℕ) (k : ℕ) (n : Counts) (C B N A : List ℕ) (E : BeforeStep F k n C B N A) (C′ B′ A′ : List ℕ) (e : Entered) : Type 0 where
+  pub next : Next F (E .tablesBefore) k (E .state) (tablesWith (E .symbols) (E .rows) C′ B′) N A′ e

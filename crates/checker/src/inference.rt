@@ -2,16 +2,24 @@
 // step leaves no binding behind.
 use super::entry::Counts;
 use super::entry::Entered;
+use super::fields::step_in_range;
 use super::tables::clear;
 use super::tables::put_clause;
 use derivation::index_cell;
+use derivation::literal::NamedLiteral;
+use derivation::literal::literal;
+use derivation::literals_cell;
 use derivation::load::load;
+use record::field;
+use record::record_part;
 use unify::Unified;
 use unify::unify_literals;
 ghost use mathlib.Core.Path.{_≡_};
+ghost use Rattle.record.specs.Record.{recordPart, kindOf};
 ghost use Rattle.unify.specs.Unifying.{outcomeOf};
+ghost use Rattle.checker.specs.Refusal.{literalNamed, equalSigns};
 ghost use Rattle.checker.specs.Step.{unifyResolve, unifyFactor};
-ghost use Rattle.checker.specs.Stepping.{Resolving, Factoring, UnifiedTables, atomNamed, Finishing, finished, stepFinished};
+ghost use Rattle.checker.specs.Stepping.{BeforeStep, Resolving, Factoring, UnifiedTables, atomNamed, Finishing, finished, stepFinished, ClausesStored, namedAnswer, ResolveNamed, FactorNamed, StepRead};
 
 // An atom of a clause: the clause's number, and the atom's row and index.
 pub struct Atom {
@@ -113,4 +121,183 @@ fn finish_step(
             Entered::Refused(q)
         }
     }
+}
+
+// The literal that a step names, if the clause and the literal exist.
+fn named_literal(file: &[u8], clauses: &[u16], count: u16, c: u16, n: u16) -> NamedLiteral
+    requires { ⌜ ClausesStored (now file) (now clauses) count ⌝ }
+    ensures { λ r. ⌜ ((R : ClausesStored (now (file .entry)) (now (clauses .entry)) count) → r ≡ namedAnswer (literalNamed (R .state) c n)) ⌝ }
+{
+    if c < count {
+        literal(file, clauses, c, n)
+    } else {
+        NamedLiteral::Absent
+    }
+}
+
+// Whether two signs are equal.
+fn same_sign(a: bool, b: bool) -> bool
+    ensures { λ r. ⌜ r ≡ equalSigns a b ⌝ }
+{
+    if a { b } else { !b }
+}
+
+// A resolve on two named atoms of opposite signs: the limits on its result, unification, and its end.
+fn resolve_atoms(
+    file: &[u8],
+    k: u16,
+    counts: Counts,
+    clauses: &mut [u16],
+    bindings: &mut [u16],
+    nodes: &[u16; 32768],
+    values: &mut [u16; 524416],
+    left: Atom,
+    right: Atom,
+) -> Entered
+    requires { ⌜ ResolveNamed (now file) k counts (now clauses) (now bindings) (now nodes) (now values) left right ⌝ }
+    ensures { λ e. ⌜ ((R : ResolveNamed (now (file .entry)) k counts (now (clauses .entry)) (now (bindings .entry)) (now (nodes .entry)) (now (values .entry)) left right) → StepRead (now (file .entry)) k counts (now (clauses .entry)) (now (bindings .entry)) (now (nodes .entry)) (now (values .entry)) (R .step) (now (clauses .exit)) (now (bindings .exit)) (now (values .exit)) e) ⌝ }
+{
+    let literals = literals_cell(clauses, left.clause) + literals_cell(clauses, right.clause) - 2;
+    if 128 < literals {
+        return Entered::Refused(9);
+    }
+    let index = index_cell(clauses, left.clause) + index_cell(clauses, right.clause);
+    if 4096 < index {
+        return Entered::Refused(9);
+    }
+    let u = unify_resolve(
+        file,
+        k,
+        counts,
+        clauses,
+        bindings,
+        nodes,
+        values,
+        left,
+        right,
+    );
+    finish_step(u, k, counts, literals, index, clauses, bindings)
+}
+
+// A resolve: the tests in the order of their numbers, with the literals that it names taken apart before their signs are compared.
+pub fn resolve_record(
+    file: &[u8],
+    k: u16,
+    counts: Counts,
+    clauses: &mut [u16],
+    bindings: &mut [u16],
+    nodes: &[u16; 32768],
+    values: &mut [u16; 524416],
+) -> Entered
+    requires { ⌜ BeforeStep (now file) k counts (now clauses) (now bindings) (now nodes) (now values) ⌝ }
+    requires { ⌜ kindOf (recordPart (now file) k) ≡ 5 ⌝ }
+    ensures { λ e. ⌜ ((E : BeforeStep (now (file .entry)) k counts (now (clauses .entry)) (now (bindings .entry)) (now (nodes .entry)) (now (values .entry))) → StepRead (now (file .entry)) k counts (now (clauses .entry)) (now (bindings .entry)) (now (nodes .entry)) (now (values .entry)) E (now (clauses .exit)) (now (bindings .exit)) (now (values .exit)) e) ⌝ }
+{
+    let part = record_part(file, k as usize);
+    if !step_in_range(part, 4) {
+        return Entered::Refused(4);
+    }
+    let a = field(part, 0);
+    let c = field(part, 2);
+    let left = named_literal(file, clauses, counts.clauses, a, field(part, 1));
+    let right = named_literal(file, clauses, counts.clauses, c, field(part, 3));
+    let NamedLiteral::Found(s, r, i) = left else {
+        return Entered::Refused(5);
+    };
+    let NamedLiteral::Found(t, q, j) = right else {
+        return Entered::Refused(5);
+    };
+    if same_sign(s, t) {
+        return Entered::Refused(8);
+    }
+    let x = Atom {
+        clause: a,
+        row: r,
+        index: i,
+    };
+    let y = Atom {
+        clause: c,
+        row: q,
+        index: j,
+    };
+    resolve_atoms(file, k, counts, clauses, bindings, nodes, values, x, y)
+}
+
+// A factor on two named atoms of one clause: its result is no larger than the clause, so no limit is passed.
+fn factor_atoms(
+    file: &[u8],
+    k: u16,
+    counts: Counts,
+    clauses: &mut [u16],
+    bindings: &mut [u16],
+    nodes: &[u16; 32768],
+    values: &mut [u16; 524416],
+    kept: Atom,
+    deleted: Atom,
+) -> Entered
+    requires { ⌜ FactorNamed (now file) k counts (now clauses) (now bindings) (now nodes) (now values) kept deleted ⌝ }
+    ensures { λ e. ⌜ ((R : FactorNamed (now (file .entry)) k counts (now (clauses .entry)) (now (bindings .entry)) (now (nodes .entry)) (now (values .entry)) kept deleted) → StepRead (now (file .entry)) k counts (now (clauses .entry)) (now (bindings .entry)) (now (nodes .entry)) (now (values .entry)) (R .step) (now (clauses .exit)) (now (bindings .exit)) (now (values .exit)) e) ⌝ }
+{
+    let literals = literals_cell(clauses, kept.clause) - 1;
+    let index = index_cell(clauses, kept.clause);
+    let u = unify_factor(
+        file,
+        k,
+        counts,
+        clauses,
+        bindings,
+        nodes,
+        values,
+        kept,
+        deleted,
+    );
+    finish_step(u, k, counts, literals, index, clauses, bindings)
+}
+
+// A factor: the tests in the order of their numbers. A literal cannot be factored with itself.
+pub fn factor_record(
+    file: &[u8],
+    k: u16,
+    counts: Counts,
+    clauses: &mut [u16],
+    bindings: &mut [u16],
+    nodes: &[u16; 32768],
+    values: &mut [u16; 524416],
+) -> Entered
+    requires { ⌜ BeforeStep (now file) k counts (now clauses) (now bindings) (now nodes) (now values) ⌝ }
+    requires { ⌜ kindOf (recordPart (now file) k) ≡ 6 ⌝ }
+    ensures { λ e. ⌜ ((E : BeforeStep (now (file .entry)) k counts (now (clauses .entry)) (now (bindings .entry)) (now (nodes .entry)) (now (values .entry))) → StepRead (now (file .entry)) k counts (now (clauses .entry)) (now (bindings .entry)) (now (nodes .entry)) (now (values .entry)) E (now (clauses .exit)) (now (bindings .exit)) (now (values .exit)) e) ⌝ }
+{
+    let part = record_part(file, k as usize);
+    if !step_in_range(part, 3) {
+        return Entered::Refused(4);
+    }
+    let a = field(part, 0);
+    let b = field(part, 1);
+    let c = field(part, 2);
+    let left = named_literal(file, clauses, counts.clauses, a, b);
+    let right = named_literal(file, clauses, counts.clauses, a, c);
+    let NamedLiteral::Found(s, r, i) = left else {
+        return Entered::Refused(5);
+    };
+    let NamedLiteral::Found(t, q, j) = right else {
+        return Entered::Refused(5);
+    };
+    if !same_sign(s, t) {
+        return Entered::Refused(8);
+    }
+    if b == c {
+        return Entered::Refused(8);
+    }
+    let x = Atom {
+        clause: a,
+        row: r,
+        index: i,
+    };
+    let y = Atom {
+        clause: a,
+        row: q,
+        index: j,
+    };
+    factor_atoms(file, k, counts, clauses, bindings, nodes, values, x, y)
 }

@@ -2,6 +2,6 @@
 // this program keeps its state while it reads.
 pub mod entry;
 pub mod fields;
-pub mod rows;
 pub mod inference;
+pub mod rows;
 pub mod tables;
