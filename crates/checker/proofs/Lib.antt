@@ -23,3 +23,4 @@ pub mod StepLaws
 pub mod StepTests
 pub mod StepEnds
 pub mod StepNamed
+pub mod RecordLaws

@@ -3,5 +3,6 @@
 pub mod entry;
 pub mod fields;
 pub mod inference;
+pub mod reader;
 pub mod rows;
 pub mod tables;

@@ -1,0 +1,41 @@
+// Records one after another: each by its kind.
+use super::entry::Counts;
+use super::entry::Entered;
+use super::entry::application_record;
+use super::entry::input_record;
+use super::entry::symbol_record;
+use super::entry::variable_record;
+use super::inference::factor_record;
+use super::inference::resolve_record;
+use record::kind;
+use record::record_part;
+ghost use Rattle.checker.specs.Progress.{Reading, RecordRead};
+ghost use Rattle.checker.specs.Stepping.{tablesWith};
+
+// Record k, by its kind. A kind that no record has is refused before anything else.
+pub fn read_record(
+    file: &[u8],
+    k: u16,
+    counts: Counts,
+    symbols: &mut [u16],
+    rows: &mut [u16],
+    clauses: &mut [u16],
+    bindings: &mut [u16],
+    nodes: &mut [u16; 32768],
+    values: &mut [u16; 524416],
+) -> Entered
+    requires { ⌜ Reading (now file) k counts (tablesWith (now symbols) (now rows) (now clauses) (now bindings)) (now nodes) (now values) ⌝ }
+    ensures { λ e. ⌜ RecordRead (now (file .entry)) k counts (tablesWith (now (symbols .entry)) (now (rows .entry)) (now (clauses .entry)) (now (bindings .entry))) (now (nodes .entry)) (now (values .entry)) e (tablesWith (now (symbols .exit)) (now (rows .exit)) (now (clauses .exit)) (now (bindings .exit))) (now (nodes .exit)) (now (values .exit)) ⌝ }
+{
+    let part = record_part(file, k as usize);
+    let tag = kind(part);
+    match tag {
+        1 => symbol_record(part, k, counts, symbols),
+        2 => variable_record(part, k, counts, rows, nodes),
+        3 => application_record(file, part, k, counts, symbols, rows, nodes),
+        4 => input_record(part, k, counts, clauses, nodes),
+        5 => resolve_record(file, k, counts, clauses, bindings, nodes, values),
+        6 => factor_record(file, k, counts, clauses, bindings, nodes, values),
+        _ => Entered::Refused(3),
+    }
+}
