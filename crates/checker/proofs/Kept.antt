@@ -61,7 +61,7 @@ standing-of F (suc k) l S q = further (read-split start 0 (take k (records F)) (
         let H = ih (u .0) (u .1) in
         advance F k (u .0) H l S (step-stands (u .0) k (decoded (recordPart F k)) S (sym (read-one F k (u .0) H l (decoded (recordPart F k) ∷ [])) ∙ sym (ap (read start 0) taken) ∙ q))
 
-fitting-records : (F : List ℕ) → fittingLength (length F) ≡ true → recordCount F ≤ 4096
+pub fitting-records : (F : List ℕ) → fittingLength (length F) ≡ true → recordCount F ≤ 4096
 fitting-records F fit =
     let p = both-true (leb (length F) 65536) (eqb (length F % 16) 0) fit in
     let l : length F ≤ 65536 = leb→le (length F) 65536 (to-T (leb (length F) 65536) (p .0)) in

@@ -24,3 +24,4 @@ pub mod StepTests
 pub mod StepEnds
 pub mod StepNamed
 pub mod RecordLaws
+pub mod RecordsLaws

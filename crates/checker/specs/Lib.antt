@@ -8,3 +8,4 @@ pub mod Cases
 pub mod Program
 pub mod Progress
 pub mod Stepping
+pub mod Reader

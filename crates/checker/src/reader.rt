@@ -10,7 +10,14 @@ use super::inference::resolve_record;
 use record::kind;
 use record::record_part;
 ghost use Rattle.checker.specs.Progress.{Reading, RecordRead};
+ghost use Rattle.checker.specs.Reader.{Begun, RecordsRead};
 ghost use Rattle.checker.specs.Stepping.{tablesWith};
+
+// All records stand, with the counts after the last; or one is refused: its reason's number, its own, and the counts before it.
+pub enum Ended {
+    All(Counts),
+    Refused(u8, u16, Counts),
+}
 
 // Record k, by its kind. A kind that no record has is refused before anything else.
 pub fn read_record(
@@ -38,4 +45,46 @@ pub fn read_record(
         6 => factor_record(file, k, counts, clauses, bindings, nodes, values),
         _ => Entered::Refused(3),
     }
+}
+
+// All records in their order, up to the first that is refused.
+pub fn read_records(
+    file: &[u8],
+    symbols: &mut [u16],
+    rows: &mut [u16],
+    clauses: &mut [u16],
+    bindings: &mut [u16],
+    nodes: &mut [u16; 32768],
+    values: &mut [u16; 524416],
+) -> Ended
+    requires { ⌜ Begun (now file) (tablesWith (now symbols) (now rows) (now clauses) (now bindings)) (now nodes) (now values) ⌝ }
+    ensures { λ e. ⌜ RecordsRead (now (file .entry)) (tablesWith (now (symbols .entry)) (now (rows .entry)) (now (clauses .entry)) (now (bindings .entry))) (now (nodes .entry)) (now (values .entry)) e (tablesWith (now (symbols .exit)) (now (rows .exit)) (now (clauses .exit)) (now (bindings .exit))) ⌝ }
+{
+    let mut counts = Counts {
+        symbols: 0,
+        rows: 0,
+        clauses: 0,
+        bindings: 0,
+    };
+    let mut k = 0u16;
+    while (k as usize) < file.len() / 16 {
+        match read_record(
+            file,
+            k,
+            counts,
+            symbols,
+            rows,
+            clauses,
+            bindings,
+            nodes,
+            values,
+        ) {
+            Entered::Stands(n) => {
+                counts = n;
+                k += 1;
+            }
+            Entered::Refused(q) => return Ended::Refused(q, k, counts),
+        }
+    }
+    Ended::All(counts)
 }

@@ -1,0 +1,54 @@
+-- All records, one after another: what holds after k of them, and when reading ends.
+use mathlib.Core.Path.{_≡_, refl, sym, subst}
+use mathlib.Core.List.{List}
+use Prim.Native.Nat.{ℕ, _+_, _≤_, _<_}
+use native.Mathlib.Numerals.{add-one}
+use native.Mathlib.Omega.{arith}
+use Rattle.record.specs.Record.{recordCount}
+use Rattle.checker.specs.Progress.{Kept, Reading, Next, RecordRead}
+use Rattle.checker.specs.Reader.{Begun, EndedWith}
+use Rattle.checker.specs.State.{State, start, held}
+use Rattle.checker.specs.Tables.{Tables}
+use Rattle.checker.proofs.Advance.{Standing, refused-there, all-read}
+use Rattle.checker.proofs.Kept.{standing-of, fitting-records}
+use Rattle.checker.specs.declared.entry.Counts.{Counts}
+use Rattle.checker.specs.declared.entry.Entered.{Entered}
+use Rattle.checker.specs.declared.entry.Entered.the-variants.{Stands, Refused}
+use Rattle.checker.specs.declared.reader.Ended.{Ended}
+use Rattle.checker.specs.declared.reader.Ended.the-variants.{All}
+use Rattle.checker.specs.declared.reader.Ended.the-variants as ended-variants
+
+pub record ReadUpTo (F : List ℕ) (t : Tables) (k : ℕ) (n : Counts) (here : Tables) (N A : List ℕ) : Type 0 where
+  pub few : k ≤ recordCount F
+  pub state : State
+  pub kept : Kept F t k state n here N A
+
+pub read-none : (F : List ℕ) (here : Tables) (N A : List ℕ) (G : Begun F here N A) → ReadUpTo F (G .tablesBefore) 0 (record { symbols = 0; rows = 0; clauses = 0; bindings = 0 }) here N A
+unfolding held
+read-none F here N A G = record {
+  few = omega arith;
+  state = start;
+  kept = record { fit = G .fit; long = G .long; before = refl; counts = refl; tables = G .cleared; nodes = G .nodes; values = G .values };
+}
+
+module _ {F : List ℕ} {t : Tables} {k : ℕ} {n : Counts} {here : Tables} {N A : List ℕ} (R : ReadUpTo F t k n here N A) where
+  pub read-asked : k < recordCount F → Reading F k n here N A
+  read-asked l = record { inside = l; tablesBefore = t; state = R .state; kept = R .kept }
+
+  pub read-few : k ≤ 4096
+  read-few = let f = R .few in omega (arith, fitting-records F (R .kept .fit))
+
+  pub read-more : k < recordCount F → (e : Entered) (here′ : Tables) (N′ A′ : List ℕ) → RecordRead F k n here N A e here′ N′ A′ → (n′ : Counts) → e ≡ Stands n′ → ReadUpTo F t (k + 1) n′ here′ N′ A′
+  read-more l e here′ N′ A′ X n′ q =
+      let z = subst (Next F t k (R .state) here′ N′ A′) q (X .next t (R .state) (R .kept)) in
+      record { few = omega arith; state = z .0; kept = subst (λ (m : ℕ). Kept F t m (z .0) n′ here′ N′ A′) (sym (add-one k)) (z .2) }
+
+  pub read-refused : k < recordCount F → (e : Entered) (here′ : Tables) (N′ A′ : List ℕ) → RecordRead F k n here N A e here′ N′ A′ → (q : ℕ) → e ≡ Refused q → EndedWith F t (ended-variants.Refused q k n) here′
+  read-refused l e here′ N′ A′ X q p =
+      let z = subst (Next F t k (R .state) here′ N′ A′) p (X .next t (R .state) (R .kept)) in
+      record { state = R .state; ended = (R .kept .counts, (z .0, refused-there F k (R .state) (standing-of F k (R .few) (R .state) (R .kept .before)) l (z .0) (z .1), z .2)); tables = z .3 }
+
+  pub read-all : recordCount F ≤ k → EndedWith F t (All n) here
+  read-all l =
+      let z : k ≡ recordCount F = let f = R .few in omega arith in
+      record { state = R .state; ended = (R .kept .counts, all-read F (R .state) (subst (λ (m : ℕ). Standing F m (R .state)) z (standing-of F k (R .few) (R .state) (R .kept .before)))); tables = R .kept .tables }

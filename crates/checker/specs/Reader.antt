@@ -1,0 +1,38 @@
+-- Reading all records in the program: the contracts of its inner functions. No demand needs this file.
+use mathlib.Core.Path.{_≡_}
+use mathlib.Core.Bool.{true}
+use mathlib.Core.List.{List, []}
+use Prim.Native.Nat.{ℕ}
+use lib.ListN.{length}
+use Rattle.checker.specs.Progress.{nodeTableOf, countsOf}
+use Rattle.checker.specs.Refusal.{Reason, reasonNumber}
+use Rattle.checker.specs.State.{State, start}
+use Rattle.checker.specs.Step.{allStand, refusedAt}
+use Rattle.checker.specs.Tables.{Tables, lengthsOf, filledTables}
+use Rattle.checker.specs.Verdict.{longEnough, fittingLength, ending}
+use Rattle.checker.specs.declared.entry.Counts.{Counts}
+use Rattle.checker.specs.declared.reader.Ended.{Ended}
+use Rattle.checker.specs.declared.reader.Ended.the-variants.{All, Refused}
+
+-- Before the first record: the length fits, the named parts of the tables `tablesBefore` are cleared, and the node table is empty.
+pub record Begun (F : List ℕ) (here : Tables) (N A : List ℕ) : Type 0 where
+  pub tablesBefore : Tables
+  pub fit : fittingLength (length F) ≡ true
+  pub long : longEnough (lengthsOf tablesBefore) ≡ true
+  pub cleared : here ≡ filledTables start tablesBefore
+  pub nodes : N ≡ nodeTableOf []
+  pub values : length A ≡ 524416
+
+-- How reading ended, by the definition, with the state S.
+abbrev pub EndsAs : List ℕ → State → Ended → Type 0
+EndsAs F S (All n) = (n ≡ countsOf S) × (ending F ≡ allStand S)
+EndsAs F S (Refused q k n) = (n ≡ countsOf S) × ((reason : Reason) × (ending F ≡ refusedAt S reason k) × (q ≡ reasonNumber reason))
+
+-- What is left when reading has ended: the state's tables.
+pub record EndedWith (F : List ℕ) (t : Tables) (e : Ended) (here : Tables) : Type 0 where
+  pub state : State
+  pub ended : EndsAs F state e
+  pub tables : here ≡ filledTables state t
+
+pub record RecordsRead (F : List ℕ) (here : Tables) (N A : List ℕ) (e : Ended) (here′ : Tables) : Type 0 where
+  pub read : (B : Begun F here N A) → EndedWith F (B .tablesBefore) e here′
