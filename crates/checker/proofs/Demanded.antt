@@ -54,27 +54,27 @@ module _ (file : List ℕ) (tables : Tables) where
   lengths = lengthsOf tables
 
   -- The three ways that a check can go.
-  check-length : fittingLength (length file) ≡ false → check file (lengthsOf tables) ≡ answerOf (refusal badLength 0) start
+  pub check-length : fittingLength (length file) ≡ false → check file (lengthsOf tables) ≡ answerOf (refusal badLength 0) start
   unfolding check
   check-length f = rw f
 
-  check-tables : fittingLength (length file) ≡ true → longEnough (lengthsOf tables) ≡ false → check file (lengthsOf tables) ≡ answerOf (refusal shortTable 0) start
+  pub check-tables : fittingLength (length file) ≡ true → longEnough (lengthsOf tables) ≡ false → check file (lengthsOf tables) ≡ answerOf (refusal shortTable 0) start
   unfolding check
   check-tables f l = rw (f, l)
 
-  check-reads : fittingLength (length file) ≡ true → longEnough (lengthsOf tables) ≡ true → check file (lengthsOf tables) ≡ answerOf (verdictOf (ending file)) (stateOf (ending file))
+  pub check-reads : fittingLength (length file) ≡ true → longEnough (lengthsOf tables) ≡ true → check file (lengthsOf tables) ≡ answerOf (verdictOf (ending file)) (stateOf (ending file))
   unfolding check
   check-reads f l = rw (f, l)
 
-  tables-length : fittingLength (length file) ≡ false → tablesAfter file tables ≡ tables
+  pub tables-length : fittingLength (length file) ≡ false → tablesAfter file tables ≡ tables
   unfolding tablesAfter
   tables-length f = rw f
 
-  tables-short : fittingLength (length file) ≡ true → longEnough (lengthsOf tables) ≡ false → tablesAfter file tables ≡ tables
+  pub tables-short : fittingLength (length file) ≡ true → longEnough (lengthsOf tables) ≡ false → tablesAfter file tables ≡ tables
   unfolding tablesAfter
   tables-short f l = rw (f, l)
 
-  tables-read : fittingLength (length file) ≡ true → longEnough (lengthsOf tables) ≡ true → tablesAfter file tables ≡ filledTables (stateOf (ending file)) tables
+  pub tables-read : fittingLength (length file) ≡ true → longEnough (lengthsOf tables) ≡ true → tablesAfter file tables ≡ filledTables (stateOf (ending file)) tables
   unfolding tablesAfter
   tables-read f l = rw (f, l)
 

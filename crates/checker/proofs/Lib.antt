@@ -25,3 +25,6 @@ pub mod StepEnds
 pub mod StepNamed
 pub mod RecordLaws
 pub mod RecordsLaws
+pub mod AnswerLaws
+pub mod CheckLaws
+pub mod CheckedLaws

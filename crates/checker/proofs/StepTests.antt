@@ -80,11 +80,11 @@ found-some : (o : Option (Derivation × Literal)) (s : Bool) (r i : ℕ) → nam
 found-some none s r i q = absurd (let z : _≡_ {A = ℕ} 0 1 = cc in omega arith)
 found-some (some x) s r i q = record { named = x; isNamed = refl; isSign = cc; isRow = cc; isIndex = cc }
 
-not-false : (b : Bool) → not b ≡ false → b ≡ true
+pub not-false : (b : Bool) → not b ≡ false → b ≡ true
 not-false true q = refl
 not-false false q = absurd (true-not-false refl q)
 
-not-true : (b : Bool) → not b ≡ true → b ≡ false
+pub not-true : (b : Bool) → not b ≡ true → b ≡ false
 not-true true q = absurd (true-not-false q refl)
 not-true false q = refl
 

@@ -9,3 +9,5 @@ pub mod Program
 pub mod Progress
 pub mod Stepping
 pub mod Reader
+pub mod Given
+pub mod Contract

@@ -4,14 +4,16 @@ use mathlib.Core.Bool.{true}
 use mathlib.Core.List.{List, []}
 use Prim.Native.Nat.{ℕ}
 use lib.ListN.{length}
+use Rattle.checker.specs.Given.{answerGiven}
 use Rattle.checker.specs.Progress.{nodeTableOf, countsOf}
 use Rattle.checker.specs.Refusal.{Reason, reasonNumber}
 use Rattle.checker.specs.State.{State, start}
-use Rattle.checker.specs.Step.{allStand, refusedAt}
+use Rattle.checker.specs.Step.{allStand, refusedAt, stateOf}
 use Rattle.checker.specs.Tables.{Tables, lengthsOf, filledTables}
-use Rattle.checker.specs.Verdict.{longEnough, fittingLength, ending}
+use Rattle.checker.specs.Verdict.{answerNumbers, verdictOf, answerOf, longEnough, fittingLength, ending}
 use Rattle.checker.specs.declared.entry.Counts.{Counts}
 use Rattle.checker.specs.declared.reader.Ended.{Ended}
+use Rattle.checker.specs.declared.answer.Answer.{Answer}
 use Rattle.checker.specs.declared.reader.Ended.the-variants.{All, Refused}
 
 -- Before the first record: the length fits, the named parts of the tables `tablesBefore` are cleared, and the node table is empty.
@@ -36,3 +38,12 @@ pub record EndedWith (F : List ℕ) (t : Tables) (e : Ended) (here : Tables) : T
 
 pub record RecordsRead (F : List ℕ) (here : Tables) (N A : List ℕ) (e : Ended) (here′ : Tables) : Type 0 where
   pub read : (B : Begun F here N A) → EndedWith F (B .tablesBefore) e here′
+
+-- A file and tables that can be read, and what is read of them: the answer's numbers and the tables.
+pub record Readable (F : List ℕ) (t : Tables) : Type 0 where
+  pub fit : fittingLength (length F) ≡ true
+  pub long : longEnough (lengthsOf t) ≡ true
+
+pub record FileRead (F : List ℕ) (t : Tables) (a : Answer) (here : Tables) : Type 0 where
+  pub numbers : answerGiven a ≡ answerNumbers (answerOf (verdictOf (ending F)) (stateOf (ending F)))
+  pub tables : here ≡ filledTables (stateOf (ending F)) t

@@ -1,8 +1,92 @@
-// The check of a proof file. The definitions are in specs/: `Verdict` and `Tables` have what the check answers, and `Program` how
-// this program keeps its state while it reads.
+// The check of a proof file. The definitions are in specs/: `Verdict` and `Tables` have what the check answers, `Demands` what is
+// demanded of it, and `Contract` what it promises. `Program`, `Progress`, `Stepping` and `Reader` say how this program goes about it.
+pub mod answer;
 pub mod entry;
 pub mod fields;
 pub mod inference;
 pub mod reader;
 pub mod rows;
 pub mod tables;
+
+use answer::Answer;
+use answer::ended_answer;
+use answer::untouched;
+use reader::read_records;
+use tables::clear;
+ghost use mathlib.Core.Path.{_≡_};
+ghost use lib.ListN.{length};
+ghost use Rattle.checker.specs.Contract.{Checked};
+ghost use Rattle.checker.specs.Reader.{Readable, FileRead};
+ghost use Rattle.checker.specs.Stepping.{tablesWith};
+ghost use Rattle.checker.specs.Verdict.{fittingLength, longEnough};
+
+// Whether a file's length is at most 65,536 and a multiple of 16.
+fn fitting_length(n: usize) -> bool
+    ensures { λ b. ⌜ b ≡ fittingLength n ⌝ }
+{
+    if n <= 65536 { n % 16 == 0 } else { false }
+}
+
+// Whether each table has at least its named part.
+fn long_enough(symbols: usize, rows: usize, clauses: usize, bindings: usize) -> bool
+    ensures { λ b. ⌜ b ≡ longEnough (record { symbols = symbols; rows = rows; clauses = clauses; bindings = bindings }) ⌝ }
+{
+    if symbols < 4096 {
+        return false;
+    }
+    if rows < 4096 {
+        return false;
+    }
+    if clauses < 20480 {
+        return false;
+    }
+    32768 <= bindings
+}
+
+// The named parts cleared, and all records read.
+fn read_file(
+    file: &[u8],
+    symbols: &mut [u16],
+    rows: &mut [u16],
+    clauses: &mut [u16],
+    bindings: &mut [u16],
+) -> Answer
+    requires { ⌜ Readable (now file) (tablesWith (now symbols) (now rows) (now clauses) (now bindings)) ⌝ }
+    ensures { λ a. ⌜ FileRead (now (file .entry)) (tablesWith (now (symbols .entry)) (now (rows .entry)) (now (clauses .entry)) (now (bindings .entry))) a (tablesWith (now (symbols .exit)) (now (rows .exit)) (now (clauses .exit)) (now (bindings .exit))) ⌝ }
+{
+    clear(symbols, 0, 4096);
+    clear(rows, 0, 4096);
+    clear(clauses, 0, 20480);
+    clear(bindings, 0, 32768);
+    let mut nodes = [0u16; 32768];
+    let mut values = [0u16; 524416];
+    let e = read_records(
+        file,
+        symbols,
+        rows,
+        clauses,
+        bindings,
+        &mut nodes,
+        &mut values,
+    );
+    ended_answer(e, clauses)
+}
+
+// The check of a file: its length, then the tables' lengths, then record by record.
+pub fn check(
+    file: &[u8],
+    symbols: &mut [u16],
+    rows: &mut [u16],
+    clauses: &mut [u16],
+    bindings: &mut [u16],
+) -> Answer
+    ensures { λ a. ⌜ Checked (now (file .entry)) (tablesWith (now (symbols .entry)) (now (rows .entry)) (now (clauses .entry)) (now (bindings .entry))) a (tablesWith (now (symbols .exit)) (now (rows .exit)) (now (clauses .exit)) (now (bindings .exit))) ⌝ }
+{
+    if !fitting_length(file.len()) {
+        return untouched(1);
+    }
+    if !long_enough(symbols.len(), rows.len(), clauses.len(), bindings.len()) {
+        return untouched(2);
+    }
+    read_file(file, symbols, rows, clauses, bindings)
+}

@@ -1,0 +1,120 @@
+-- The whole check: its two tests before the first record, the tables cleared, and the answer of what was read.
+use mathlib.Core.Path.{_≡_, refl, sym, ap, ap₂, _∙_}
+use mathlib.Core.Bool.{Bool, false, _&&_}
+use mathlib.Core.Option.{Option, none, some}
+use mathlib.Core.List.{List, [], _∷_, _++_, map, append-assoc}
+use Prim.Native.Nat.{ℕ, suc, _+_, _-_, _%_, _≤_, _<_}
+use native.Mathlib.Omega.{arith}
+use lib.Dec.{eqb, leb}
+use lib.ListN.{length, getD, drop, replicate, length-map}
+use lib.Seq.{getD-append-add}
+use borrow.Author.Tests.{ne-eqb, le-leb, lt-leb}
+use Rattle.record.specs.Record.{pick}
+use Rattle.derivation.specs.Derivation.{literals, Derivation}
+use Rattle.derivation.specs.Stored.{literalsCell}
+use Rattle.checker.specs.Given.{answerGiven, numbersWith, firstZero, standingNumbers, endedNumbers}
+use Rattle.checker.specs.Program.{clearedPart}
+use Rattle.checker.specs.Progress.{countsOf}
+use Rattle.checker.specs.Reader.{Begun, EndedWith, RecordsRead, Readable, FileRead}
+use Rattle.checker.specs.Refusal.{Reason, reasonNumber}
+use Rattle.checker.specs.State.{State, bindingsOf}
+use Rattle.checker.specs.Step.{read, Ending, allStand, refusedAt, stateOf}
+use Rattle.checker.specs.Stepping.{tablesWith}
+use Rattle.checker.specs.Tables.{Tables, cellsOfClause, clauseCells, filledTables}
+use Rattle.checker.specs.Verdict.{verdictNumbers, answerNumbers, isEmpty, firstEmpty, standing, verdictOf, answerOf, Lengths, longEnough, fittingLength, ending}
+use Rattle.checker.proofs.Acceptance.{cells-length}
+use Rattle.checker.proofs.Kept.{Sizes, sizes}
+use Rattle.checker.specs.declared.entry.Counts.{Counts}
+use Rattle.checker.specs.declared.reader.Ended.{Ended}
+use Rattle.checker.specs.declared.reader.Ended.the-variants.{All, Refused}
+use Rattle.checker.specs.declared.answer.Answer.{Answer}
+use Rattle.checker.specs.declared.answer.Verdict.the-variants as verdict
+
+-- The two tests.
+pub length-low : (n : ℕ) → n ≤ 65536 → eqb (n % 16) 0 ≡ fittingLength n
+length-low n l = sym (ap (λ (b : Bool). b && eqb (n % 16) 0) (le-leb n 65536 l))
+
+pub length-high : (n : ℕ) → 65536 < n → false ≡ fittingLength n
+length-high n l = sym (ap (λ (b : Bool). b && eqb (n % 16) 0) (lt-leb n 65536 l))
+
+abbrev lengths : ℕ → ℕ → ℕ → ℕ → Lengths
+lengths s r c b = record { symbols = s; rows = r; clauses = c; bindings = b }
+
+module _ (s r c b : ℕ) where
+  pub symbols-short : s < 4096 → false ≡ longEnough (lengths s r c b)
+  symbols-short l = sym (ap (λ (x : Bool). x && leb 4096 r && leb 20480 c && leb 32768 b) (lt-leb 4096 s l))
+
+  pub rows-short : 4096 ≤ s → r < 4096 → false ≡ longEnough (lengths s r c b)
+  rows-short m l = sym (ap₂ (λ (x y : Bool). x && y && leb 20480 c && leb 32768 b) (le-leb 4096 s m) (lt-leb 4096 r l))
+
+  pub clauses-short : 4096 ≤ s → 4096 ≤ r → c < 20480 → false ≡ longEnough (lengths s r c b)
+  clauses-short m k l = sym (λ i. le-leb 4096 s m i && le-leb 4096 r k i && lt-leb 20480 c l i && leb 32768 b)
+
+  pub three-long : 4096 ≤ s → 4096 ≤ r → 20480 ≤ c → leb 32768 b ≡ longEnough (lengths s r c b)
+  three-long m k l = sym (λ i. le-leb 4096 s m i && le-leb 4096 r k i && le-leb 20480 c l i && leb 32768 b)
+
+-- Before the first record.
+module _ {F : List ℕ} {s r C B : List ℕ} (R : Readable F (tablesWith s r C B)) where
+  pub table-sizes : Sizes (tablesWith s r C B)
+  table-sizes = sizes (tablesWith s r C B) (R .long)
+
+  module _ {s′ r′ C′ B′ A : List ℕ} (ps : s′ ≡ clearedPart 0 4096 s) (pr : r′ ≡ clearedPart 0 4096 r) (pc : C′ ≡ clearedPart 0 20480 C) (pb : B′ ≡ clearedPart 0 32768 B) (pa : length A ≡ 524416) where
+    pub begun : Begun F (tablesWith s′ r′ C′ B′) (replicate 32768 0) A
+    begun = record {
+      tablesBefore = tablesWith s r C B;
+      fit = R .fit;
+      long = R .long;
+      cleared = λ i. record { symbols = ps i; rows = pr i; clauses = pc i; bindings = pb i };
+      nodes = refl;
+      values = pa;
+    }
+
+    pub read-begun : (e : Ended) (here : Tables) → RecordsRead F (tablesWith s′ r′ C′ B′) (replicate 32768 0) A e here → EndedWith F (tablesWith s r C B) e here
+    unfolding begun
+    read-begun e here X = X .read begun
+
+-- The first clause without literals, by the table's cells.
+empty-length : {A : Type 0} (xs : List A) → eqb (length xs) 0 ≡ isEmpty xs
+empty-length [] = refl
+empty-length (x ∷ xs) = ne-eqb (suc (length xs)) 0 (λ q. omega arith)
+
+first-zero : (cs : List (ℕ × Derivation)) (rest : List ℕ) → firstZero (clauseCells cs ++ rest) (length cs) ≡ firstEmpty (map (λ (c : ℕ × Derivation). c .1) cs)
+first-zero [] rest = refl
+first-zero (c ∷ cs) rest =
+    ap (λ (x : List ℕ). firstZero x (suc (length cs))) (append-assoc front five rest)
+    ∙ ap₂ (λ (o : Option ℕ) (b : Bool). elim o [ some m ↦ some m | none ↦ pick b (some (length cs)) none ]) (first-zero cs (five ++ rest)) (ap (λ (n : ℕ). eqb n 0) cell ∙ empty-length (literals (c .1)))
+    ∙ ap (λ (n : ℕ). elim (firstEmpty (map (λ (d : ℕ × Derivation). d .1) cs)) [ some m ↦ some m | none ↦ pick (isEmpty (literals (c .1))) (some n) none ]) (sym (length-map cs (λ (d : ℕ × Derivation). d .1)))
+  where
+    front : List ℕ
+    front = clauseCells cs
+
+    five : List ℕ
+    five = cellsOfClause (c .0) (bindingsOf (map (λ (d : ℕ × Derivation). d .1) cs)) (c .1)
+
+    cell : literalsCell (clauseCells cs ++ (cellsOfClause (c .0) (bindingsOf (map (λ (d : ℕ × Derivation). d .1) cs)) (c .1) ++ rest)) (length cs) ≡ length (literals (c .1))
+    cell =
+        ap (λ (n : ℕ). getD (clauseCells cs ++ (five ++ rest)) (n + 1) 0) (sym (cells-length cs))
+        ∙ getD-append-add (clauseCells cs) (five ++ rest) 1 0
+
+-- What was read, in numbers.
+abbrev wholeAnswer : Ending → List ℕ
+wholeAnswer e = answerNumbers (answerOf (verdictOf e) (stateOf e))
+
+module _ (F : List ℕ) (t : Tables) (here : Tables) (a : Answer) where
+  all-read-numbers : (n : Counts) (S : State) → n ≡ countsOf S → ending F ≡ allStand S → here ≡ filledTables S t → answerGiven a ≡ endedNumbers (All n) (here .clauses) → FileRead F t a here
+  all-read-numbers n S c q h p = record {
+    numbers = p ∙ ap₂ (λ (x : List ℕ) (m : Counts). numbersWith (standingNumbers x (m .clauses)) m) (ap (λ (x : Tables). x .clauses) h) c
+        ∙ ap (λ (o : Option ℕ). numbersWith (verdictNumbers (standing o)) (countsOf S)) (first-zero (S .clauses) (replicate (20480 - length (clauseCells (S .clauses))) 0 ++ drop 20480 (t .clauses)))
+        ∙ sym (ap wholeAnswer q);
+    tables = h ∙ ap (λ (x : Ending). filledTables (stateOf x) t) (sym q);
+  }
+
+  refused-read-numbers : (number k : ℕ) (n : Counts) (S : State) (reason : Reason) → n ≡ countsOf S → ending F ≡ refusedAt S reason k → number ≡ reasonNumber reason → here ≡ filledTables S t → answerGiven a ≡ endedNumbers (Refused number k n) (here .clauses) → FileRead F t a here
+  refused-read-numbers number k n S reason c q z h p = record {
+    numbers = p ∙ ap₂ (λ (x : ℕ) (m : Counts). numbersWith (2 ∷ x ∷ k ∷ []) m) z c ∙ sym (ap wholeAnswer q);
+    tables = h ∙ ap (λ (x : Ending). filledTables (stateOf x) t) (sym q);
+  }
+
+  pub file-read : (e : Ended) → EndedWith F t e here → answerGiven a ≡ endedNumbers e (here .clauses) → FileRead F t a here
+  file-read (All n) X p = all-read-numbers n (X .state) (X .ended .0) (X .ended .1) (X .tables) p
+  file-read (Refused number k n) X p = refused-read-numbers number k n (X .state) (X .ended .1 .0) (X .ended .0) (X .ended .1 .1) (X .ended .1 .2) (X .tables) p
