@@ -6,6 +6,7 @@ use Prim.Native.Nat.{ℕ}
 use native.Mathlib.Omega.{arith}
 use lib.ListN.{length}
 use Rattle.record.specs.Record.{records}
+use Rattle.unify.specs.Row.{Variable}
 use Rattle.unify.specs.Unification.{mostWork, mostBindings, mostLinks, run}
 use Rattle.unify.proofs.Tests.{true-not-false}
 use Rattle.checker.specs.Cases.{CasesHold, LengthsHold, EdgesHold}
@@ -41,7 +42,7 @@ length-due file tables q j (ofRecord {reason} {k} {S} {r} R D) e =
 
 pub lengths-hold : LengthsHold
 lengths-hold = record {
-  longest = λ file tables k l z. true-not-false (rw l refl) (length-due file tables badLength k (demand2 file tables .refusals badLength k z) refl);
+  longest = λ file tables k l z. true-not-false (rw l refl) (length-due file tables badLength k (demand2 file tables Variable .refusals badLength k z) refl);
   fifteen = λ file lengths l. bad-length file lengths (rw l refl);
   tooLong = λ file lengths l. bad-length file lengths (rw l refl);
 }

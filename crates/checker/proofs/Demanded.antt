@@ -172,18 +172,18 @@ module _ (file : List ℕ) (tables : Tables) where
       let s = some-first (derivations S) i c p q in
       (s .0, ap (λ (a : Answer). a .verdict) (check-reads f l) ∙ ap verdictOf e ∙ ap standing (s .1))
 
-  pub demand2 : Demand2 file tables
-  demand2 = record {
+  pub demand2 : (Y : Type 0) → Demand2 Y file tables
+  demand2 Y = record {
     writtenByLookup = λ f n c q.
         let H = ending-ok file f in
         let K = order-of 4096 (stateOf (ending file)) H n c q .valid in (
           writes-out (rowOf (stateOf (ending file))) (termOf (stateOf (ending file))) (term-of-row (stateOf (ending file)) H) c K,
           writes-out-unique (rowOf (stateOf (ending file))) (termOf (stateOf (ending file))) (term-of-row (stateOf (ending file)) H) c K,
         );
-    resolvents = λ f k S T r R e q. resolvent-added S (reached-ok file f k S r R) k r T e q;
-    factors = λ f k S T r R e q. factor-added S (reached-ok file f k S r R) k r T e q;
-    noUnifier = λ f k S r g R z c. refused-no-unifier S (reached-ok file f k S r R) k r g z c;
-    nothingLost = λ f k S r R range s t A signs Y τ u. unifiable-stands S (reached-ok file f k S r R) k r range s t A signs Y τ u;
+    resolvents = λ f k S T r R e q. resolvent-added S (reached-ok file f k S r R) k r Y T e q;
+    factors = λ f k S T r R e q. factor-added S (reached-ok file f k S r R) k r Y T e q;
+    noUnifier = λ f k S r g R z c. refused-no-unifier S (reached-ok file f k S r R) k r Y g z c;
+    nothingLost = λ f k S r R range s t A signs τ u. unifiable-stands S (reached-ok file f k S r R) k r Y range s t A signs τ u;
     refusals = λ q k z. due-at q k (refused-by q k z);
     statedNumbers = λ q k z. stated q k (due-at q k (refused-by q k z));
     acceptedOnly = λ n z. let a = accepted-ends n z .1 in (a .0, a .1, lowest-empty (a .0) n (a .2));

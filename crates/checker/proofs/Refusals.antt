@@ -130,25 +130,25 @@ module _ (S : State) (H : StateOk 4096 S) (k : ℕ) (r : Record) where
   unification-injective : {f g : Failure} → unification f ≡ unification g → f ≡ g
   unification-injective p = cc
 
-  atoms-apart : (f : Failure) → (f ≡ clash) ⊎ (f ≡ occurs) → ByUnification S r f → (s t : Term Variable) × StepAtoms S r s t × NoUnifier s t
-  atoms-apart f c (resolving {x} {y} e p q s u) =
-      (atomOf S x, apply (renamed (maximumIndex (x .0))) (atomOf S y), ofResolve e p q, resolve-no-unifier S H k r x y p q s (which c))
+  atoms-apart : (Y : Type 0) (f : Failure) → (f ≡ clash) ⊎ (f ≡ occurs) → ByUnification S r f → (s t : Term Variable) × StepAtoms S r s t × NoUnifier Y s t
+  atoms-apart Y f c (resolving {x} {y} e p q s u) =
+      (atomOf S x, apply (renamed (maximumIndex (x .0))) (atomOf S y), ofResolve e p q, resolve-no-unifier S H k r Y x y p q s (which c))
     where
       which : (f ≡ clash) ⊎ (f ≡ occurs) → (unifyResolve S x y ≡ failed clash) ⊎ (unifyResolve S x y ≡ failed occurs)
       which (inl z) = inl (u ∙ ap failed z)
       which (inr z) = inr (u ∙ ap failed z)
-  atoms-apart f c (factoring {x} {y} e p q s u) =
-      (atomOf S x, atomOf S y, ofFactor e p q, factor-no-unifier S H k r x y p q s (which c))
+  atoms-apart Y f c (factoring {x} {y} e p q s u) =
+      (atomOf S x, atomOf S y, ofFactor e p q, factor-no-unifier S H k r Y x y p q s (which c))
     where
       which : (f ≡ clash) ⊎ (f ≡ occurs) → (unifyFactor S x y ≡ failed clash) ⊎ (unifyFactor S x y ≡ failed occurs)
       which (inl z) = inl (u ∙ ap failed z)
       which (inr z) = inr (u ∙ ap failed z)
 
-  pub refused-no-unifier : (f : Failure) → step S k r ≡ refused (unification f) → (f ≡ clash) ⊎ (f ≡ occurs) → (s t : Term Variable) × StepAtoms S r s t × NoUnifier s t
-  refused-no-unifier f z c = try (all-refused (tests S (kindOfRecord r) r) (enter S k (kindOfRecord r) r) (unification f) z)
+  pub refused-no-unifier : (Y : Type 0) (f : Failure) → step S k r ≡ refused (unification f) → (f ≡ clash) ⊎ (f ≡ occurs) → (s t : Term Variable) × StepAtoms S r s t × NoUnifier Y s t
+  refused-no-unifier Y f z c = try (all-refused (tests S (kindOfRecord r) r) (enter S k (kindOfRecord r) r) (unification f) z)
     where
-      try : FirstFailing (tests S (kindOfRecord r) r) (unification f) ⊎ (AllPass (tests S (kindOfRecord r) r) × (enter S k (kindOfRecord r) r ≡ refused (unification f))) → (s t : Term Variable) × StepAtoms S r s t × NoUnifier s t
+      try : FirstFailing (tests S (kindOfRecord r) r) (unification f) ⊎ (AllPass (tests S (kindOfRecord r) r) × (enter S k (kindOfRecord r) r ≡ refused (unification f))) → (s t : Term Variable) × StepAtoms S r s t × NoUnifier Y s t
       try (inl g) = absurd (first-each NotUnification (tests S (kindOfRecord r) r) (unification f) (tests-not-unification S (kindOfRecord r) r) g f refl)
       try (inr a) =
           let b = by-unification S k r (kindOfRecord r) (unification f) refl (a .0) (a .1) in
-          atoms-apart f c (subst (ByUnification S r) (unification-injective (b .1)) (b .2))
+          atoms-apart Y f c (subst (ByUnification S r) (unification-injective (b .1)) (b .2))

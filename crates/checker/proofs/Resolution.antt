@@ -44,13 +44,13 @@ module _ (S : State) (H : StateOk 4096 S) (k : ℕ) (r : Record) where
   abbrev one : (w q s : ℕ) (xs ys : List ℕ) → rowOf S w ≡ application s xs → rowOf S q ≡ application s ys → length xs ≡ length ys
   one = one-arity S H
 
-  pub resolvent-added : (T : State) → kindOfRecord r ≡ resolveKind → step S k r ≡ stands T → ResolventAdded S k r T
-  resolvent-added T e q =
+  pub resolvent-added : (Y : Type 0) (T : State) → kindOfRecord r ≡ resolveKind → step S k r ≡ stands T → ResolventAdded Y S k r T
+  resolvent-added Y T e q =
       let a = all-stand (tests S resolveKind r) (enter S k resolveKind r) T (sym (at-kind S k r resolveKind e) ∙ q) in
       let s = named-stands _ (leftOf S r) (rightOf S r) T (a .1) in
       made (s .0) (s .1) (named-resolve S r (s .0) (s .1) (s .2) (s .3) (tests-passed S resolveKind r (a .0))) (s .4)
     where
-      made : (x y : Derivation × Literal) → NamedResolve S r x y → addClause S k (resolve (x .0) (fieldB r) (y .0) (fieldD r)) (unifyResolve S x y) ≡ stands T → ResolventAdded S k r T
+      made : (x y : Derivation × Literal) → NamedResolve S r x y → addClause S k (resolve (x .0) (fieldB r) (y .0) (fieldD r)) (unifyResolve S x y) ≡ stands T → ResolventAdded Y S k r T
       made x y N z =
           let c = clause-added S k (resolve (x .0) (fieldB r) (y .0) (fieldD r)) (unifyResolve S x y) T z in
           let L = order-of 4096 S H (fieldA r) (x .0) (N .isLeft) .valid in
@@ -63,16 +63,16 @@ module _ (S : State) (H : StateOk 4096 S) (k : ℕ) (r : Record) where
             clause = resolve (x .0) (fieldB r) (y .0) (fieldD r) (c .0);
             added = sym (c .3);
             apart = standardized-apart (rowOf S) (termOf S) law (x .0) (y .0) L R;
-            resolvent = is-resolvent (rowOf S) (termOf S) law (x .0) (y .0) L R (fieldB r) (fieldD r) (x .1 .0) (x .1 .1) (y .1 .1) (N .isLeftLiteral) (N .isRightLiteral ∙ ap (λ (b : Bool). some (b, y .1 .1)) (N .signs)) one (c .0) (held S, c .1, c .2);
+            resolvent = is-resolvent (rowOf S) (termOf S) law (x .0) (y .0) L R (fieldB r) (fieldD r) (x .1 .0) (x .1 .1) (y .1 .1) (N .isLeftLiteral) (N .isRightLiteral ∙ ap (λ (b : Bool). some (b, y .1 .1)) (N .signs)) one (c .0) (held S, c .1, c .2) Y;
           }
 
-  pub factor-added : (T : State) → kindOfRecord r ≡ factorKind → step S k r ≡ stands T → FactorAdded S k r T
-  factor-added T e q =
+  pub factor-added : (Y : Type 0) (T : State) → kindOfRecord r ≡ factorKind → step S k r ≡ stands T → FactorAdded Y S k r T
+  factor-added Y T e q =
       let a = all-stand (tests S factorKind r) (enter S k factorKind r) T (sym (at-kind S k r factorKind e) ∙ q) in
       let s = named-stands _ (leftOf S r) (deletedOf S r) T (a .1) in
       made (s .0) (s .1) (named-factor S r (s .0) (s .1) (s .2) (s .3) (tests-passed S factorKind r (a .0))) (s .4)
     where
-      made : (x y : Derivation × Literal) → NamedFactor S r x y → addClause S k (factor (x .0) (fieldB r) (fieldC r)) (unifyFactor S x y) ≡ stands T → FactorAdded S k r T
+      made : (x y : Derivation × Literal) → NamedFactor S r x y → addClause S k (factor (x .0) (fieldB r) (fieldC r)) (unifyFactor S x y) ≡ stands T → FactorAdded Y S k r T
       made x y N z =
           let c = clause-added S k (factor (x .0) (fieldB r) (fieldC r)) (unifyFactor S x y) T z in
           record {
@@ -80,26 +80,26 @@ module _ (S : State) (H : StateOk 4096 S) (k : ℕ) (r : Record) where
             isParent = N .isParent;
             clause = factor (x .0) (fieldB r) (fieldC r) (c .0);
             added = sym (c .3);
-            factored = is-factor (rowOf S) (termOf S) law (x .0) (order-of 4096 S H (fieldA r) (x .0) (N .isParent) .valid) (fieldB r) (fieldC r) (x .1 .0) (x .1 .1) (y .1 .1) (N .isKept) (N .isDeleted ∙ ap (λ (b : Bool). some (b, y .1 .1)) (N .signs)) one (c .0) (held S, c .1, c .2) (N .different);
+            factored = is-factor (rowOf S) (termOf S) law (x .0) (order-of 4096 S H (fieldA r) (x .0) (N .isParent) .valid) (fieldB r) (fieldC r) (x .1 .0) (x .1 .1) (y .1 .1) (N .isKept) (N .isDeleted ∙ ap (λ (b : Bool). some (b, y .1 .1)) (N .signs)) one (c .0) (held S, c .1, c .2) (N .different) Y;
           }
 
   -- The atoms of a resolve whose unification clashes or meets an occurrence.
-  pub resolve-no-unifier : (x y : Derivation × Literal) → leftOf S r ≡ some x → rightOf S r ≡ some y → y .1 .0 ≡ not (x .1 .0) → (unifyResolve S x y ≡ failed clash) ⊎ (unifyResolve S x y ≡ failed occurs)
-      → NoUnifier (atomOf S x) (apply (renamed (maximumIndex (x .0))) (atomOf S y))
-  resolve-no-unifier x y p q s f =
+  pub resolve-no-unifier : (Y : Type 0) (x y : Derivation × Literal) → leftOf S r ≡ some x → rightOf S r ≡ some y → y .1 .0 ≡ not (x .1 .0) → (unifyResolve S x y ≡ failed clash) ⊎ (unifyResolve S x y ≡ failed occurs)
+      → NoUnifier Y (atomOf S x) (apply (renamed (maximumIndex (x .0))) (atomOf S y))
+  resolve-no-unifier Y x y p q s f =
       let l = literal-named S (fieldA r) (fieldB r) x p in
       let m = literal-named S (fieldC r) (fieldD r) y q in
-      no-resolvent (rowOf S) (termOf S) law (x .0) (y .0) (order-of 4096 S H (fieldA r) (x .0) (l .0) .valid) (order-of 4096 S H (fieldC r) (y .0) (m .0) .valid) (fieldB r) (fieldD r) (x .1 .0) (x .1 .1) (y .1 .1) (l .1) (m .1 ∙ ap (λ (b : Bool). some (b, y .1 .1)) s) (held S) f
+      no-resolvent (rowOf S) (termOf S) law (x .0) (y .0) (order-of 4096 S H (fieldA r) (x .0) (l .0) .valid) (order-of 4096 S H (fieldC r) (y .0) (m .0) .valid) (fieldB r) (fieldD r) (x .1 .0) (x .1 .1) (y .1 .1) (l .1) (m .1 ∙ ap (λ (b : Bool). some (b, y .1 .1)) s) Y (held S) f
 
-  pub factor-no-unifier : (x y : Derivation × Literal) → leftOf S r ≡ some x → deletedOf S r ≡ some y → y .1 .0 ≡ x .1 .0 → (unifyFactor S x y ≡ failed clash) ⊎ (unifyFactor S x y ≡ failed occurs)
-      → NoUnifier (atomOf S x) (atomOf S y)
-  factor-no-unifier x y p q s f =
+  pub factor-no-unifier : (Y : Type 0) (x y : Derivation × Literal) → leftOf S r ≡ some x → deletedOf S r ≡ some y → y .1 .0 ≡ x .1 .0 → (unifyFactor S x y ≡ failed clash) ⊎ (unifyFactor S x y ≡ failed occurs)
+      → NoUnifier Y (atomOf S x) (atomOf S y)
+  factor-no-unifier Y x y p q s f =
       let l = literal-named S (fieldA r) (fieldB r) x p in
       let m = literal-named S (fieldA r) (fieldC r) y q in
       let e = same-parent S r x y p q in
       let n = subst (λ (c : Derivation). numbered (literals c) (fieldC r) ≡ some (y .1)) e (m .1) in
-      subst (λ (c : Derivation). NoUnifier (atomOf S x) (writtenOut (termOf S) (substitution (termOf S) c) (y .1 .1))) (sym e)
-      (no-factor (rowOf S) (termOf S) law (x .0) (order-of 4096 S H (fieldA r) (x .0) (l .0) .valid) (fieldB r) (fieldC r) (x .1 .0) (x .1 .1) (y .1 .1) (l .1) (n ∙ ap (λ (b : Bool). some (b, y .1 .1)) s) (held S) f)
+      subst (λ (c : Derivation). NoUnifier Y (atomOf S x) (writtenOut (termOf S) (substitution (termOf S) c) (y .1 .1))) (sym e)
+      (no-factor (rowOf S) (termOf S) law (x .0) (order-of 4096 S H (fieldA r) (x .0) (l .0) .valid) (fieldB r) (fieldC r) (x .1 .0) (x .1 .1) (y .1 .1) (l .1) (n ∙ ap (λ (b : Bool). some (b, y .1 .1)) s) Y (held S) f)
 
   -- Following never runs out.
   pub resolve-not-endless : (x y : Derivation × Literal) → leftOf S r ≡ some x → rightOf S r ≡ some y → ¬ (unifyResolve S x y ≡ failed endless)
@@ -153,16 +153,16 @@ module _ (S : State) (H : StateOk 4096 S) (k : ℕ) (r : Record) where
       limits true q = ends o c u n (e ∙ require-true (withinLimits S kind r) tooLarge (addClause S k clause o) q)
       limits false q = resultTooLarge (e ∙ require-false (withinLimits S kind r) tooLarge (addClause S k clause o) q)
 
-  pub unifiable-stands : inRange (kindOfRecord r) r ≡ true → (s t : Term Variable) → StepAtoms S r s t → fittingSigns S (kindOfRecord r) r ≡ true → (Y : Type 0) (τ : Variable → Term Y) → Unifies τ s t → StandsOrLimit S k r
-  unifiable-stands range s t (ofResolve {x} {y} e p q) signs Y τ z =
+  pub unifiable-stands : (Y : Type 0) → inRange (kindOfRecord r) r ≡ true → (s t : Term Variable) → StepAtoms S r s t → fittingSigns S (kindOfRecord r) r ≡ true → (τ : Variable → Term Y) → Unifies τ s t → StandsOrLimit S k r
+  unifiable-stands Y range s t (ofResolve {x} {y} e p q) signs τ z =
       let f = subst (λ (kind : Kind). fittingSigns S kind r ≡ true) e signs in
       let g = signs-resolve S r x y p q f in
       outcome resolveKind (resolve (x .0) (fieldB r) (y .0) (fieldD r)) (unifyResolve S x y)
       (at-kind S k r resolveKind e ∙ to-limits resolveKind refl (subst (λ (kind : Kind). inRange kind r ≡ true) e range) (rw (p, q)) refl refl f ∙ ap (require (withinLimits S resolveKind r) tooLarge) (enter-resolve S k r x y p q))
-      (λ w. resolve-no-unifier x y p q g (inl w) Y τ z) (λ w. resolve-no-unifier x y p q g (inr w) Y τ z) (resolve-not-endless x y p q)
-  unifiable-stands range s t (ofFactor {x} {y} e p q) signs Y τ z =
+      (λ w. resolve-no-unifier Y x y p q g (inl w) τ z) (λ w. resolve-no-unifier Y x y p q g (inr w) τ z) (resolve-not-endless x y p q)
+  unifiable-stands Y range s t (ofFactor {x} {y} e p q) signs τ z =
       let f = subst (λ (kind : Kind). fittingSigns S kind r ≡ true) e signs in
       let g = signs-factor S r x y p q f .0 in
       outcome factorKind (factor (x .0) (fieldB r) (fieldC r)) (unifyFactor S x y)
       (at-kind S k r factorKind e ∙ to-limits factorKind refl (subst (λ (kind : Kind). inRange kind r ≡ true) e range) (rw (p, q)) refl refl f ∙ ap (require (withinLimits S factorKind r) tooLarge) (enter-factor S k r x y p q))
-      (λ w. factor-no-unifier x y p q g (inl w) Y τ z) (λ w. factor-no-unifier x y p q g (inr w) Y τ z) (factor-not-endless x y p q)
+      (λ w. factor-no-unifier Y x y p q g (inl w) τ z) (λ w. factor-no-unifier Y x y p q g (inr w) τ z) (factor-not-endless x y p q)

@@ -68,7 +68,7 @@ pub data StepAtoms (S : State) (r : Record) : Term Variable → Term Variable �
       → StepAtoms S r (atomOf S x) (atomOf S y)
 
 -- (a) A resolve that stands adds one clause: the resolvent of the clauses that it names.
-pub record ResolventAdded (S : State) (k : ℕ) (r : Record) (T : State) : Type 1 where
+pub record ResolventAdded (Y : Type 0) (S : State) (k : ℕ) (r : Record) (T : State) : Type 0 where
   pub left : Derivation
   pub right : Derivation
   pub isLeft : clauseOf S (fieldA r) ≡ some left
@@ -76,15 +76,15 @@ pub record ResolventAdded (S : State) (k : ℕ) (r : Record) (T : State) : Type 
   pub clause : Derivation
   pub added : T ≡ withClause S k clause
   pub apart : StandardizedApart (maximumIndex left) (written (termOf S) left) (written (termOf S) right)
-  pub resolvent : Resolvent (renamed (maximumIndex left)) (written (termOf S) left) (fieldB r) (written (termOf S) right) (fieldD r) (written (termOf S) clause)
+  pub resolvent : Resolvent Y (renamed (maximumIndex left)) (written (termOf S) left) (fieldB r) (written (termOf S) right) (fieldD r) (written (termOf S) clause)
 
 -- A factor that stands adds one clause: the factor of the clause that it names.
-pub record FactorAdded (S : State) (k : ℕ) (r : Record) (T : State) : Type 1 where
+pub record FactorAdded (Y : Type 0) (S : State) (k : ℕ) (r : Record) (T : State) : Type 0 where
   pub parent : Derivation
   pub isParent : clauseOf S (fieldA r) ≡ some parent
   pub clause : Derivation
   pub added : T ≡ withClause S k clause
-  pub factored : Factor (written (termOf S) parent) (fieldB r) (fieldC r) (written (termOf S) clause)
+  pub factored : Factor Y (written (termOf S) parent) (fieldB r) (fieldC r) (written (termOf S) clause)
 
 -- (c) What may become of a step that has a unifier: it stands, or it is refused with 9, 12 or 13.
 pub data StandsOrLimit (S : State) (k : ℕ) (r : Record) : Type 0 where
@@ -127,20 +127,21 @@ pub record LowestEmpty (S : State) (n : ℕ) : Type 0 where
   pub empty : literals clause ≡ []
   pub lowest : (i : ℕ) (c : Derivation) → i < n → clauseOf S i ≡ some c → ¬ (literals c ≡ [])
 
-pub record Demand2 (file : List ℕ) (tables : Tables) : Type 1 where
+-- Unifiers have values that are terms over Y; the textbook's own are those with Y = Variable. It is proved for every Y.
+pub record Demand2 (Y : Type 0) (file : List ℕ) (tables : Tables) : Type 0 where
   -- Clauses are written out by what looking up gives, and by nothing else.
   pub writtenByLookup : fittingLength (length file) ≡ true → (n : ℕ) (c : Derivation) → clauseOf (stateOf (ending file)) n ≡ some c
       → WritesOut (termOf (stateOf (ending file))) (lookup c) (substitution (termOf (stateOf (ending file))) c)
       × ((τ : Variable → Term Variable) → WritesOut (termOf (stateOf (ending file))) (lookup c) τ → (x : Variable) → substitution (termOf (stateOf (ending file))) c x ≡ τ x)
   -- (a)
-  pub resolvents : fittingLength (length file) ≡ true → (k : ℕ) (S T : State) (r : Record) → Reached file k S r → kindOfRecord r ≡ resolveKind → step S k r ≡ stands T → ResolventAdded S k r T
-  pub factors : fittingLength (length file) ≡ true → (k : ℕ) (S T : State) (r : Record) → Reached file k S r → kindOfRecord r ≡ factorKind → step S k r ≡ stands T → FactorAdded S k r T
+  pub resolvents : fittingLength (length file) ≡ true → (k : ℕ) (S T : State) (r : Record) → Reached file k S r → kindOfRecord r ≡ resolveKind → step S k r ≡ stands T → ResolventAdded Y S k r T
+  pub factors : fittingLength (length file) ≡ true → (k : ℕ) (S T : State) (r : Record) → Reached file k S r → kindOfRecord r ≡ factorKind → step S k r ≡ stands T → FactorAdded Y S k r T
   -- (b)
   pub noUnifier : fittingLength (length file) ≡ true → (k : ℕ) (S : State) (r : Record) (f : Failure) → Reached file k S r → step S k r ≡ refused (unification f) → (f ≡ clash) ⊎ (f ≡ occurs)
-      → (s t : Term Variable) × StepAtoms S r s t × NoUnifier s t
+      → (s t : Term Variable) × StepAtoms S r s t × NoUnifier Y s t
   -- (c)
   pub nothingLost : fittingLength (length file) ≡ true → (k : ℕ) (S : State) (r : Record) → Reached file k S r → inRange (kindOfRecord r) r ≡ true → (s t : Term Variable) → StepAtoms S r s t
-      → fittingSigns S (kindOfRecord r) r ≡ true → (Y : Type 0) (τ : Variable → Term Y) → Unifies τ s t → StandsOrLimit S k r
+      → fittingSigns S (kindOfRecord r) r ≡ true → (τ : Variable → Term Y) → Unifies τ s t → StandsOrLimit S k r
   -- (d)
   pub refusals : (reason : Reason) (k : ℕ) → check file (lengthsOf tables) .verdict ≡ refusal reason k → DueAt file tables reason k
   pub statedNumbers : (reason : Reason) (k : ℕ) → check file (lengthsOf tables) .verdict ≡ refusal reason k → (1 ≤ reasonNumber reason) × (reasonNumber reason ≤ 13)

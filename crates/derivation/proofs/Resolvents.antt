@@ -97,10 +97,10 @@ module _ (row : ℕ → Row) (term : ℕ → Term ℕ) (termLaw : (r : ℕ) → 
       od′ = omega (arith, od)
 
       -- A clash or an occurrence: the two atoms, written out and apart, have no unifier.
-      pub no-resolvent : (held : ℕ) → (unify row held (joined (maximumIndex l) (lookup l) (lookup r)) e (raise (maximumIndex l) d) ≡ failed clash) ⊎ (unify row held (joined (maximumIndex l) (lookup l) (lookup r)) e (raise (maximumIndex l) d) ≡ failed occurs)
-          → NoUnifier (writtenOut term (substitution term l) e) (apply (renamed (maximumIndex l)) (writtenOut term (substitution term r) d))
-      no-resolvent held f Y δ z =
-          no-unifier row term termLaw (In (m + n)) base both S held e (raise m d) f Y δ (ap (apply δ) (lefts e oe) ∙ z ∙ sym (ap (apply δ) (rights d od)))
+      pub no-resolvent : (Y : Type 0) (held : ℕ) → (unify row held (joined (maximumIndex l) (lookup l) (lookup r)) e (raise (maximumIndex l) d) ≡ failed clash) ⊎ (unify row held (joined (maximumIndex l) (lookup l) (lookup r)) e (raise (maximumIndex l) d) ≡ failed occurs)
+          → NoUnifier Y (writtenOut term (substitution term l) e) (apply (renamed (maximumIndex l)) (writtenOut term (substitution term r) d))
+      no-resolvent Y held f δ z =
+          no-unifier row term termLaw (In (m + n)) base both S Y held e (raise m d) f δ (ap (apply δ) (lefts e oe) ∙ z ∙ sym (ap (apply δ) (rights d od)))
 
       module _ (arities : (r q s : ℕ) (xs ys : List ℕ) → row r ≡ application s xs → row q ≡ application s ys → length xs ≡ length ys)
           (bs : List Binding) (u : Unified row (joined (maximumIndex l) (lookup l) (lookup r)) e (raise (maximumIndex l) d) bs) where
@@ -116,16 +116,16 @@ module _ (row : ℕ → Row) (term : ℕ → Term ℕ) (termLaw : (r : ℕ) → 
             ∙ ap (instantiated (renamed m)) (map-without (writtenLiteral term (substitution term r)) (literals r) b)
             ∙ map-without (λ (x : Bool × Term Variable). (x .0, apply (renamed m) (x .1))) (written term r) b
 
-        pub is-resolvent : Resolvent (renamed (maximumIndex l)) (written term l) a (written term r) b (written term (resolve l a r b bs))
-        is-resolvent = record {
+        pub is-resolvent : (Y : Type 0) → Resolvent Y (renamed (maximumIndex l)) (written term l) a (written term r) b (written term (resolve l a r b bs))
+        is-resolvent Y = record {
           sign = s;
           left = writtenOut term (substitution term l) e;
           right = apply (renamed m) (writtenOut term (substitution term r) d);
           isLeft = map-numbered (writtenLiteral term (substitution term l)) (literals l) a (s, e) p;
           isRight = map-numbered (λ (x : Bool × Term Variable). (x .0, apply (renamed m) (x .1))) (written term r) b (not s, writtenOut term (substitution term r) d) (map-numbered (writtenLiteral term (substitution term r)) (literals r) b (not s, d) q);
           unifier = θ;
-          mostGeneral = subst (λ (t : Term Variable). MostGeneralUnifier θ t (apply (renamed m) (writtenOut term (substitution term r) d))) (lefts e oe) (subst (λ (t : Term Variable). MostGeneralUnifier θ (writtenOut term both e) t) (rights d od)
-              (most-general row term termLaw (In (m + n)) base both S arities e (raise m d) bs u κ oe′ od′));
+          mostGeneral = subst (λ (t : Term Variable). MostGeneralUnifier Y θ t (apply (renamed m) (writtenOut term (substitution term r) d))) (lefts e oe) (subst (λ (t : Term Variable). MostGeneralUnifier Y θ (writtenOut term both e) t) (rights d od)
+              (most-general row term termLaw (In (m + n)) base both S arities e (raise m d) bs u κ oe′ od′ Y));
           result = written-then term both (composed term both bs) θ (m + n) (value-after row term termLaw (In (m + n)) base both S arities e (raise m d) bs u κ oe′ od′) (literals (resolve l a r b bs)) (literals-in (resolve l a r b bs))
               ∙ ap (instantiated θ) (map-append (writtenLiteral term both) (without (literals l) a) (map (raiseLiteral m) (without (literals r) b)) ∙ ap₂ (λ (x y : Clause). x ++ y) left-part right-part);
         }
@@ -146,17 +146,17 @@ module _ (row : ℕ → Row) (term : ℕ → Term ℕ) (termLaw : (r : ℕ) → 
     id : In N (d .1)
     id = each-numbered (LiteralIn N) (literals c) b (s, d) q (literals-in c)
 
-    pub no-factor : (held : ℕ) → (unify row held (lookup c) e d ≡ failed clash) ⊎ (unify row held (lookup c) e d ≡ failed occurs)
-        → NoUnifier (writtenOut term (substitution term c) e) (writtenOut term (substitution term c) d)
-    no-factor held f = no-unifier row term termLaw (In N) (lookup c) (substitution term c) Sc held e d f
+    pub no-factor : (Y : Type 0) (held : ℕ) → (unify row held (lookup c) e d ≡ failed clash) ⊎ (unify row held (lookup c) e d ≡ failed occurs)
+        → NoUnifier Y (writtenOut term (substitution term c) e) (writtenOut term (substitution term c) d)
+    no-factor Y held f = no-unifier row term termLaw (In N) (lookup c) (substitution term c) Sc Y held e d f
 
     module _ (arities : (r q s : ℕ) (xs ys : List ℕ) → row r ≡ application s xs → row q ≡ application s ys → length xs ≡ length ys)
         (bs : List Binding) (u : Unified row (lookup c) e d bs) (differ : ¬ (a ≡ b)) where
       abbrev φ : Variable → Term Variable
       φ = unifier row term termLaw (In N) (lookup c) (substitution term c) Sc arities e d bs u κc ie id
 
-      pub is-factor : Factor (written term c) a b (written term (factor c a b bs))
-      is-factor = record {
+      pub is-factor : (Y : Type 0) → Factor Y (written term c) a b (written term (factor c a b bs))
+      is-factor Y = record {
         sign = s;
         left = writtenOut term (substitution term c) e;
         right = writtenOut term (substitution term c) d;
@@ -164,7 +164,7 @@ module _ (row : ℕ → Row) (term : ℕ → Term ℕ) (termLaw : (r : ℕ) → 
         isRight = map-numbered (writtenLiteral term (substitution term c)) (literals c) b (s, d) q;
         different = differ;
         unifier = φ;
-        mostGeneral = most-general row term termLaw (In N) (lookup c) (substitution term c) Sc arities e d bs u κc ie id;
+        mostGeneral = most-general row term termLaw (In N) (lookup c) (substitution term c) Sc arities e d bs u κc ie id Y;
         result = written-then term (substitution term c) (composed term (substitution term c) bs) φ N (value-after row term termLaw (In N) (lookup c) (substitution term c) Sc arities e d bs u κc ie id) (without (literals c) b) (each-without (LiteralIn N) (literals c) b (literals-in c))
             ∙ ap (instantiated φ) (map-without (writtenLiteral term (substitution term c)) (literals c) b);
       }

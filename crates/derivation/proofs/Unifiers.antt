@@ -47,9 +47,9 @@ module _ (row : ℕ → Row) (term : ℕ → Term ℕ) (termLaw : (r : ℕ) → 
   carried : (held : ℕ) (e d : Expression) {Y : Type 0} (τ : Variable → Term Y) → Unifies τ (writtenOut term σ e) (writtenOut term σ d) → ForthEnd row mostLinks base term (λ x. apply τ (σ x)) (unify row held base e d)
   carried held e d τ q = forth-run row mostLinks base term (λ x. apply τ (σ x)) (noRoom held) termLaw mostWork (unifying [] ((e, d) ∷ [])) (then-respects τ, (sym (then-written τ e) ∙ q ∙ then-written τ d, tt))
 
-  pub no-unifier : (held : ℕ) (e d : Expression) → (unify row held base e d ≡ failed clash) ⊎ (unify row held base e d ≡ failed occurs) → NoUnifier (writtenOut term σ e) (writtenOut term σ d)
-  no-unifier held e d (inl r) Y τ q = rw r at (carried held e d τ q)
-  no-unifier held e d (inr r) Y τ q = rw r at (carried held e d τ q)
+  pub no-unifier : (Y : Type 0) (held : ℕ) (e d : Expression) → (unify row held base e d ≡ failed clash) ⊎ (unify row held base e d ≡ failed occurs) → NoUnifier Y (writtenOut term σ e) (writtenOut term σ d)
+  no-unifier Y held e d (inl r) τ q = rw r at (carried held e d τ q)
+  no-unifier Y held e d (inr r) τ q = rw r at (carried held e d τ q)
 
   module _ (arities : (r q s : ℕ) (xs ys : List ℕ) → row r ≡ application s xs → row q ≡ application s ys → length xs ≡ length ys)
       (e d : Expression) (bs : List Binding) (u : Unified row base e d bs) (κ : IndicesKept good base) (oe : good (e .1)) (od : good (d .1)) where
@@ -93,5 +93,5 @@ module _ (row : ℕ → Row) (term : ℕ → Term ℕ) (termLaw : (r : ℕ) → 
         try none p = sym (γ-free x p) ∙ sym (M .factors γ R x) ∙ swap (extend base bs x) refl
         try (some c) p = refl
 
-    pub most-general : MostGeneralUnifier unifier (writtenOut term σ e) (writtenOut term σ d)
-    most-general = record { unifies = sym (value-after e oe) ∙ before .1 ∙ value-after d od; general = general }
+    pub most-general : (Y : Type 0) → MostGeneralUnifier Y unifier (writtenOut term σ e) (writtenOut term σ d)
+    most-general Y = record { unifies = sym (value-after e oe) ∙ before .1 ∙ value-after d od; general = general }

@@ -14,19 +14,20 @@ use Rattle.derivation.specs.Written.{Clause, renamed}
 abbrev pub instantiated : (Variable → Term Variable) → Clause → Clause
 instantiated τ c = map (λ l. (l .0, apply τ (l .1))) c
 
--- E is the resolvent of C and D on the literals numbered a and b, where D's variables have been renamed.
-pub record Resolvent (rename : Variable → Term Variable) (C : Clause) (a : ℕ) (D : Clause) (b : ℕ) (E : Clause) : Type 1 where
+-- E is the resolvent of C and D on the literals numbered a and b, where D's variables have been renamed. The unifier is most general
+-- among those whose values are terms over Y; the theorems hold for every Y.
+pub record Resolvent (Y : Type 0) (rename : Variable → Term Variable) (C : Clause) (a : ℕ) (D : Clause) (b : ℕ) (E : Clause) : Type 0 where
   pub sign : Bool
   pub left : Term Variable
   pub right : Term Variable
   pub isLeft : numbered C a ≡ some (sign, left)
   pub isRight : numbered (instantiated rename D) b ≡ some (not sign, right)
   pub unifier : Variable → Term Variable
-  pub mostGeneral : MostGeneralUnifier unifier left right
+  pub mostGeneral : MostGeneralUnifier Y unifier left right
   pub result : E ≡ instantiated unifier (without C a ++ without (instantiated rename D) b)
 
--- E is the factor of C that keeps literal a and deletes literal b.
-pub record Factor (C : Clause) (a b : ℕ) (E : Clause) : Type 1 where
+-- E is the factor of C that keeps literal a and deletes literal b, with the unifier as in a resolvent.
+pub record Factor (Y : Type 0) (C : Clause) (a b : ℕ) (E : Clause) : Type 0 where
   pub sign : Bool
   pub left : Term Variable
   pub right : Term Variable
@@ -34,7 +35,7 @@ pub record Factor (C : Clause) (a b : ℕ) (E : Clause) : Type 1 where
   pub isRight : numbered C b ≡ some (sign, right)
   pub different : ¬ (a ≡ b)
   pub unifier : Variable → Term Variable
-  pub mostGeneral : MostGeneralUnifier unifier left right
+  pub mostGeneral : MostGeneralUnifier Y unifier left right
   pub result : E ≡ instantiated unifier (without C b)
 
 -- Every variable of a clause has the property P.

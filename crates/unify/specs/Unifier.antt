@@ -7,11 +7,11 @@ use Rattle.unify.specs.Term.{Term, apply}
 abbrev pub Unifies : {Y : Type 0} → (Variable → Term Y) → Term Variable → Term Variable → Type 0
 Unifies τ s t = apply τ s ≡ apply τ t
 
--- No substitution makes them equal, whatever variables its values have.
-abbrev pub NoUnifier : Term Variable → Term Variable → Type 1
-NoUnifier s t = (Y : Type 0) (τ : Variable → Term Y) → ¬ Unifies τ s t
+-- No substitution whose values are terms over Y makes them equal. The theorems hold for every Y.
+abbrev pub NoUnifier : Type 0 → Term Variable → Term Variable → Type 0
+NoUnifier Y s t = (τ : Variable → Term Y) → ¬ Unifies τ s t
 
--- θ unifies, and every unifier is θ followed by that unifier.
-pub record MostGeneralUnifier (θ : Variable → Term Variable) (s t : Term Variable) : Type 1 where
+-- θ unifies, and every unifier whose values are terms over Y is θ followed by that unifier. The theorems hold for every Y.
+pub record MostGeneralUnifier (Y : Type 0) (θ : Variable → Term Variable) (s t : Term Variable) : Type 0 where
   pub unifies : Unifies θ s t
-  pub general : {Y : Type 0} (τ : Variable → Term Y) → Unifies τ s t → (x : Variable) → τ x ≡ apply τ (θ x)
+  pub general : (τ : Variable → Term Y) → Unifies τ s t → (x : Variable) → τ x ≡ apply τ (θ x)
