@@ -6,6 +6,7 @@ use mathlib.Core.List.{List, [], _∷_, _++_}
 use Prim.Native.Nat.{ℕ, _+_, _-_, _*_, _<_}
 use native.Mathlib.Omega.{arith}
 use lib.ListN.{length, getD, drop, replicate, length-map, List·getD-append}
+use Rattle.unify.specs.Row.{Variable}
 use Rattle.unify.proofs.Tests.{some-injective}
 use Rattle.derivation.specs.Derivation.{Derivation, maximumIndex}
 use Rattle.checker.specs.Contract.{Checked}
@@ -18,7 +19,7 @@ use Rattle.checker.specs.Tables.{Tables, lengthsOf, clauseCells, tablesA
 use Rattle.checker.specs.Verdict.{refusal, check, accepted, undecided, verdictNumbers, answerNumbers, longEnough, fittingLength, ending}
 use Rattle.checker.specs.Verdict as verdicts
 use Rattle.checker.proofs.Acceptance.{cells-length}
-use Rattle.checker.proofs.Demanded.{check-length, check-tables, check-reads, tables-length, tables-short, tables-read, demand1, demand3}
+use Rattle.checker.proofs.Demanded.{check-length, check-tables, check-reads, tables-length, tables-short, tables-read, demand1, demand2, demand3}
 use Rattle.checker.proofs.Inversions.{entry-below}
 use Rattle.checker.proofs.StepTests.{not-false, not-true}
 use Rattle.checker.specs.declared.answer.Answer.{Answer}
@@ -69,6 +70,7 @@ module _ (F : List ℕ) (t : Tables) (a : Answer) (here : Tables) (isAnswer : an
     clauses = ap (λ (x : Tables). x .clauses) isTables;
     bindings = ap (λ (x : Tables). x .bindings) isTables;
     honest = demand1 F t;
+    textbook = demand2 F t Variable;
     refutation = demand3 F t;
     maximum = maximum-there;
   }

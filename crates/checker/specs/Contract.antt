@@ -4,8 +4,9 @@ use mathlib.Core.Option.{some}
 use mathlib.Core.List.{List}
 use Prim.Native.Nat.{ℕ, _+_, _*_}
 use lib.ListN.{getD}
+use Rattle.unify.specs.Row.{Variable}
 use Rattle.derivation.specs.Derivation.{Derivation, maximumIndex}
-use Rattle.checker.specs.Demands.{Demand1, Demand3}
+use Rattle.checker.specs.Demands.{Demand1, Demand2, Demand3}
 use Rattle.checker.specs.Given.{answerGiven}
 use Rattle.checker.specs.State.{clauseOf}
 use Rattle.checker.specs.Step.{stateOf}
@@ -23,6 +24,7 @@ pub record Checked (file : List ℕ) (before : Tables) (a : Answer) (after : Tab
   pub bindings : after .bindings ≡ tablesAfter file before .bindings
   -- The mission's demands.
   pub honest : Demand1 file before
+  pub textbook : Demand2 Variable file before
   pub refutation : Demand3 file before
   -- The maximum index of an accepted clause is the cell that the table of clauses then holds.
   pub maximum : (n : ℕ) → a .verdict ≡ verdict.Accepted n → (c : Derivation) → clauseOf (stateOf (ending file)) n ≡ some c → getD (after .clauses) (5 * n + 2) 0 ≡ maximumIndex c
