@@ -1,0 +1,16 @@
+//! Links the static library of the proved check, which `rt staticlib checker_c` writes.
+
+use std::path::Path;
+
+fn main() {
+    let directory = Path::new(env!("CARGO_MANIFEST_DIR")).join("../../target/staticlib");
+    let archive = directory.join("libchecker_c.a");
+    println!("cargo:rerun-if-changed={}", archive.display());
+    if !archive.exists() {
+        println!("cargo:warning=target/staticlib/libchecker_c.a is missing; run: rt staticlib checker_c");
+        eprintln!("target/staticlib/libchecker_c.a is missing; run: rt staticlib checker_c");
+        std::process::exit(1);
+    }
+    println!("cargo:rustc-link-search=native={}", directory.display());
+    println!("cargo:rustc-link-lib=static=checker_c");
+}
