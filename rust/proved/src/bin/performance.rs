@@ -96,7 +96,8 @@ fn links() -> Vec<u8> {
     let [q, r, g, a] = [1, 1, 2, 0].map(|arity| file.symbol(arity));
     let (x, a) = (file.variable(0), file.application(a, &[]));
     let (open, full) = (tree(&mut file, g, x), tree(&mut file, g, a));
-    let [link, old, goal] = [(q, x), (r, open), (r, full)].map(|(symbol, row)| file.application(symbol, &[row]));
+    let [link, old, goal] =
+        [(q, x), (r, open), (r, full)].map(|(symbol, row)| file.application(symbol, &[row]));
     let mut known = file.clause_of_rows(&[(true, old), (true, link)]);
     let rule = file.clause_of_rows(&[(false, link), (true, link)]);
     let goal = file.clause_of_rows(&[(false, goal)]);
