@@ -3,7 +3,8 @@
  * Link with libchecker_c.a. The function is proved to meet its contract, for
  * every file, every four tables and every answer (specs/Exported.antt). It
  * never fails, never blocks, asks for no memory and keeps nothing between
- * calls. It uses a little more than 1 MiB of stack. */
+ * calls. It takes a little more than 1 MiB of stack for an ordinary file, and
+ * up to 4 MiB for the deepest: call it on a thread that has that much. */
 #ifndef CHECKER_H
 #define CHECKER_H
 
