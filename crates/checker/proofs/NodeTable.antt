@@ -11,7 +11,7 @@ use lib.ListN.{length, getD, replicate, length-append, length-replicate, List·g
 use lib.Seq.{getD-append-add}
 use borrow.Author.Tests.{eq-eqb, ne-eqb}
 use Rattle.record.specs.Record.{pick}
-use Rattle.unify.specs.Nodes.{isVariable, part, nodeArity, HasRow, hasRow, argumentsFrom, nodeRowIf, nodeRow, NodesOk}
+use Rattle.unify.specs.Nodes.{isVariable, part, nodeArity, HasRow, hasRow, argumentsFrom, nodeRow, nodeRowIf, NodesOk}
 use Rattle.unify.specs.Row.{variable, Row, application, noSymbol, rowAt}
 use Rattle.unify.specs.Unification.{arguments}
 use Rattle.unify.proofs.Lists.{Each}

@@ -20,7 +20,7 @@ use Rattle.unify.proofs.Stability.{follow-agree}
 use Rattle.unify.proofs.Tests.{to-T}
 use Rattle.derivation.specs.Derivation.{literals, input, Literal, RowLiteral, Derivation, numbered, raise, maximumIndex, ownBindings, joined, lookup, uses}
 use Rattle.derivation.proofs.Chains.{short-joined}
-use Rattle.derivation.proofs.Known.{KnownRows, Known, KnownEnvironment, known-numbered, known-joined, known-variable, known-arguments, known-lookup, valid-stable, known-more}
+use Rattle.derivation.proofs.Known.{Known, KnownRows, KnownEnvironment, known-numbered, known-joined, known-variable, known-arguments, known-lookup, valid-stable, known-more}
 use Rattle.derivation.proofs.Literals.{leb-false-lt}
 use Rattle.derivation.proofs.Validity.{Valid, lookup-in}
 use Rattle.checker.specs.Demands.{InputsOf}

@@ -142,10 +142,18 @@ module _ {F : List ℕ} {k : ℕ} {n : Counts} {C B N A : List ℕ} (E : BeforeS
   unfolding clauses-stored
   deleted-is P e c m p q r f = f clauses-stored ∙ ap₂ (λ (x y : ℕ). namedAnswer (literalNamed S x y)) (p ∙ ap (λ (l : List ℕ). fieldOf l 0) e) (q ∙ ap (λ (l : List ℕ). fieldOf l 2) e)
 
-  atom-found : (c m c′ m′ : ℕ) → c′ ≡ c → (s : Bool) (r i : ℕ) → FoundLiteral (literalNamed (E .state) c m) s r i → AtomOf (E .state) c′ r i
-  atom-found c m c′ m′ e s r i f =
+  atom-found : (c m : ℕ) (s : Bool) (r i : ℕ) → FoundLiteral (literalNamed (E .state) c m) s r i → (c′ : ℕ) → c′ ≡ c → (x : Atom) → x ≡ record { clause = c′; row = r; index = i } → AtomOf (E .state) (x .clause) (x .row) (x .index)
+  atom-found c m s r i f c′ e x q =
       let l = literal-named S c m (f .named) (f .isNamed) in
-      record { clause = f .named .0; literal = f .named .1; number = m; isClause = ap (clauseOf S) e ∙ l .0; isLiteral = l .1; isRow = f .isRow; isIndex = f .isIndex }
+      record {
+        clause = f .named .0;
+        literal = f .named .1;
+        number = m;
+        isClause = ap (clauseOf S) (ap (λ (z : Atom). z .clause) q ∙ e) ∙ l .0;
+        isLiteral = l .1;
+        isRow = f .isRow ∙ sym (ap (λ (z : Atom). z .row) q);
+        isIndex = f .isIndex ∙ sym (ap (λ (z : Atom). z .index) q);
+      }
 
   -- Resolve, test by test.
   module _ (kd : kindOf (recordPart F k) ≡ 5) (P : List ℕ) (e : P ≡ recordPart F k) (b : Bool) (range : b ≡ stepInRange 4 (decoded P)) where
@@ -189,24 +197,23 @@ module _ {F : List ℕ} {k : ℕ} {n : Counts} {C B N A : List ℕ} (E : BeforeS
         unfolding require
         resolve-equal-signs z p h = refuse wrongSigns (tests true true false (withinLimits S resolveKind rec) (ranged ok) both-there (sign-test ∙ ap not (sym p ∙ h)) refl)
 
-        pub resolve-checked : (z : Bool) → z ≡ equalSigns s t → z ≡ false → (a c : ℕ) → a ≡ fieldOf P 0 → c ≡ fieldOf P 2 → ResolveNamed F k n C B N A (record { clause = a; row = r; index = i }) (record { clause = c; row = q; index = j })
-        unfolding atom-found
-        resolve-checked z p h a c pa pc = record {
-          step = E;
-          isResolve = kd;
-          ranged = ranged ok;
-          left = atom-found (fieldA rec) (fieldB rec) a (fieldB rec) (pa ∙ ap (λ (l : List ℕ). fieldOf l 0) e) s r i X;
-          right = atom-found (fieldC rec) (fieldD rec) c (fieldD rec) (pc ∙ ap (λ (l : List ℕ). fieldOf l 2) e) t q j Y;
-          isLeft = X .isNamed;
-          isRight = Y .isNamed;
-          signs = sign-test ∙ ap not (sym p ∙ h);
-        }
+        module _ (z : Bool) (p : z ≡ equalSigns s t) (h : z ≡ false) (a c : ℕ) (pa : a ≡ fieldOf P 0) (pc : c ≡ fieldOf P 2) (x y : Atom) (isX : x ≡ record { clause = a; row = r; index = i }) (isY : y ≡ record { clause = c; row = q; index = j }) where
+          pub resolve-checked : ResolveNamed F k n C B N A x y
+          unfolding atom-found
+          resolve-checked = record {
+            step = E;
+            isResolve = kd;
+            ranged = ranged ok;
+            left = atom-found (fieldA rec) (fieldB rec) s r i X a (pa ∙ ap (λ (l : List ℕ). fieldOf l 0) e) x isX;
+            right = atom-found (fieldC rec) (fieldD rec) t q j Y c (pc ∙ ap (λ (l : List ℕ). fieldOf l 2) e) y isY;
+            isLeft = X .isNamed;
+            isRight = Y .isNamed;
+            signs = sign-test ∙ ap not (sym p ∙ h);
+          }
 
-        pub resolve-read : (z : Bool) → z ≡ equalSigns s t → z ≡ false → (a c : ℕ) → a ≡ fieldOf P 0 → c ≡ fieldOf P 2 → (C′ B′ A′ : List ℕ) (g : Entered)
-            → ((R : ResolveNamed F k n C B N A (record { clause = a; row = r; index = i }) (record { clause = c; row = q; index = j })) → StepRead F k n C B N A (R .step) C′ B′ A′ g)
-            → StepRead F k n C B N A E C′ B′ A′ g
-        unfolding resolve-checked
-        resolve-read z p h a c pa pc C′ B′ A′ g f = f (resolve-checked z p h a c pa pc)
+          pub resolve-read : (C′ B′ A′ : List ℕ) (g : Entered) → ((R : ResolveNamed F k n C B N A x y) → StepRead F k n C B N A (R .step) C′ B′ A′ g) → StepRead F k n C B N A E C′ B′ A′ g
+          unfolding resolve-checked
+          resolve-read C′ B′ A′ g f = f resolve-checked
 
   -- Factor, test by test.
   module _ (kd : kindOf (recordPart F k) ≡ 6) (P : List ℕ) (e : P ≡ recordPart F k) (b : Bool) (range : b ≡ stepInRange 3 (decoded P)) where
@@ -258,22 +265,21 @@ module _ {F : List ℕ} {k : ℕ} {n : Counts} {C B N A : List ℕ} (E : BeforeS
           unfolding require
           factor-same u = refuse wrongSigns (factor-tests true true false (withinLimits S factorKind rec) (factor-ranged ok) two-there (different ∙ ap not (eq-eqb d c u)) refl)
 
-          pub factor-checked : ¬ (d ≡ c) → FactorNamed F k n C B N A (record { clause = a; row = r; index = i }) (record { clause = a; row = q; index = j })
-          unfolding atom-found
-          factor-checked u = record {
-            step = E;
-            isFactor = kd;
-            ranged = factor-ranged ok;
-            sameClause = refl;
-            kept = atom-found (fieldA rec) (fieldB rec) a (fieldB rec) (pa ∙ ap (λ (l : List ℕ). fieldOf l 0) e) s r i K;
-            deleted = atom-found (fieldA rec) (fieldC rec) a (fieldC rec) (pa ∙ ap (λ (l : List ℕ). fieldOf l 0) e) t q j D;
-            isKept = K .isNamed;
-            isDeleted = D .isNamed;
-            signs = different ∙ ap not (ne-eqb d c u);
-          }
+          module _ (u : ¬ (d ≡ c)) (x y : Atom) (isX : x ≡ record { clause = a; row = r; index = i }) (isY : y ≡ record { clause = a; row = q; index = j }) where
+            pub factor-checked : FactorNamed F k n C B N A x y
+            unfolding atom-found
+            factor-checked = record {
+              step = E;
+              isFactor = kd;
+              ranged = factor-ranged ok;
+              sameClause = ap (λ (v : Atom). v .clause) isY ∙ sym (ap (λ (v : Atom). v .clause) isX);
+              kept = atom-found (fieldA rec) (fieldB rec) s r i K a (pa ∙ ap (λ (l : List ℕ). fieldOf l 0) e) x isX;
+              deleted = atom-found (fieldA rec) (fieldC rec) t q j D a (pa ∙ ap (λ (l : List ℕ). fieldOf l 0) e) y isY;
+              isKept = K .isNamed;
+              isDeleted = D .isNamed;
+              signs = different ∙ ap not (ne-eqb d c u);
+            }
 
-          pub factor-read : ¬ (d ≡ c) → (C′ B′ A′ : List ℕ) (g : Entered)
-              → ((R : FactorNamed F k n C B N A (record { clause = a; row = r; index = i }) (record { clause = a; row = q; index = j })) → StepRead F k n C B N A (R .step) C′ B′ A′ g)
-              → StepRead F k n C B N A E C′ B′ A′ g
-          unfolding factor-checked
-          factor-read u C′ B′ A′ g f = f (factor-checked u)
+            pub factor-read : (C′ B′ A′ : List ℕ) (g : Entered) → ((R : FactorNamed F k n C B N A x y) → StepRead F k n C B N A (R .step) C′ B′ A′ g) → StepRead F k n C B N A E C′ B′ A′ g
+            unfolding factor-checked
+            factor-read C′ B′ A′ g f = f factor-checked

@@ -28,6 +28,13 @@ pub struct Atom {
     pub index: u16,
 }
 
+// An atom of its parts.
+fn atom_of(clause: u16, row: u16, index: u16) -> Atom
+    ensures { λ x. ⌜ x ≡ record { clause = clause; row = row; index = index } ⌝ }
+{
+    Atom { clause, row, index }
+}
+
 // Unifies the atoms of a resolve over the bindings of both parents. The right parent's indices are raised by the left one's maximum.
 fn unify_resolve(
     file: &[u8],
@@ -210,16 +217,8 @@ pub fn resolve_record(
     if same_sign(s, t) {
         return Entered::Refused(8);
     }
-    let x = Atom {
-        clause: a,
-        row: r,
-        index: i,
-    };
-    let y = Atom {
-        clause: c,
-        row: q,
-        index: j,
-    };
+    let x = atom_of(a, r, i);
+    let y = atom_of(c, q, j);
     resolve_atoms(file, k, counts, clauses, bindings, nodes, values, x, y)
 }
 
@@ -289,15 +288,7 @@ pub fn factor_record(
     if b == c {
         return Entered::Refused(8);
     }
-    let x = Atom {
-        clause: a,
-        row: r,
-        index: i,
-    };
-    let y = Atom {
-        clause: a,
-        row: q,
-        index: j,
-    };
+    let x = atom_of(a, r, i);
+    let y = atom_of(a, q, j);
     factor_atoms(file, k, counts, clauses, bindings, nodes, values, x, y)
 }
