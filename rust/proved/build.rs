@@ -3,11 +3,11 @@
 use std::path::Path;
 
 fn main() {
-    let directory = Path::new(env!("CARGO_MANIFEST_DIR")).join("../../target/staticlib");
+    let package = std::env::var_os("CARGO_MANIFEST_DIR").unwrap_or_default();
+    let directory = Path::new(&package).join("../../target/staticlib");
     let archive = directory.join("libchecker_c.a");
     println!("cargo:rerun-if-changed={}", archive.display());
     if !archive.exists() {
-        println!("cargo:warning=target/staticlib/libchecker_c.a is missing; run: rt staticlib checker_c");
         eprintln!("target/staticlib/libchecker_c.a is missing; run: rt staticlib checker_c");
         std::process::exit(1);
     }
