@@ -61,7 +61,7 @@ impl Answer {
 }
 
 /// Checks a file and fills the four tables. Needs at least 4,096, 4,096, 20,480 and 32,768 cells.
-/// The calling thread must have more than 1 MiB and 64 KiB of stack left; see [`with_stack`].
+/// The calling thread must have 4 MiB of stack left, which the deepest files take; see [`with_stack`].
 pub fn check(
     file: &[u8],
     symbols: &mut [u16],
