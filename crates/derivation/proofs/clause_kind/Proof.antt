@@ -2,8 +2,8 @@
 use mathlib.Core.Path.{ap, _∙_}
 use borrow.Author.Needs.{needs}
 use Rattle.record.specs.Record.{kindOf, recordPart}
-use Rattle.derivation.proofs.literal.clause_kind.Statement.{statement}
-use Rattle.derivation.proofs.literal.clause_kind.Tie as tie
+use Rattle.derivation.proofs.clause_kind.Statement.{statement}
+use Rattle.derivation.proofs.clause_kind.Tie as tie
 
 record-cell-requires : tie.Need-record-cell-requires
 record-cell-requires c κs = search needs
