@@ -8,8 +8,8 @@ use Rattle.record.specs.Record.{Record, otherKind, Kind, symbolKind, variableKi
 use Rattle.unify.specs.Environment.{Binding}
 use Rattle.unify.specs.Unification.{unify, Outcome, unified, failed}
 use Rattle.derivation.specs.Derivation.{input, Literal, inputLiterals, Derivation, resolve, factor, raise, maximumIndex, joined, lookup}
-use Rattle.checker.specs.Refusal.{tests, Reason, unification, badKind, notThere, kindOfRecord, leftOf, rightOf, deletedOf, newRow}
-use Rattle.checker.specs.State.{State, withSymbol, withRow, withClause, rowOf, held}
+use Rattle.verdict.specs.Refusal.{tests, Reason, unification, badKind, notThere, kindOfRecord, leftOf, rightOf, deletedOf, newRow}
+use Rattle.verdict.specs.State.{State, withSymbol, withRow, withClause, rowOf, held}
 
 -- A record that stands gives the next state; a refused one its reason.
 pub data Result : Type 0 where

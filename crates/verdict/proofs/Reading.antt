@@ -12,14 +12,14 @@ use Rattle.record.proofs.Records.{Shaped, records-length, records-shaped}
 use Rattle.unify.specs.Row.{application, noSymbol, rowTerm}
 use Rattle.unify.proofs.Rows.{term-law, row-arities}
 use Rattle.unify.proofs.Tests.{to-T, both-true}
-use Rattle.checker.specs.Demands.{Reached}
-use Rattle.checker.specs.Refusal.{Reason}
-use Rattle.checker.specs.State.{arities, State, start, rowsOf, arityOf, rowOf, termOf}
-use Rattle.checker.specs.Step.{stands, refused, Result, step, read, allStand, refusedAt, stateOf}
-use Rattle.checker.specs.Verdict.{fittingLength, ending}
-use Rattle.checker.proofs.Inversions.{entry-none}
-use Rattle.checker.proofs.Standing.{StateOk, held-start}
-use Rattle.checker.proofs.Steps.{step-ok}
+use Rattle.verdict.specs.Demands.{Reached}
+use Rattle.verdict.specs.Refusal.{Reason}
+use Rattle.verdict.specs.State.{arities, State, start, rowsOf, arityOf, rowOf, termOf}
+use Rattle.verdict.specs.Step.{stands, refused, Result, step, read, allStand, refusedAt, stateOf}
+use Rattle.verdict.specs.Verdict.{fittingLength, ending}
+use Rattle.verdict.proofs.Inversions.{entry-none}
+use Rattle.verdict.proofs.Standing.{StateOk, held-start}
+use Rattle.verdict.proofs.Steps.{step-ok}
 
 pub ending-stands : {S T : State} → allStand S ≡ allStand T → S ≡ T
 ending-stands p = cc

@@ -9,15 +9,15 @@ use Rattle.record.specs.Record.{records}
 use Rattle.unify.specs.Row.{Variable}
 use Rattle.unify.specs.Unification.{mostWork, mostBindings, mostLinks, run}
 use Rattle.unify.proofs.Tests.{true-not-false}
-use Rattle.checker.specs.Cases.{CasesHold, LengthsHold, EdgesHold}
-use Rattle.checker.specs.Demands.{DueAt, ofLength, ofTables, ofRecord}
-use Rattle.checker.specs.Refusal.{Reason, badLength, reasonNumber, mostLiterals, mostIndex}
-use Rattle.checker.specs.State.{start, held}
-use Rattle.checker.specs.Step.{require, addClause}
-use Rattle.checker.specs.Tables.{Tables}
-use Rattle.checker.specs.Verdict.{refusal, check, answerOf, Lengths, fittingLength, ending}
-use Rattle.checker.proofs.Demanded.{demand2}
-use Rattle.checker.proofs.Refusals.{due-stated}
+use Rattle.verdict.specs.Cases.{CasesHold, LengthsHold, EdgesHold}
+use Rattle.verdict.specs.Demands.{DueAt, ofLength, ofTables, ofRecord}
+use Rattle.verdict.specs.Refusal.{Reason, badLength, reasonNumber, mostLiterals, mostIndex}
+use Rattle.verdict.specs.State.{start, held}
+use Rattle.verdict.specs.Step.{require, addClause}
+use Rattle.verdict.specs.Tables.{Tables}
+use Rattle.verdict.specs.Verdict.{refusal, check, answerOf, Lengths, fittingLength, ending}
+use Rattle.verdict.proofs.Demanded.{demand2}
+use Rattle.verdict.proofs.Refusals.{due-stated}
 
 pub cases-hold : CasesHold
 unfolding check ending records held require addClause run mostWork mostBindings mostLinks mostLiterals mostIndex

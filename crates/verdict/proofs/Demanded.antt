@@ -19,17 +19,17 @@ use Rattle.derivation.proofs.Forms.{instances-formed}
 use Rattle.derivation.proofs.Known.{known-uses}
 use Rattle.derivation.proofs.Literals.{uses-length}
 use Rattle.derivation.proofs.Values.{refutes, writes-out, writes-out-unique, values-exist, values-unique}
-use Rattle.checker.specs.Demands.{Reached, Untouched, LeftBefore, Demand1, DueAt, ofLength, ofTables, ofRecord, LowestEmpty, Demand2, FollowingEnds, Refutation, Demand3}
-use Rattle.checker.specs.Refusal.{Reason, badLength, shortTable, reasonNumber}
-use Rattle.checker.specs.State.{State, start, rowsOf, derivations, arityOf, clauseOf, rowOf, termOf, held}
-use Rattle.checker.specs.Step.{refused, step, read, Ending, allStand, refusedAt, stateOf}
-use Rattle.checker.specs.Tables.{Tables, lengthsOf, filledTables, tablesAfter}
-use Rattle.checker.specs.Verdict.{refusal, check, accepted, undecided, Answer, firstEmpty, standing, verdictOf, answerOf, Lengths, longEnough, fittingLength, ending}
-use Rattle.checker.proofs.Acceptance.{first-lowest, some-first, index-cell}
-use Rattle.checker.proofs.Reading.{read-refused, reached-ok, ending-ok, term-of-row, one-arity}
-use Rattle.checker.proofs.Refusals.{due-stated, refused-due, refused-no-unifier}
-use Rattle.checker.proofs.Resolution.{resolvent-added, factor-added, unifiable-stands}
-use Rattle.checker.proofs.Standing.{below, StateOk, order-of, inputs-of, known-of, held-links}
+use Rattle.verdict.specs.Demands.{Reached, Untouched, LeftBefore, Demand1, DueAt, ofLength, ofTables, ofRecord, LowestEmpty, Demand2, FollowingEnds, Refutation, Demand3}
+use Rattle.verdict.specs.Refusal.{Reason, badLength, shortTable, reasonNumber}
+use Rattle.verdict.specs.State.{State, start, rowsOf, derivations, arityOf, clauseOf, rowOf, termOf, held}
+use Rattle.verdict.specs.Step.{refused, step, read, Ending, allStand, refusedAt, stateOf}
+use Rattle.verdict.specs.Tables.{Tables, lengthsOf, filledTables, tablesAfter}
+use Rattle.verdict.specs.Verdict.{refusal, check, accepted, undecided, Answer, firstEmpty, standing, verdictOf, answerOf, Lengths, longEnough, fittingLength, ending}
+use Rattle.verdict.proofs.Acceptance.{first-lowest, some-first, index-cell}
+use Rattle.verdict.proofs.Reading.{read-refused, reached-ok, ending-ok, term-of-row, one-arity}
+use Rattle.verdict.proofs.Refusals.{due-stated, refused-due, refused-no-unifier}
+use Rattle.verdict.proofs.Resolution.{resolvent-added, factor-added, unifiable-stands}
+use Rattle.verdict.proofs.Standing.{below, StateOk, order-of, inputs-of, known-of, held-links}
 
 accepted-injective : {m n : ℕ} → accepted m ≡ accepted n → m ≡ n
 accepted-injective p = cc

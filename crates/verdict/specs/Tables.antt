@@ -6,9 +6,9 @@ use lib.ListN.{length, drop, replicate}
 use Rattle.record.specs.Record.{pick}
 use Rattle.unify.specs.Environment.{Binding}
 use Rattle.derivation.specs.Derivation.{literals, Derivation, maximumIndex, ownBindings}
-use Rattle.checker.specs.State.{State, derivations, bindingsOf}
-use Rattle.checker.specs.Step.{stateOf}
-use Rattle.checker.specs.Verdict.{Lengths, named, longEnough, fittingLength, ending}
+use Rattle.verdict.specs.State.{State, derivations, bindingsOf}
+use Rattle.verdict.specs.Step.{stateOf}
+use Rattle.verdict.specs.Verdict.{Lengths, named, longEnough, fittingLength, ending}
 
 -- The tables, as lists of cells.
 pub record Tables : Type 0 where

@@ -17,14 +17,14 @@ use Rattle.unify.proofs.Tests.{true-not-false}
 use Rattle.derivation.specs.Derivation.{literals, Literal, Derivation, resolve, factor, numbered, maximumIndex, joined, lookup}
 use Rattle.derivation.specs.Written.{substitution, renamed}
 use Rattle.derivation.proofs.Resolvents.{no-resolvent, is-resolvent, no-factor, is-factor, standardized-apart}
-use Rattle.checker.specs.Demands.{atomOf, StepAtoms, ofResolve, ofFactor, ResolventAdded, FactorAdded, StandsOrLimit, itStands, resultTooLarge, workAllDone, bindingsAllHeld}
-use Rattle.checker.specs.Refusal.{tests, Reason, badKind, outOfRange, notThere, repeatedRow, variableLiteral, wrongSigns, tooLarge, kindOfRecord, knownKind, inRange, leftOf, rightOf, deletedOf, allThere, isNew, onApplications, fittingSigns, withinLimits}
-use Rattle.checker.specs.State.{State, rowOf, termOf, held}
-use Rattle.checker.specs.Step.{stands, refused, Result, require, requireAll, step, addClause, unifyResolve, unifyFactor, enter}
-use Rattle.checker.proofs.Inversions.{tests-passed, all-stand, named-stands, literal-named, clause-added}
-use Rattle.checker.proofs.Reading.{term-of-row, one-arity}
-use Rattle.checker.proofs.Standing.{StateOk, order-of, ChainsAfter, resolve-chains, factor-chains}
-use Rattle.checker.proofs.Steps.{NamedResolve, NamedFactor, signs-resolve, signs-factor, same-parent, named-resolve, named-factor}
+use Rattle.verdict.specs.Demands.{atomOf, StepAtoms, ofResolve, ofFactor, ResolventAdded, FactorAdded, StandsOrLimit, itStands, resultTooLarge, workAllDone, bindingsAllHeld}
+use Rattle.verdict.specs.Refusal.{tests, Reason, badKind, outOfRange, notThere, repeatedRow, variableLiteral, wrongSigns, tooLarge, kindOfRecord, knownKind, inRange, leftOf, rightOf, deletedOf, allThere, isNew, onApplications, fittingSigns, withinLimits}
+use Rattle.verdict.specs.State.{State, rowOf, termOf, held}
+use Rattle.verdict.specs.Step.{stands, refused, Result, require, requireAll, step, addClause, unifyResolve, unifyFactor, enter}
+use Rattle.verdict.proofs.Inversions.{tests-passed, all-stand, named-stands, literal-named, clause-added}
+use Rattle.verdict.proofs.Reading.{term-of-row, one-arity}
+use Rattle.verdict.proofs.Standing.{StateOk, order-of, ChainsAfter, resolve-chains, factor-chains}
+use Rattle.verdict.proofs.Steps.{NamedResolve, NamedFactor, signs-resolve, signs-factor, same-parent, named-resolve, named-factor}
 
 -- A step's kind, put in place of its number.
 pub at-kind : (S : State) (k : ℕ) (r : Record) (kind : Kind) → kindOfRecord r ≡ kind → step S k r ≡ requireAll (tests S kind r) (enter S k kind r)

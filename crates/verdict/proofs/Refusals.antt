@@ -18,14 +18,14 @@ use Rattle.unify.proofs.Lists.{Each}
 use Rattle.unify.proofs.Tests.{both-true, true-not-false}
 use Rattle.derivation.specs.Derivation.{Literal, Derivation, resolve, factor, raise, maximumIndex, joined, lookup}
 use Rattle.derivation.specs.Written.{renamed}
-use Rattle.checker.specs.Demands.{atomOf, StepAtoms, ofResolve, ofFactor, FirstFailing, failsHere, passesHere, AllPass, Due, byTest, inResolve, inFactor}
-use Rattle.checker.specs.Refusal.{tests, Reason, unification, badKind, outOfRange, notThere, repeatedRow, variableLiteral, wrongSigns, tooLarge, reasonNumber, kindOfRecord, leftOf, rightOf, deletedOf, isThere}
-use Rattle.checker.specs.State.{State, rowOf, held}
-use Rattle.checker.specs.Step.{stands, refused, step, unifyResolve, unifyFactor, enter}
-use Rattle.checker.proofs.Inversions.{tests-passed, all-refused, is-there, clause-refused, never-both}
-use Rattle.checker.proofs.Resolution.{enter-resolve, enter-factor, resolve-no-unifier, factor-no-unifier, resolve-not-endless, factor-not-endless}
-use Rattle.checker.proofs.Standing.{StateOk}
-use Rattle.checker.proofs.Steps.{signs-resolve, signs-factor}
+use Rattle.verdict.specs.Demands.{atomOf, StepAtoms, ofResolve, ofFactor, FirstFailing, failsHere, passesHere, AllPass, Due, byTest, inResolve, inFactor}
+use Rattle.verdict.specs.Refusal.{tests, Reason, unification, badKind, outOfRange, notThere, repeatedRow, variableLiteral, wrongSigns, tooLarge, reasonNumber, kindOfRecord, leftOf, rightOf, deletedOf, isThere}
+use Rattle.verdict.specs.State.{State, rowOf, held}
+use Rattle.verdict.specs.Step.{stands, refused, step, unifyResolve, unifyFactor, enter}
+use Rattle.verdict.proofs.Inversions.{tests-passed, all-refused, is-there, clause-refused, never-both}
+use Rattle.verdict.proofs.Resolution.{enter-resolve, enter-factor, resolve-no-unifier, factor-no-unifier, resolve-not-endless, factor-not-endless}
+use Rattle.verdict.proofs.Standing.{StateOk}
+use Rattle.verdict.proofs.Steps.{signs-resolve, signs-factor}
 
 -- What holds of every reason of a list of tests holds of the first that fails.
 pub first-each : (P : Reason → Type 0) (ts : List (Bool × Reason)) (q : Reason) → Each (λ (t : Bool × Reason). P (t .1)) ts → FirstFailing ts q → P q

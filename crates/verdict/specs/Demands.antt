@@ -18,11 +18,11 @@ use Rattle.derivation.specs.Derivation.{literals, input, Literal, RowLiteral, D
 use Rattle.derivation.specs.Ground.{instances, Ground, Values, valueIn, WellFormedInstances, Assignment, AllTrue}
 use Rattle.derivation.specs.Textbook.{Resolvent, Factor, StandardizedApart}
 use Rattle.derivation.specs.Written.{written, substitution, renamed, WritesOut}
-use Rattle.checker.specs.Refusal.{tests, Reason, unification, badLength, shortTable, tooLarge, reasonNumber, kindOfRecord, inRange, leftOf, rightOf, deletedOf, fittingSigns}
-use Rattle.checker.specs.State.{State, start, withClause, entry, rowsOf, derivations, arityOf, clauseOf, rowOf, termOf, held}
-use Rattle.checker.specs.Step.{stands, refused, step, read, allStand, stateOf}
-use Rattle.checker.specs.Tables.{Tables, lengthsOf, clauseCells, filledTables, tablesAfter}
-use Rattle.checker.specs.Verdict.{refusal, check, accepted, answerOf, longEnough, fittingLength, ending}
+use Rattle.verdict.specs.Refusal.{tests, Reason, unification, badLength, shortTable, tooLarge, reasonNumber, kindOfRecord, inRange, leftOf, rightOf, deletedOf, fittingSigns}
+use Rattle.verdict.specs.State.{State, start, withClause, entry, rowsOf, derivations, arityOf, clauseOf, rowOf, termOf, held}
+use Rattle.verdict.specs.Step.{stands, refused, step, read, allStand, stateOf}
+use Rattle.verdict.specs.Tables.{Tables, lengthsOf, clauseCells, filledTables, tablesAfter}
+use Rattle.verdict.specs.Verdict.{refusal, check, accepted, answerOf, longEnough, fittingLength, ending}
 
 -- ── Demand 1: an honest verdict on every file ──
 -- That the program ends, stays inside what it was lent and answers by `check` and `tablesAfter` is its contract. Here: what these say

@@ -12,10 +12,10 @@ use Rattle.record.specs.Record.{pick}
 use Rattle.unify.proofs.Rows.{eqb-below}
 use Rattle.unify.proofs.Tests.{to-T, true-not-false, some-not-none, some-injective}
 use Rattle.derivation.specs.Derivation.{literals, Derivation, maximumIndex}
-use Rattle.checker.specs.State.{entry, bindingsOf}
-use Rattle.checker.specs.Tables.{cellsOfClause, clauseCells}
-use Rattle.checker.specs.Verdict.{isEmpty, firstEmpty}
-use Rattle.checker.proofs.Inversions.{entry-below, entry-more, entry-new}
+use Rattle.verdict.specs.State.{entry, bindingsOf}
+use Rattle.verdict.specs.Tables.{cellsOfClause, clauseCells}
+use Rattle.verdict.specs.Verdict.{isEmpty, firstEmpty}
+use Rattle.verdict.proofs.Inversions.{entry-below, entry-more, entry-new}
 
 empty-list : {A : Type 0} (xs : List A) → isEmpty xs ≡ true → xs ≡ []
 empty-list [] q = refl

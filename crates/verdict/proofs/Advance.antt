@@ -14,15 +14,15 @@ use Rattle.unify.specs.Row.{variable, Row, application}
 use Rattle.unify.proofs.Lists.{Each}
 use Rattle.unify.proofs.Tests.{to-T, both-true, true-not-false}
 use Rattle.derivation.specs.Derivation.{input, inputLiterals, Derivation, resolve, factor}
-use Rattle.checker.specs.Refusal.{tests, Reason, kindOfRecord, zeros, argumentRows, leftOf, rightOf, deletedOf, differsFromAll}
-use Rattle.checker.specs.State.{State, start, withRow, withClause, rowsOf}
-use Rattle.checker.specs.Step.{stands, refused, Result, step, unifyResolve, unifyFactor, enter, read, allStand, refusedAt}
-use Rattle.checker.specs.Verdict.{ending}
-use Rattle.checker.proofs.Inversions.{tests-passed, stands-same, all-stand, named-stands, clause-added, Passed}
-use Rattle.checker.proofs.Reading.{ending-stands, start-ok}
-use Rattle.checker.proofs.Sources.{Sourced, step-sourced}
-use Rattle.checker.proofs.Standing.{StateOk}
-use Rattle.checker.proofs.Steps.{step-ok}
+use Rattle.verdict.specs.Refusal.{tests, Reason, kindOfRecord, zeros, argumentRows, leftOf, rightOf, deletedOf, differsFromAll}
+use Rattle.verdict.specs.State.{State, start, withRow, withClause, rowsOf}
+use Rattle.verdict.specs.Step.{stands, refused, Result, step, unifyResolve, unifyFactor, enter, read, allStand, refusedAt}
+use Rattle.verdict.specs.Verdict.{ending}
+use Rattle.verdict.proofs.Inversions.{tests-passed, stands-same, all-stand, named-stands, clause-added, Passed}
+use Rattle.verdict.proofs.Reading.{ending-stands, start-ok}
+use Rattle.verdict.proofs.Sources.{Sourced, step-sourced}
+use Rattle.verdict.proofs.Standing.{StateOk}
+use Rattle.verdict.proofs.Steps.{step-ok}
 
 -- A row in range: a variable's number is below 64, and an application has at most six arguments.
 abbrev pub RowFits : Row → Type 0

@@ -11,13 +11,13 @@ use lib.Seq.{getD-append-add}
 use Rattle.record.specs.Record.{pick, Record, recordPart, decoded, otherKind, Kind, symbolKind, variableKind, applicationKind, inputKind, resolveKind, factorKind, kindNumbered, fieldA, fieldB, fieldC, fieldD}
 use Rattle.unify.proofs.Tests.{to-T, true-not-false, some-not-none, some-injective}
 use Rattle.derivation.specs.Derivation.{input, inputLiterals, Derivation, resolve, factor}
-use Rattle.checker.specs.Refusal.{tests, kindOfRecord, knownKind, leftOf, rightOf, deletedOf}
-use Rattle.checker.specs.State.{State, entry, bindingsOf}
-use Rattle.checker.specs.Step.{stands, step, unifyResolve, unifyFactor, enter}
-use Rattle.checker.specs.Tables.{cellsOfClause, clauseCells}
-use Rattle.checker.proofs.Acceptance.{cells-length}
-use Rattle.checker.proofs.Inversions.{tests-passed, stands-same, all-stand, named-stands, entry-below, clause-added, Passed}
-use Rattle.checker.proofs.Steps.{named-resolve, named-factor}
+use Rattle.verdict.specs.Refusal.{tests, kindOfRecord, knownKind, leftOf, rightOf, deletedOf}
+use Rattle.verdict.specs.State.{State, entry, bindingsOf}
+use Rattle.verdict.specs.Step.{stands, step, unifyResolve, unifyFactor, enter}
+use Rattle.verdict.specs.Tables.{cellsOfClause, clauseCells}
+use Rattle.verdict.proofs.Acceptance.{cells-length}
+use Rattle.verdict.proofs.Inversions.{tests-passed, stands-same, all-stand, named-stands, entry-below, clause-added, Passed}
+use Rattle.verdict.proofs.Steps.{named-resolve, named-factor}
 
 -- Clause d, made of record k of the file, over the clauses before it.
 abbrev pub SourceOf : List ℕ → List Derivation → ℕ → Derivation → Type 0

@@ -8,11 +8,11 @@ use lib.ListN.{length, replicate}
 use Rattle.record.specs.Record.{pick, Record, records, otherKind, Kind, symbolKind, variableKind, applicationKind, inputKind, resolveKind, factorKind}
 use Rattle.unify.specs.Unification.{unify, mostWork, Outcome, unified, failed}
 use Rattle.derivation.specs.Derivation.{Literal, Derivation}
-use Rattle.checker.specs.Refusal.{badLength, kindOfRecord, leftOf, rightOf, deletedOf}
-use Rattle.checker.specs.State.{State, start, derivations}
-use Rattle.checker.specs.Step.{stands, refused, step, unifyResolve, unifyFactor, stateOf}
-use Rattle.checker.specs.Tables.{Tables, lengthsOf, symbolCells, rowCells, clauseCells, bindingCells}
-use Rattle.checker.specs.Verdict.{refusal, check, answerNumbers, answerOf, Lengths, named, fittingLength, ending}
+use Rattle.verdict.specs.Refusal.{badLength, kindOfRecord, leftOf, rightOf, deletedOf}
+use Rattle.verdict.specs.State.{State, start, derivations}
+use Rattle.verdict.specs.Step.{stands, refused, step, unifyResolve, unifyFactor, stateOf}
+use Rattle.verdict.specs.Tables.{Tables, lengthsOf, symbolCells, rowCells, clauseCells, bindingCells}
+use Rattle.verdict.specs.Verdict.{refusal, check, answerNumbers, answerOf, Lengths, named, fittingLength, ending}
 
 -- A record's sixteen bytes, fields that are not written being zero.
 abbrev pub lowHigh : ℕ → List ℕ → List ℕ

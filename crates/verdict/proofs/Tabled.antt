@@ -15,11 +15,11 @@ use Rattle.unify.specs.Environment.{Binding}
 use Rattle.unify.proofs.Tests.{to-T, some-not-none, some-injective}
 use Rattle.derivation.specs.Derivation.{input, inputLiterals, Derivation, resolve, factor, ownBindings}
 use Rattle.derivation.specs.Stored.{recordCell, recordOf, Cells, Stored, storedInput, storedResolve, storedFactor}
-use Rattle.checker.specs.State.{entry, bindingsOf}
-use Rattle.checker.specs.Tables.{cellsOfClause, clauseCells, cellsOfBindings, bindingCells}
-use Rattle.checker.proofs.Acceptance.{cells-length}
-use Rattle.checker.proofs.Inversions.{entry-below, entry-more}
-use Rattle.checker.proofs.Sources.{SourceOf, Sourced, clausesBefore, bareClause, clause-cell, entry-numbered}
+use Rattle.verdict.specs.State.{entry, bindingsOf}
+use Rattle.verdict.specs.Tables.{cellsOfClause, clauseCells, cellsOfBindings, bindingCells}
+use Rattle.verdict.proofs.Acceptance.{cells-length}
+use Rattle.verdict.proofs.Inversions.{entry-below, entry-more}
+use Rattle.verdict.proofs.Sources.{SourceOf, Sourced, clausesBefore, bareClause, clause-cell, entry-numbered}
 
 -- Bindings are read off their cells.
 pub bindings-length : (bs : List Binding) → length (cellsOfBindings bs) ≡ 4 * length bs

@@ -9,7 +9,7 @@ use Rattle.record.specs.Record.{Record, otherKind, Kind, symbolKind, variableKi
 use Rattle.unify.specs.Row.{variable, Row, application, noSymbol}
 use Rattle.unify.specs.Unification.{Failure, failureNumber}
 use Rattle.derivation.specs.Derivation.{literals, Literal, RowLiteral, inputLiterals, Derivation, resolve, factor, numbered, maximumIndex}
-use Rattle.checker.specs.State.{State, rowsOf, arityOf, clauseOf, rowOf}
+use Rattle.verdict.specs.State.{State, rowsOf, arityOf, clauseOf, rowOf}
 
 -- Reasons 1 to 9. What unification gives is in the crate unify.
 pub data Reason : Type 0 where

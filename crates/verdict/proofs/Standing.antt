@@ -23,11 +23,11 @@ use Rattle.derivation.proofs.Chains.{short-joined}
 use Rattle.derivation.proofs.Known.{Known, KnownRows, KnownEnvironment, known-numbered, known-joined, known-variable, known-arguments, known-lookup, valid-stable, known-more}
 use Rattle.derivation.proofs.Literals.{leb-false-lt}
 use Rattle.derivation.proofs.Validity.{Valid, lookup-in}
-use Rattle.checker.specs.Demands.{InputsOf}
-use Rattle.checker.specs.Refusal.{mostLiterals, mostIndex}
-use Rattle.checker.specs.State.{arities, State, start, withSymbol, withRow, withClause, entry, rowsOf, derivations, arityOf, clauseOf, rowOf, held}
-use Rattle.checker.specs.Step.{unifyResolve, unifyFactor}
-use Rattle.checker.proofs.Inversions.{not-equal, entry-more, entry-each}
+use Rattle.verdict.specs.Demands.{InputsOf}
+use Rattle.verdict.specs.Refusal.{mostLiterals, mostIndex}
+use Rattle.verdict.specs.State.{arities, State, start, withSymbol, withRow, withClause, entry, rowsOf, derivations, arityOf, clauseOf, rowOf, held}
+use Rattle.verdict.specs.Step.{unifyResolve, unifyFactor}
+use Rattle.verdict.proofs.Inversions.{not-equal, entry-more, entry-each}
 
 abbrev pub ChainsEnd : List Row → ℕ → Environment → Type 0
 ChainsEnd ws h ρ = Short (λ r. r < length ws) (rowAt ws) h ρ

@@ -7,9 +7,9 @@ use lib.Dec.{eqb, leb}
 use lib.ListN.{length}
 use Rattle.record.specs.Record.{pick, records}
 use Rattle.derivation.specs.Derivation.{literals, Derivation}
-use Rattle.checker.specs.Refusal.{Reason, badLength, shortTable, reasonNumber}
-use Rattle.checker.specs.State.{State, start, derivations, held}
-use Rattle.checker.specs.Step.{read, Ending, allStand, refusedAt, stateOf}
+use Rattle.verdict.specs.Refusal.{Reason, badLength, shortTable, reasonNumber}
+use Rattle.verdict.specs.State.{State, start, derivations, held}
+use Rattle.verdict.specs.Step.{read, Ending, allStand, refusedAt, stateOf}
 
 -- The verdict, with its numbers: 0 open; 1 accepted, and the clause; 2 refused, the reason and the record.
 pub data Verdict : Type 0 where

@@ -16,10 +16,10 @@ use Rattle.unify.proofs.Rows.{Below, eqb-below}
 use Rattle.unify.proofs.Tests.{to-T, from-T, both-true, true-not-false, some-not-none, some-injective}
 use Rattle.derivation.specs.Derivation.{literals, Literal, RowLiteral, Derivation, numbered}
 use Rattle.derivation.proofs.Literals.{leb-false-lt}
-use Rattle.checker.specs.Demands.{FirstFailing, failsHere, passesHere, AllPass}
-use Rattle.checker.specs.Refusal.{tests, Reason, unification, knownKind, inRange, literalIn, literalNamed, isThere, hasArity, allBelow, allThere, isNew, onApplications, equalSigns, fittingSigns, withinLimits}
-use Rattle.checker.specs.State.{State, withClause, entry, clauseOf}
-use Rattle.checker.specs.Step.{stands, refused, Result, require, requireAll, step, addClause, onNamed}
+use Rattle.verdict.specs.Demands.{FirstFailing, failsHere, passesHere, AllPass}
+use Rattle.verdict.specs.Refusal.{tests, Reason, unification, knownKind, inRange, literalIn, literalNamed, isThere, hasArity, allBelow, allThere, isNew, onApplications, equalSigns, fittingSigns, withinLimits}
+use Rattle.verdict.specs.State.{State, withClause, entry, clauseOf}
+use Rattle.verdict.specs.Step.{stands, refused, Result, require, requireAll, step, addClause, onNamed}
 
 pub stands-same : {S T : State} → stands S ≡ stands T → S ≡ T
 stands-same p = cc

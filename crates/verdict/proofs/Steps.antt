@@ -15,11 +15,11 @@ use Rattle.unify.proofs.Room.{bindings-fit}
 use Rattle.unify.proofs.Tests.{to-T, both-true, true-not-false, some-injective}
 use Rattle.derivation.specs.Derivation.{literals, input, Literal, inputLiterals, Derivation, resolve, factor, numbered, raise, placed, maximumIndex, joined, lookup, uses}
 use Rattle.derivation.proofs.Validity.{Valid}
-use Rattle.checker.specs.Refusal.{tests, mostLiterals, mostIndex, kindOfRecord, zeros, argumentRows, leftOf, rightOf, deletedOf, hasArity, allBelow, equalSigns, fittingSigns, resultFits}
-use Rattle.checker.specs.State.{State, rowsOf, derivations, arityOf, clauseOf, rowOf, held}
-use Rattle.checker.specs.Step.{stands, step, addClause, unifyResolve, unifyFactor, enter}
-use Rattle.checker.proofs.Inversions.{tests-passed, stands-same, all-stand, named-stands, literal-named, has-arity, all-below, rows-below, opposite-signs, equal-signs, not-equal, entry-new, clause-added, Passed}
-use Rattle.checker.proofs.Standing.{StateOk, literals-enough, index-enough, inputs-append, inputs-kept, no-chains, symbol-added, row-added, clause-entered, order-of, inputs-of, ChainsAfter, resolve-chains, factor-chains}
+use Rattle.verdict.specs.Refusal.{tests, mostLiterals, mostIndex, kindOfRecord, zeros, argumentRows, leftOf, rightOf, deletedOf, hasArity, allBelow, equalSigns, fittingSigns, resultFits}
+use Rattle.verdict.specs.State.{State, rowsOf, derivations, arityOf, clauseOf, rowOf, held}
+use Rattle.verdict.specs.Step.{stands, step, addClause, unifyResolve, unifyFactor, enter}
+use Rattle.verdict.proofs.Inversions.{tests-passed, stands-same, all-stand, named-stands, literal-named, has-arity, all-below, rows-below, opposite-signs, equal-signs, not-equal, entry-new, clause-added, Passed}
+use Rattle.verdict.proofs.Standing.{StateOk, literals-enough, index-enough, inputs-append, inputs-kept, no-chains, symbol-added, row-added, clause-entered, order-of, inputs-of, ChainsAfter, resolve-chains, factor-chains}
 
 -- What a resolve or a factor that came to its unification has named.
 pub record NamedResolve (S : State) (r : Record) (x y : Derivation × Literal) : Type 0 where
