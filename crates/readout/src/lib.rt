@@ -1,1 +1,3 @@
-// The readout of a proof file. The definitions are in specs/.
+// The readout of a proof file. The definitions are in specs/: `Text` and `Readout` have what it is, and `Writing` how the parts of
+// this program go about it.
+pub mod text;
