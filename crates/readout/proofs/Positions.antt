@@ -70,3 +70,14 @@ module _ (T T′ T″ : List ℕ) (at next end : ℕ) (x y : List ℕ) where
 
       ends : at + length (x ++ y) ≤ length T → end ≡ at + length (x ++ y)
       ends h = omega (arith, length-append x y, k .position (first h), l .position (second h))
+
+-- What was written at a position after something else was, from the same position on, is all that counts.
+pub wrote-over : (T T′ T″ : List ℕ) (at end : ℕ) (x : List ℕ) → KeptBefore T T′ at → Wrote T′ T″ at end x → Wrote T T″ at end x
+wrote-over T T′ T″ at end x k w =
+    record {
+      kept = kept-then T T′ T″ at at (omega arith) k (w .kept);
+      onward = w .onward;
+      inside = λ h. subst (λ (n : ℕ). end ≤ n) (k .room) (w .inside (subst (λ (n : ℕ). at ≤ n) (sym (k .room)) h));
+      position = λ h. w .position (subst (λ (n : ℕ). at + length x ≤ n) (sym (k .room)) h);
+      bytes = λ h. w .bytes (subst (λ (n : ℕ). at + length x ≤ n) (sym (k .room)) h) ∙ ap (_++ x) (k .before);
+    }

@@ -1,7 +1,7 @@
 -- The contracts of the functions that write text into the buffer. What the crate promises its callers is in `Readout`; this file
 -- only says how the parts of the program fit together.
 use mathlib.Core.Path.{_≡_}
-use mathlib.Core.Bool.{false}
+use mathlib.Core.Bool.{Bool, false}
 use mathlib.Core.List.{List, [], _∷_, _++_}
 use Prim.Native.Nat.{ℕ, _+_, _≤_, _<_}
 use lib.Dec.{eqb}
@@ -13,7 +13,7 @@ use Rattle.unify.specs.Row.{Row, Expression, Variable, argumentTerms, rowTerm, 
 use Rattle.unify.specs.Term.{Term, Terms, applyAll, occurrences, allOccurrences}
 use Rattle.unify.specs.Values.{InStep, Models}
 use Rattle.derivation.specs.Written.{WritesOut}
-use Rattle.readout.specs.Text.{termText, argumentsText}
+use Rattle.readout.specs.Text.{termText, argumentsText, literalText}
 use Rattle.readout.specs.declared.term.Written.{Written}
 use Rattle.readout.specs.declared.term.Written.the-variants.{Done, TooMany}
 
@@ -88,3 +88,14 @@ LeavesLess left TooMany = Unit {0}
 abbrev pub LeavesNoMore : ℕ → Written → Type 0
 LeavesNoMore left (Done end l) = l ≤ left
 LeavesNoMore left TooMany = Unit {0}
+
+-- A literal was written, and the array still stands for ρ.
+pub record LiteralWritten (N : List ℕ) (top : ℕ) (A : List ℕ) (ρ : Environment) (T T′ : List ℕ) (at end : ℕ) (text : List ℕ) : Type 0 where
+  pub models : Models N top A ρ
+  pub wrote : Wrote T T′ at end text
+
+-- A literal with an expression for its atom: a blank, and its text.
+abbrev pub WritesLiteral : List ℕ → List ℕ → List ℕ → List ℕ → List ℕ → ℕ → Bool → Expression → ℕ → Type 0
+WritesLiteral N A A′ T T′ at positive e end =
+    (top : ℕ) (ρ : Environment) (row : ℕ → Row) (term : ℕ → Term ℕ) (σ : Variable → Term Variable) → Writable N top A ρ row term σ e
+    → LiteralWritten N top A′ ρ T T′ at end (32 ∷ literalText row (positive, writtenOut term σ e))
