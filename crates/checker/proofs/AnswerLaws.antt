@@ -12,8 +12,8 @@ use Rattle.record.specs.Record.{pick}
 use Rattle.unify.proofs.Tests.{to-T}
 use Rattle.derivation.specs.Stored.{literalsCell}
 use Rattle.checker.specs.Given.{verdictGiven, answerGiven, numbersWith, untouchedNumbers, firstZero, standingNumbers, endedNumbers}
-use Rattle.checker.specs.Verdict.{verdictNumbers, standing}
-use Rattle.checker.proofs.Inversions.{not-below}
+use Rattle.verdict.specs.Verdict.{verdictNumbers, standing}
+use Rattle.verdict.proofs.Inversions.{not-below}
 use Rattle.checker.specs.declared.entry.Counts.{Counts}
 use Rattle.checker.specs.declared.reader.Ended.{Ended}
 use Rattle.checker.specs.declared.reader.Ended.the-variants.{All, Refused}

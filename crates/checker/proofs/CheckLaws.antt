@@ -16,13 +16,13 @@ use Rattle.checker.specs.Given.{answerGiven, numbersWith, firstZero, sta
 use Rattle.checker.specs.Program.{clearedPart}
 use Rattle.checker.specs.Progress.{countsOf}
 use Rattle.checker.specs.Reader.{Begun, EndedWith, RecordsRead, Readable, FileRead}
-use Rattle.checker.specs.Refusal.{Reason, reasonNumber}
-use Rattle.checker.specs.State.{State, bindingsOf}
-use Rattle.checker.specs.Step.{read, Ending, allStand, refusedAt, stateOf}
+use Rattle.verdict.specs.Refusal.{Reason, reasonNumber}
+use Rattle.verdict.specs.State.{State, bindingsOf}
+use Rattle.verdict.specs.Step.{read, Ending, allStand, refusedAt, stateOf}
 use Rattle.checker.specs.Stepping.{tablesWith}
-use Rattle.checker.specs.Tables.{Tables, cellsOfClause, clauseCells, filledTables}
-use Rattle.checker.specs.Verdict.{verdictNumbers, answerNumbers, isEmpty, firstEmpty, standing, verdictOf, answerOf, Lengths, longEnough, fittingLength, ending}
-use Rattle.checker.proofs.Acceptance.{cells-length}
+use Rattle.verdict.specs.Tables.{Tables, cellsOfClause, clauseCells, filledTables}
+use Rattle.verdict.specs.Verdict.{verdictNumbers, answerNumbers, isEmpty, firstEmpty, standing, verdictOf, answerOf, Lengths, longEnough, fittingLength, ending}
+use Rattle.verdict.proofs.Acceptance.{cells-length}
 use Rattle.checker.proofs.Kept.{Sizes, sizes}
 use Rattle.checker.specs.declared.entry.Counts.{Counts}
 use Rattle.checker.specs.declared.reader.Ended.{Ended}

@@ -12,15 +12,15 @@ use Rattle.derivation.specs.Derivation.{Derivation, maximumIndex}
 use Rattle.checker.specs.Contract.{Checked}
 use Rattle.checker.specs.Given.{verdictGiven, answerGiven, untouchedNumbers}
 use Rattle.checker.specs.Reader.{Readable, FileRead}
-use Rattle.checker.specs.Refusal.{Reason, badLength, shortTable}
-use Rattle.checker.specs.State.{derivations, clauseOf, held}
-use Rattle.checker.specs.Step.{stateOf}
-use Rattle.checker.specs.Tables.{Tables, lengthsOf, clauseCells, tablesAfter}
-use Rattle.checker.specs.Verdict.{refusal, check, accepted, undecided, verdictNumbers, answerNumbers, longEnough, fittingLength, ending}
-use Rattle.checker.specs.Verdict as verdicts
-use Rattle.checker.proofs.Acceptance.{cells-length}
-use Rattle.checker.proofs.Demanded.{check-length, check-tables, check-reads, tables-length, tables-short, tables-read, demand1, demand2, demand3}
-use Rattle.checker.proofs.Inversions.{entry-below}
+use Rattle.verdict.specs.Refusal.{Reason, badLength, shortTable}
+use Rattle.verdict.specs.State.{derivations, clauseOf, held}
+use Rattle.verdict.specs.Step.{stateOf}
+use Rattle.verdict.specs.Tables.{Tables, lengthsOf, clauseCells, tablesAfter}
+use Rattle.verdict.specs.Verdict.{refusal, check, accepted, undecided, verdictNumbers, answerNumbers, longEnough, fittingLength, ending}
+use Rattle.verdict.specs.Verdict as verdicts
+use Rattle.verdict.proofs.Acceptance.{cells-length}
+use Rattle.verdict.proofs.Demanded.{check-length, check-tables, check-reads, tables-length, tables-short, tables-read, demand1, demand2, demand3}
+use Rattle.verdict.proofs.Inversions.{entry-below}
 use Rattle.checker.proofs.StepTests.{not-false, not-true}
 use Rattle.checker.specs.declared.answer.Answer.{Answer}
 use Rattle.checker.specs.declared.answer.Verdict.{Verdict}

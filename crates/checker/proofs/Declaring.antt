@@ -18,18 +18,18 @@ use Rattle.unify.proofs.Tests.{to-T, both-true, true-not-false}
 use Rattle.derivation.specs.Derivation.{literals, input, RowLiteral, literalOf, inputLiterals, Derivation, placed, maximumIndex, ownBindings}
 use Rattle.checker.specs.Program.{withClauseCells, nodeCells, withNode, isRepeated, arityIn, noVariable, moreSymbols, moreRows, moreClauses, SymbolLeft, symbolLeft, symbolEntered, RowLeft, rowLeft, rowEntered, variableEntered, applicationThere, applicationEntered, InputLeft, inputLeft, inputEntered}
 use Rattle.checker.specs.Progress.{cellsOfRow, nodeTableOf, countsOf, Kept, Next}
-use Rattle.checker.specs.Refusal.{outOfRange, notThere, repeatedRow, variableLiteral, reasonNumber, kindOfRecord, zeros, inRange, argumentRows, hasArity, allBelow, allThere, differsFromAll, allApplications}
-use Rattle.checker.specs.State.{arities, State, withSymbol, withRow, withClause, entry, rowsOf, derivations, arityOf, rowOf, bindingsOf, held}
-use Rattle.checker.specs.Step.{stands, Result, require, step}
-use Rattle.checker.specs.Tables.{Tables, symbolCells, rowCells, clauseCells, bindingCells, filled, filledTables}
-use Rattle.checker.proofs.Acceptance.{cells-length}
-use Rattle.checker.proofs.Advance.{RowFits}
+use Rattle.verdict.specs.Refusal.{outOfRange, notThere, repeatedRow, variableLiteral, reasonNumber, kindOfRecord, zeros, inRange, argumentRows, hasArity, allBelow, allThere, differsFromAll, allApplications}
+use Rattle.verdict.specs.State.{arities, State, withSymbol, withRow, withClause, entry, rowsOf, derivations, arityOf, rowOf, bindingsOf, held}
+use Rattle.verdict.specs.Step.{stands, Result, require, step}
+use Rattle.verdict.specs.Tables.{Tables, symbolCells, rowCells, clauseCells, bindingCells, filled, filledTables}
+use Rattle.verdict.proofs.Acceptance.{cells-length}
+use Rattle.verdict.proofs.Advance.{RowFits}
 use Rattle.checker.proofs.Entering.{repeated-row, variable-tests, row-written, variable-cells, application-cells}
 use Rattle.checker.proofs.Filling.{filled-set, filled-five, filled-low}
-use Rattle.checker.proofs.Inversions.{rows-below, not-equal, entry-more, entry-none, not-below}
+use Rattle.verdict.proofs.Inversions.{rows-below, not-equal, entry-more, entry-none, not-below}
 use Rattle.checker.proofs.Kept.{stand, Sizes, sizes, few-records, same-rows, few-symbols, few-rows, few-clauses, rows-fit, kept-next}
-use Rattle.checker.proofs.Resolution.{at-kind}
-use Rattle.checker.proofs.Standing.{held-symbol, held-row, held-clause}
+use Rattle.verdict.proofs.Resolution.{at-kind}
+use Rattle.verdict.proofs.Standing.{held-symbol, held-row, held-clause}
 use Rattle.checker.specs.declared.entry.Counts.{Counts}
 use Rattle.checker.specs.declared.entry.Entered.{Entered}
 use Rattle.checker.specs.declared.entry.Entered.the-variants.{Stands, Refused}

@@ -18,9 +18,9 @@ use Rattle.unify.proofs.Tests.{to-T, from-T, both-true}
 use Rattle.derivation.specs.Derivation.{RowLiteral}
 use Rattle.checker.specs.Program.{nodeCells, nodeAt, withNode, isRepeated, noVariable}
 use Rattle.checker.specs.Progress.{cellsOfRow, nodeList, nodeTableOf}
-use Rattle.checker.specs.Refusal.{zeros, inRange, newRow, equalLists, equalRows, differsFromAll, isApplication, allApplications}
-use Rattle.checker.proofs.Advance.{RowFits}
-use Rattle.checker.proofs.Inversions.{not-equal}
+use Rattle.verdict.specs.Refusal.{zeros, inRange, newRow, equalLists, equalRows, differsFromAll, isApplication, allApplications}
+use Rattle.verdict.proofs.Advance.{RowFits}
+use Rattle.verdict.proofs.Inversions.{not-equal}
 use Rattle.checker.proofs.NodeTable.{eight, NodeTable, node-length, node-cell, fits-at, variable-row, application-row}
 
 -- Equal rows have equal cells.

@@ -13,7 +13,7 @@ use Rattle.unify.specs.Nodes.{part}
 use Rattle.unify.proofs.Tests.{both-true}
 use Rattle.derivation.specs.Derivation.{inputLiterals}
 use Rattle.checker.specs.Program.{withClauseCells, nodeCells, withNode, isRepeated, arityIn, noVariable, arityAnswer, moreSymbols, moreRows, moreClauses, symbolLeft, symbolEntered, RowLeft, rowLeft, rowEntered, variableEntered, applicationThere, applicationEntered, inputLeft, inputEntered}
-use Rattle.checker.specs.Refusal.{zeros, inRange, argumentRows, hasArity, allBelow}
+use Rattle.verdict.specs.Refusal.{zeros, inRange, argumentRows, hasArity, allBelow}
 use borrow.Author.Tests.{leb-true, not-true, not-false}
 use Rattle.checker.specs.declared.entry.Counts.{Counts}
 use Rattle.checker.specs.declared.entry.Entered.the-variants.{Stands, Refused}

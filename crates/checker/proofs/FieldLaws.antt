@@ -11,7 +11,7 @@ use Rattle.record.specs.Record.{recordPart, kindOf, countOf, fieldOf, fieldsOf,
 use Rattle.unify.specs.Nodes.{isVariable}
 use Rattle.derivation.specs.Derivation.{literalOf}
 use Rattle.checker.specs.Program.{arityIn, noVariable, arityAnswer}
-use Rattle.checker.specs.Refusal.{kindOfRecord, zeros, inRange, allBelow}
+use Rattle.verdict.specs.Refusal.{kindOfRecord, zeros, inRange, allBelow}
 use lib.ListN.{drop-of-length-le}
 use Rattle.checker.specs.declared.fields.Arity.{Arity}
 use Rattle.checker.specs.declared.fields.Arity.the-variants.{Is, Missing}

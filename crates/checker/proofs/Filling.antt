@@ -12,11 +12,11 @@ use Rattle.unify.specs.Bindings.{bindingsFrom}
 use Rattle.unify.specs.Unification.{full}
 use Rattle.unify.proofs.Tests.{to-T}
 use Rattle.checker.specs.Program.{clearedPart, withClauseCells}
-use Rattle.checker.specs.State.{held}
-use Rattle.checker.specs.Tables.{cellsOfBindings, filled}
-use Rattle.checker.proofs.Inversions.{not-below}
+use Rattle.verdict.specs.State.{held}
+use Rattle.verdict.specs.Tables.{cellsOfBindings, filled}
+use Rattle.verdict.proofs.Inversions.{not-below}
 use Rattle.checker.proofs.NodeTable.{zeros-read}
-use Rattle.checker.proofs.Tabled.{bindings-length}
+use Rattle.verdict.proofs.Tabled.{bindings-length}
 
 pub filled-length : (size : ℕ) (cells t : List ℕ) → length cells ≤ size → size ≤ length t → length (filled size cells t) ≡ length t
 filled-length size cells t l m =

@@ -13,17 +13,17 @@ use Rattle.unify.specs.Row.{Row, noSymbol}
 use Rattle.unify.proofs.Lists.{Each}
 use Rattle.unify.proofs.Tests.{to-T, both-true}
 use Rattle.checker.specs.Progress.{nodeTableOf, countsOf, Kept}
-use Rattle.checker.specs.Refusal.{Reason}
-use Rattle.checker.specs.State.{arities, State, start, rowsOf, arityOf}
-use Rattle.checker.specs.Step.{stands, refused, Result, step, read, allStand, refusedAt}
-use Rattle.checker.specs.Tables.{Tables, lengthsOf, filledTables}
-use Rattle.checker.specs.Verdict.{longEnough, fittingLength}
-use Rattle.checker.proofs.Advance.{Standing, RowFits, Tally, standing-start, take-next, read-one, advance}
+use Rattle.verdict.specs.Refusal.{Reason}
+use Rattle.verdict.specs.State.{arities, State, start, rowsOf, arityOf}
+use Rattle.verdict.specs.Step.{stands, refused, Result, step, read, allStand, refusedAt}
+use Rattle.verdict.specs.Tables.{Tables, lengthsOf, filledTables}
+use Rattle.verdict.specs.Verdict.{longEnough, fittingLength}
+use Rattle.verdict.proofs.Advance.{Standing, RowFits, Tally, standing-start, take-next, read-one, advance}
 use Rattle.checker.proofs.Entering.{node-table-length}
-use Rattle.checker.proofs.Inversions.{entry-none}
+use Rattle.verdict.proofs.Inversions.{entry-none}
 use Rattle.checker.proofs.NodeTable.{nodes-ok}
-use Rattle.checker.proofs.Reading.{ending-stands, state-more}
-use Rattle.checker.proofs.Standing.{StateOk}
+use Rattle.verdict.proofs.Reading.{ending-stands, state-more}
+use Rattle.verdict.proofs.Standing.{StateOk}
 use Rattle.checker.specs.declared.entry.Counts.{Counts}
 
 read-split : (S : State) (j : ℕ) (xs ys : List Record) (T : State) → read S j (xs ++ ys) ≡ allStand T → (U : State) × (read S j xs ≡ allStand U)

@@ -1,15 +1,3 @@
-pub mod Inversions
-pub mod Standing
-pub mod Steps
-pub mod Reading
-pub mod Acceptance
-pub mod Resolution
-pub mod Refusals
-pub mod Demanded
-pub mod CasesProved
-pub mod Sources
-pub mod Tabled
-pub mod Advance
 pub mod NodeTable
 pub mod Filling
 pub mod ClearedCells

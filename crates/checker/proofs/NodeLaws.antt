@@ -9,8 +9,8 @@ use lib.ListN.{length, getD, take, drop, set}
 use borrow.Author.Tests.{eq-eqb, ne-eqb}
 use Rattle.record.specs.Record.{pick, fieldOf, fieldsOf}
 use Rattle.checker.specs.Program.{nodeCells, nodeAt, withNode, isRepeated}
-use Rattle.checker.specs.Refusal.{equalLists}
-use Rattle.checker.proofs.Standing.{room}
+use Rattle.verdict.specs.Refusal.{equalLists}
+use Rattle.verdict.proofs.Standing.{room}
 use native.Mathlib.Nat.{not-suc-le-zero}
 use lib.ListN.{drop-of-length-le}
 use lib.Seq.{drop-cons, sets-eq}

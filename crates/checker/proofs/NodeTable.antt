@@ -19,10 +19,10 @@ use Rattle.unify.proofs.Rows.{Below, RowsOk, row-below, row-arities}
 use Rattle.unify.proofs.Tests.{to-T, from-T, both-true, true-not-false}
 use Rattle.derivation.proofs.Literals.{leb-false-lt}
 use Rattle.checker.specs.Progress.{cellsOfRow, nodeList, nodeTableOf}
-use Rattle.checker.specs.Refusal.{equalLists, equalRows, differsFromAll}
-use Rattle.checker.proofs.Advance.{RowFits, Distinct}
-use Rattle.checker.proofs.Inversions.{not-equal}
-use Rattle.checker.proofs.Standing.{room}
+use Rattle.verdict.specs.Refusal.{equalLists, equalRows, differsFromAll}
+use Rattle.verdict.proofs.Advance.{RowFits, Distinct}
+use Rattle.verdict.proofs.Inversions.{not-equal}
+use Rattle.verdict.proofs.Standing.{room}
 
 abbrev pub NodeTable : List Row → List ℕ → Type 0
 NodeTable ws N = N ≡ nodeTableOf ws

@@ -7,15 +7,15 @@ use lib.ListN.{length}
 use Rattle.record.specs.Record.{recordPart, kindOf, decoded, otherKind, kindNumbered}
 use Rattle.checker.specs.Program.{symbolLeft, symbolEntered, rowLeft, variableEntered, applicationEntered, inputLeft, inputEntered}
 use Rattle.checker.specs.Progress.{Reading, RecordRead}
-use Rattle.checker.specs.Refusal.{badKind, kindOfRecord}
-use Rattle.checker.specs.State.{State}
-use Rattle.checker.specs.Step.{require}
+use Rattle.verdict.specs.Refusal.{badKind, kindOfRecord}
+use Rattle.verdict.specs.State.{State}
+use Rattle.verdict.specs.Step.{require}
 use Rattle.checker.specs.Stepping.{tablesWith, BeforeStep, StepRead}
-use Rattle.checker.specs.Tables.{Tables}
+use Rattle.verdict.specs.Tables.{Tables}
 use Rattle.checker.proofs.Declaring.{symbol-read, variable-read, application-read, input-read}
 use Rattle.checker.proofs.FieldLaws.{kind-other}
 use Rattle.checker.proofs.Kept.{few-records, few-symbols, few-rows, few-clauses, nodes-length}
-use Rattle.checker.proofs.Resolution.{at-kind}
+use Rattle.verdict.proofs.Resolution.{at-kind}
 use Rattle.checker.specs.declared.entry.Counts.{Counts}
 use Rattle.checker.specs.declared.entry.Entered.{Entered}
 use Rattle.checker.specs.declared.entry.Entered.the-variants.{Refused}

@@ -7,9 +7,9 @@ use native.Mathlib.Omega.{arith}
 use Rattle.record.specs.Record.{recordCount}
 use Rattle.checker.specs.Progress.{Kept, Reading, Next, RecordRead}
 use Rattle.checker.specs.Reader.{Begun, EndedWith}
-use Rattle.checker.specs.State.{State, start, held}
-use Rattle.checker.specs.Tables.{Tables}
-use Rattle.checker.proofs.Advance.{Standing, refused-there, all-read}
+use Rattle.verdict.specs.State.{State, start, held}
+use Rattle.verdict.specs.Tables.{Tables}
+use Rattle.verdict.proofs.Advance.{Standing, refused-there, all-read}
 use Rattle.checker.proofs.Kept.{standing-of, fitting-records}
 use Rattle.checker.specs.declared.entry.Counts.{Counts}
 use Rattle.checker.specs.declared.entry.Entered.{Entered}

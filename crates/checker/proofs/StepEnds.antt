@@ -12,17 +12,17 @@ use Rattle.unify.specs.Unifying.{failureOf, outcomeOf, Counted}
 use Rattle.derivation.specs.Derivation.{literals, Derivation, maximumIndex, ownBindings}
 use Rattle.checker.specs.Program.{clearedPart, withClauseCells}
 use Rattle.checker.specs.Progress.{countsOf}
-use Rattle.checker.specs.Refusal.{unification}
-use Rattle.checker.specs.State.{State, withClause, derivations, held}
-use Rattle.checker.specs.Step.{step, addClause}
+use Rattle.verdict.specs.Refusal.{unification}
+use Rattle.verdict.specs.State.{State, withClause, derivations, held}
+use Rattle.verdict.specs.Step.{step, addClause}
 use Rattle.checker.specs.Stepping.{tablesWith, BeforeStep, UnifiedTables, Finished, finished, withStep, stepFinished, HeldUpTo, Finishing, StepRead}
-use Rattle.checker.specs.Tables.{Tables, cellsOfBindings, bindingCells, filled, filledTables}
+use Rattle.verdict.specs.Tables.{Tables, cellsOfBindings, bindingCells, filled, filledTables}
 use Rattle.checker.proofs.Declaring.{symbols-here, rows-here, clauses-here, bindings-here, clause-table}
 use Rattle.checker.proofs.Filling.{bindings-count, bindings-added, bindings-cleared}
 use Rattle.checker.proofs.Kept.{sizes, kept-next}
-use Rattle.checker.proofs.Standing.{held-clause, room}
+use Rattle.verdict.proofs.Standing.{held-clause, room}
 use Rattle.checker.proofs.StepLaws.{held-count, clause-count, held-few, few-of, room-of}
-use Rattle.checker.proofs.Tabled.{all-bindings-length}
+use Rattle.verdict.proofs.Tabled.{all-bindings-length}
 use Rattle.unify.specs.declared.pairs.Unified.{Unified}
 use Rattle.unify.specs.declared.pairs.Unified.the-variants.{Done}
 use Rattle.unify.specs.declared.pairs.Unified.the-variants as unified-variants

@@ -30,18 +30,18 @@ use Rattle.derivation.proofs.Origins.{stored-cells}
 use Rattle.derivation.proofs.OwnBindings.{BindingThere, BindingsThere, bindings-there}
 use Rattle.derivation.proofs.Validity.{lookup-in}
 use Rattle.checker.specs.Program.{clearedPart, withClauseCells}
-use Rattle.checker.specs.Refusal.{mostIndex}
-use Rattle.checker.specs.State.{State, rowsOf, derivations, clauseOf, rowOf, held}
-use Rattle.checker.specs.Step.{step, unifyResolve, unifyFactor}
+use Rattle.verdict.specs.Refusal.{mostIndex}
+use Rattle.verdict.specs.State.{State, rowsOf, derivations, clauseOf, rowOf, held}
+use Rattle.verdict.specs.Step.{step, unifyResolve, unifyFactor}
 use Rattle.checker.specs.Stepping.{tablesWith, BeforeStep, AtomOf, atomNamed, Resolving, Factoring, UnifiedTables, finished, withStep, stepFinished, HeldUpTo}
-use Rattle.checker.specs.Tables.{Tables, clauseCells, bindingCells, filled}
-use Rattle.checker.proofs.Advance.{Standing, RowFits}
+use Rattle.verdict.specs.Tables.{Tables, clauseCells, bindingCells, filled}
+use Rattle.verdict.proofs.Advance.{Standing, RowFits}
 use Rattle.checker.proofs.Declaring.{clauses-here, bindings-here}
 use Rattle.checker.proofs.Filling.{filled-length}
 use Rattle.checker.proofs.Kept.{stand, sizes, few-records, state-ok, few-clauses, rows-fit, nodes-length, nodes-in-order}
 use Rattle.checker.proofs.NodeTable.{node-row, has-row, row-there-of, application-row}
-use Rattle.checker.proofs.Standing.{below, ChainsEnd, InOrder, StateOk, room, order-of, known-of, held-links}
-use Rattle.checker.proofs.Tabled.{all-bindings-length, stored-clause}
+use Rattle.verdict.proofs.Standing.{below, ChainsEnd, InOrder, StateOk, room, order-of, known-of, held-links}
+use Rattle.verdict.proofs.Tabled.{all-bindings-length, stored-clause}
 use Rattle.unify.specs.declared.pairs.Unified.{Unified}
 use Rattle.unify.specs.declared.pairs.Unified.the-variants.{Done}
 use Rattle.unify.specs.declared.pairs.Unified.the-variants as unified-variants

@@ -14,12 +14,12 @@ use Rattle.unify.specs.Unifying.{outcomeOf}
 use Rattle.unify.proofs.Tests.{some-not-none, some-injective}
 use Rattle.derivation.specs.Derivation.{literals, Literal, Derivation, resolve, factor, numbered, without, raiseLiteral, maximumIndex}
 use Rattle.derivation.specs.Stored.{literalsCell, indexCell}
-use Rattle.checker.specs.Refusal.{tooLarge, mostLiterals, mostIndex, isThere, onBoth, resultFits, withinLimits}
-use Rattle.checker.specs.State.{State, clauseOf}
-use Rattle.checker.specs.Step.{require, step, addClause, unifyResolve, unifyFactor, onNamed}
+use Rattle.verdict.specs.Refusal.{tooLarge, mostLiterals, mostIndex, isThere, onBoth, resultFits, withinLimits}
+use Rattle.verdict.specs.State.{State, clauseOf}
+use Rattle.verdict.specs.Step.{require, step, addClause, unifyResolve, unifyFactor, onNamed}
 use Rattle.checker.specs.Stepping.{atomNamed, Resolving, Factoring, UnifiedTables, finished, stepFinished, ResolveNamed, FactorNamed, StepRead}
 use Rattle.checker.proofs.Entering.{and-false}
-use Rattle.checker.proofs.Inversions.{literal-named}
+use Rattle.verdict.proofs.Inversions.{literal-named}
 use Rattle.checker.proofs.StepEnds.{step-ended}
 use Rattle.checker.proofs.StepLaws.{index-of, literals-of}
 use Rattle.checker.proofs.StepTests.{Step, refuse, index-small, literals-small, resolve-kind, factor-kind, step-tests}

@@ -14,13 +14,13 @@ use Rattle.derivation.specs.Derivation.{literals, Literal, Derivation, numbered
 use Rattle.derivation.specs.Named.{namedLiteral, StoredClause}
 use Rattle.derivation.specs.Stored.{Stored}
 use Rattle.checker.specs.Program.{stepInRange}
-use Rattle.checker.specs.Refusal.{Reason, badKind, outOfRange, notThere, repeatedRow, variableLiteral, wrongSigns, tooLarge, reasonNumber, mostLiterals, mostIndex, kindOfRecord, knownKind, inRange, literalIn, literalNamed, leftOf, rightOf, deletedOf, isThere, allThere, isNew, onApplications, equalSigns, onBoth, fittingSigns, withinLimits}
-use Rattle.checker.specs.State.{State, entry, derivations, clauseOf}
-use Rattle.checker.specs.Step.{refused, require, step, enter}
+use Rattle.verdict.specs.Refusal.{Reason, badKind, outOfRange, notThere, repeatedRow, variableLiteral, wrongSigns, tooLarge, reasonNumber, mostLiterals, mostIndex, kindOfRecord, knownKind, inRange, literalIn, literalNamed, leftOf, rightOf, deletedOf, isThere, allThere, isNew, onApplications, equalSigns, onBoth, fittingSigns, withinLimits}
+use Rattle.verdict.specs.State.{State, entry, derivations, clauseOf}
+use Rattle.verdict.specs.Step.{refused, require, step, enter}
 use Rattle.checker.specs.Stepping.{BeforeStep, AtomOf, ClausesStored, namedAnswer, ResolveNamed, FactorNamed, StepRead}
 use Rattle.checker.proofs.Entering.{and-false}
-use Rattle.checker.proofs.Inversions.{literal-named, not-equal, entry-none}
-use Rattle.checker.proofs.Resolution.{at-kind}
+use Rattle.verdict.proofs.Inversions.{literal-named, not-equal, entry-none}
+use Rattle.verdict.proofs.Resolution.{at-kind}
 use Rattle.checker.proofs.StepLaws.{clause-count, stored-of, order-in}
 use Rattle.derivation.specs.declared.literal.NamedLiteral.{NamedLiteral}
 use Rattle.derivation.specs.declared.literal.NamedLiteral.the-variants.{Found, Absent}

@@ -6,12 +6,12 @@ use Prim.Native.Nat.{ℕ, _+_, _*_}
 use lib.ListN.{getD}
 use Rattle.unify.specs.Row.{Variable}
 use Rattle.derivation.specs.Derivation.{Derivation, maximumIndex}
-use Rattle.checker.specs.Demands.{Demand1, Demand2, Demand3}
+use Rattle.verdict.specs.Demands.{Demand1, Demand2, Demand3}
 use Rattle.checker.specs.Given.{answerGiven}
-use Rattle.checker.specs.State.{clauseOf}
-use Rattle.checker.specs.Step.{stateOf}
-use Rattle.checker.specs.Tables.{Tables, lengthsOf, tablesAfter}
-use Rattle.checker.specs.Verdict.{check, answerNumbers, ending}
+use Rattle.verdict.specs.State.{clauseOf}
+use Rattle.verdict.specs.Step.{stateOf}
+use Rattle.verdict.specs.Tables.{Tables, lengthsOf, tablesAfter}
+use Rattle.verdict.specs.Verdict.{check, answerNumbers, ending}
 use Rattle.checker.specs.declared.answer.Answer.{Answer}
 use Rattle.checker.specs.declared.answer.Verdict.the-variants as verdict
 

@@ -5,7 +5,7 @@ use Prim.Native.Nat.{ℕ, zero, suc}
 use lib.Dec.{eqb}
 use Rattle.record.specs.Record.{pick}
 use Rattle.derivation.specs.Stored.{literalsCell}
-use Rattle.checker.specs.Verdict.{verdictNumbers, standing}
+use Rattle.verdict.specs.Verdict.{verdictNumbers, standing}
 use Rattle.checker.specs.declared.entry.Counts.{Counts}
 use Rattle.checker.specs.declared.reader.Ended.{Ended}
 use Rattle.checker.specs.declared.reader.Ended.the-variants.{All, Refused}

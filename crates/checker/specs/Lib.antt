@@ -1,10 +1,3 @@
-pub mod State
-pub mod Refusal
-pub mod Step
-pub mod Verdict
-pub mod Tables
-pub mod Demands
-pub mod Cases
 pub mod Program
 pub mod Progress
 pub mod Stepping

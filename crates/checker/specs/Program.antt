@@ -8,7 +8,7 @@ use lib.ListN.{getD, take, drop, set, replicate}
 use Rattle.record.specs.Record.{pick, Record, recordPart, countOf, fieldOf, fieldsOf, decoded, symbolKind, variableKind, applicationKind, inputKind}
 use Rattle.unify.specs.Nodes.{isVariable, part}
 use Rattle.derivation.specs.Derivation.{literals, RowLiteral, inputLiterals}
-use Rattle.checker.specs.Refusal.{outOfRange, notThere, repeatedRow, variableLiteral, reasonNumber, zeros, inRange, argumentRows, hasArity, allBelow, equalLists}
+use Rattle.verdict.specs.Refusal.{outOfRange, notThere, repeatedRow, variableLiteral, reasonNumber, zeros, inRange, argumentRows, hasArity, allBelow, equalLists}
 use Rattle.checker.specs.declared.entry.Counts.{Counts}
 use Rattle.checker.specs.declared.entry.Entered.{Entered}
 use Rattle.checker.specs.declared.entry.Entered.the-variants.{Stands, Refused}

@@ -7,11 +7,11 @@ use lib.Dec.{T}
 use lib.ListN.{length, take, replicate}
 use Rattle.record.specs.Record.{records, recordCount, recordPart, decoded}
 use Rattle.unify.specs.Row.{variable, Row, application}
-use Rattle.checker.specs.Refusal.{Reason, reasonNumber}
-use Rattle.checker.specs.State.{State, start, rowsOf, held}
-use Rattle.checker.specs.Step.{stands, refused, step, read, allStand}
-use Rattle.checker.specs.Tables.{Tables, lengthsOf, filledTables}
-use Rattle.checker.specs.Verdict.{longEnough, fittingLength}
+use Rattle.verdict.specs.Refusal.{Reason, reasonNumber}
+use Rattle.verdict.specs.State.{State, start, rowsOf, held}
+use Rattle.verdict.specs.Step.{stands, refused, step, read, allStand}
+use Rattle.verdict.specs.Tables.{Tables, lengthsOf, filledTables}
+use Rattle.verdict.specs.Verdict.{longEnough, fittingLength}
 use Rattle.checker.specs.declared.entry.Counts.{Counts}
 use Rattle.checker.specs.declared.entry.Entered.{Entered}
 use Rattle.checker.specs.declared.entry.Entered.the-variants.{Stands, Refused}

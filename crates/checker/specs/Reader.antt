@@ -6,11 +6,11 @@ use Prim.Native.Nat.{ℕ}
 use lib.ListN.{length}
 use Rattle.checker.specs.Given.{answerGiven}
 use Rattle.checker.specs.Progress.{nodeTableOf, countsOf}
-use Rattle.checker.specs.Refusal.{Reason, reasonNumber}
-use Rattle.checker.specs.State.{State, start}
-use Rattle.checker.specs.Step.{allStand, refusedAt, stateOf}
-use Rattle.checker.specs.Tables.{Tables, lengthsOf, filledTables}
-use Rattle.checker.specs.Verdict.{answerNumbers, verdictOf, answerOf, longEnough, fittingLength, ending}
+use Rattle.verdict.specs.Refusal.{Reason, reasonNumber}
+use Rattle.verdict.specs.State.{State, start}
+use Rattle.verdict.specs.Step.{allStand, refusedAt, stateOf}
+use Rattle.verdict.specs.Tables.{Tables, lengthsOf, filledTables}
+use Rattle.verdict.specs.Verdict.{answerNumbers, verdictOf, answerOf, longEnough, fittingLength, ending}
 use Rattle.checker.specs.declared.entry.Counts.{Counts}
 use Rattle.checker.specs.declared.reader.Ended.{Ended}
 use Rattle.checker.specs.declared.answer.Answer.{Answer}

@@ -11,9 +11,9 @@ use Rattle.derivation.specs.Derivation.{literals, Literal, Derivation, numbered
 use Rattle.derivation.specs.Stored.{Stored}
 use Rattle.checker.specs.Program.{clearedPart, withClauseCells}
 use Rattle.checker.specs.Progress.{Kept, Next}
-use Rattle.checker.specs.Refusal.{inRange, leftOf, rightOf, deletedOf, fittingSigns}
-use Rattle.checker.specs.State.{State, clauseOf}
-use Rattle.checker.specs.Tables.{Tables}
+use Rattle.verdict.specs.Refusal.{inRange, leftOf, rightOf, deletedOf, fittingSigns}
+use Rattle.verdict.specs.State.{State, clauseOf}
+use Rattle.verdict.specs.Tables.{Tables}
 use Rattle.unify.specs.declared.pairs.Unified.{Unified}
 use Rattle.unify.specs.declared.pairs.Unified.the-variants.{Done, Refused}
 use Rattle.checker.specs.declared.entry.Counts.{Counts}

@@ -10,7 +10,7 @@ ghost use Prim.Native.Nat.{_≤_};
 ghost use lib.ListN.{drop};
 ghost use Rattle.record.specs.Record.{decoded, countOf, fieldsOf, symbolKind, variableKind, applicationKind, inputKind};
 ghost use Rattle.derivation.specs.Derivation.{inputLiterals};
-ghost use Rattle.checker.specs.Refusal.{kindOfRecord, zeros, inRange, argumentRows, allBelow};
+ghost use Rattle.verdict.specs.Refusal.{kindOfRecord, zeros, inRange, argumentRows, allBelow};
 ghost use Rattle.checker.specs.Program.{arityIn, arityAnswer, stepInRange};
 
 // A symbol's arity, or that there is no such symbol.

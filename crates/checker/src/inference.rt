@@ -17,8 +17,8 @@ use unify::unify_literals;
 ghost use mathlib.Core.Path.{_≡_};
 ghost use Rattle.record.specs.Record.{recordPart, kindOf};
 ghost use Rattle.unify.specs.Unifying.{outcomeOf};
-ghost use Rattle.checker.specs.Refusal.{literalNamed, equalSigns};
-ghost use Rattle.checker.specs.Step.{unifyResolve, unifyFactor};
+ghost use Rattle.verdict.specs.Refusal.{literalNamed, equalSigns};
+ghost use Rattle.verdict.specs.Step.{unifyResolve, unifyFactor};
 ghost use Rattle.checker.specs.Stepping.{BeforeStep, Resolving, Factoring, UnifiedTables, atomNamed, Finishing, finished, stepFinished, ClausesStored, namedAnswer, ResolveNamed, FactorNamed, StepRead};
 
 // An atom of a clause: the clause's number, and the atom's row and index.

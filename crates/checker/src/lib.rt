@@ -1,5 +1,6 @@
-// The check of a proof file. The definitions are in specs/: `Verdict` and `Tables` have what the check answers, `Demands` what is
-// demanded of it, and `Contract` what it promises. `Program`, `Progress`, `Stepping` and `Reader` say how this program goes about it.
+// The check of a proof file. The definitions are in the crate verdict: `Verdict` and `Tables` have what the check answers, `Demands`
+// what is demanded of it. In specs/, `Contract` has what `check` promises; `Program`, `Progress`, `Stepping` and `Reader` say how this
+// program goes about it.
 pub mod answer;
 pub mod entry;
 pub mod fields;
@@ -18,7 +19,7 @@ ghost use lib.ListN.{length};
 ghost use Rattle.checker.specs.Contract.{Checked};
 ghost use Rattle.checker.specs.Reader.{Readable, FileRead};
 ghost use Rattle.checker.specs.Stepping.{tablesWith};
-ghost use Rattle.checker.specs.Verdict.{fittingLength, longEnough};
+ghost use Rattle.verdict.specs.Verdict.{fittingLength, longEnough};
 
 // Whether a file's length is at most 65,536 and a multiple of 16.
 fn fitting_length(n: usize) -> bool

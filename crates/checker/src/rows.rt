@@ -8,7 +8,7 @@ ghost use Prim.Native.Nat.{_≤_, _<_};
 ghost use lib.ListN.{length};
 ghost use Rattle.record.specs.Record.{decoded, countOf, fieldsOf};
 ghost use Rattle.derivation.specs.Derivation.{inputLiterals};
-ghost use Rattle.checker.specs.Refusal.{equalLists};
+ghost use Rattle.verdict.specs.Refusal.{equalLists};
 ghost use Rattle.checker.specs.Program.{nodeCells, nodeAt, withNode, isRepeated, noVariable};
 
 // The seven fields of a record, read once.

@@ -6,7 +6,7 @@ use native.Mathlib.Omega.{arith}
 use lib.ListN.{length, drop, set}
 use Rattle.checker.specs.Contract.{Checked}
 use Rattle.checker.specs.Given.{verdictGiven, answerGiven}
-use Rattle.checker.specs.Tables.{Tables}
+use Rattle.verdict.specs.Tables.{Tables}
 use Rattle.checker.specs.declared.answer.Answer.{Answer}
 use Rattle.checker_c.specs.Exported.{Exported}
 

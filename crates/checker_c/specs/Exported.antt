@@ -4,8 +4,8 @@ use mathlib.Core.Path.{_≡_}
 use mathlib.Core.List.{List, _++_}
 use Prim.Native.Nat.{ℕ, _<_, _≤_}
 use lib.ListN.{length, drop}
-use Rattle.checker.specs.Tables.{Tables, lengthsOf, tablesAfter}
-use Rattle.checker.specs.Verdict.{check, answerNumbers}
+use Rattle.verdict.specs.Tables.{Tables, lengthsOf, tablesAfter}
+use Rattle.verdict.specs.Verdict.{check, answerNumbers}
 
 pub record Exported (file : List ℕ) (before : Tables) (answerBefore : List ℕ) (after : Tables) (answerAfter : List ℕ) : Type 0 where
   -- An answer slice of fewer than seven cells: it and every table are left as they were.

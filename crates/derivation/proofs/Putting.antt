@@ -4,22 +4,23 @@ use mathlib.Core.Bool.{Bool, true, false}
 use mathlib.Core.List.{List}
 use Prim.Native.Nat.{ℕ, zero, suc, _+_, _*_, _≤_, _<_}
 use native.Mathlib.Omega.{arith}
-use lib.Dec.{eqb}
-use lib.ListN.{getD}
+use lib.Dec.{eqb, leb}
+use lib.ListN.{length, getD, set, List·getD-eq-default}
 use Rattle.record.specs.Record.{recordPart, kindOf, fieldOf, fieldA, fieldC}
 use Rattle.unify.specs.Bindings.{bindingAt, bindingsFrom}
 use Rattle.unify.specs.Environment.{Binding}
-use Rattle.unify.specs.Nodes.{isVariable}
+use Rattle.unify.specs.Nodes.{isVariable, part}
 use Rattle.unify.specs.Row.{Variable}
 use Rattle.unify.specs.Values.{slot, put, InStep}
 use Rattle.derivation.specs.Derivation.{input, Derivation, resolve, factor, maximumIndex, ownBindings, lookup}
-use Rattle.derivation.specs.Loaded.{readCell, orElse, within, putBindings, putClause, putParents, BindingIn, AllIn, BindingsIn, Loadable, Loaded, LoadedParents, Puttable, BindingsPut}
+use Rattle.derivation.specs.Loaded.{readCell, orElse, within, putBindings, putClause, putParents, BindingIn, AllIn, BindingsIn, Loadable, Loaded, LoadedParents, Puttable, BindingsPut, BindingThere, putCells}
 use Rattle.derivation.specs.Stored.{recordCell, indexCell, firstCell, bindingsCell, recordOf, Stored, storedInput, storedResolve, storedFactor}
 use Rattle.derivation.proofs.LoadedModels.{stored-once}
 use Rattle.derivation.proofs.Loading.{clause-read}
 use Rattle.derivation.proofs.Origins.{stored-cells}
 use native.Mathlib.Numerals.{add-one}
-use borrow.Author.Tests.{eqb-true, eqb-false}
+use borrow.Author.Tests.{leb-true, leb-false, eqb-true, eqb-false}
+use Rattle.unify.proofs.Writing.{length-put}
 
 -- Each binding that is to be put into the array is in range.
 pub all-at : (N B : List ℕ) (m first n k : ℕ) → AllIn N m (bindingsFrom B first n) → k < n → BindingIn N m (bindingAt B (first + k))
@@ -30,12 +31,55 @@ all-at N B m first (suc n) k K h = try (eqb k n) refl (λ l. all-at N B m first 
     try true q more = subst (λ (j : ℕ). BindingIn N m (bindingAt B (first + j))) (sym (eqb-true k n q)) (K .0)
     try false q more = let d = eqb-false k n q in more (omega arith)
 
+-- The number of a variable, as the node table holds it.
+number-cell : (N : List ℕ) (r : ℕ) → part N r 0 ≡ getD N (8 * r + 1) 0
+unfolding part
+number-cell N r = let z : 8 * r + 1 + 0 ≡ 8 * r + 1 = omega arith in ap (λ (k : ℕ). getD N k 0) z
+
+pub number-small : {B N A : List ℕ} {at o : ℕ} → BindingThere B N A at o → getD N (8 * getD B at 0 + 1) 0 < 64
+number-small {B} {N} {A} {at} P = subst (λ (k : ℕ). k < 64) (number-cell N (getD B at 0)) (P .number)
+
+pub cells-put : (B N A : List ℕ) (at o : ℕ)
+    → set (set A (128 * (o + getD B (at + 1) 0) + 2 * getD N (8 * getD B at 0 + 1) 0) (getD B (at + 2) 0 + 1)) (128 * (o + getD B (at + 1) 0) + 2 * getD N (8 * getD B at 0 + 1) 0 + 1) (o + getD B (at + 3) 0)
+    ≡ putCells B N A at o
+unfolding putCells put
+cells-put B N A at o = rw (number-cell N (getD B at 0))
+
+pub cells-room : (B N A : List ℕ) (at o : ℕ) → length A ≡ 524416 → length (putCells B N A at o) ≡ 524416
+unfolding putCells
+cells-room B N A at o h = length-put A (slot N (getD B at 0) (o + getD B (at + 1) 0)) (getD B (at + 2) 0 + 1) (o + getD B (at + 3) 0) ∙ h
+
+-- A cell that is not 0 is inside the table.
+cell-inside : (B : List ℕ) (k : ℕ) → 1 ≤ getD B k 0 → k < length B
+cell-inside B k h = try (leb (suc k) (length B)) refl
+  where
+    try : (b : Bool) → leb (suc k) (length B) ≡ b → k < length B
+    try true q = leb-true (suc k) (length B) q
+    try false q = let z = leb-false (suc k) (length B) q in let y = List·getD-eq-default B 0 {n = k} (omega arith) in absurd (omega arith)
+
 -- One binding more.
-pub put-one : (N B A : List ℕ) (o first k : ℕ) {A₁ A₂ : List ℕ} {v i t j at : ℕ} → A₁ ≡ putBindings N o (bindingsFrom B first k) A
-    → v ≡ getD B (4 * (first + k)) 0 → i ≡ getD B (4 * (first + k) + 1) 0 → t ≡ getD B (4 * (first + k) + 2) 0 → j ≡ getD B (4 * (first + k) + 3) 0
-    → at ≡ slot N v (o + i) → A₂ ≡ put A₁ at (t + 1) (o + j) → A₂ ≡ putBindings N o (bindingsFrom B first (k + 1)) A
-put-one N B A o first k q pv pi pt pj pa q′ =
-    rw add-one (q′ ∙ (λ x. put (q x) ((pa ∙ ap₂ (λ (r h : ℕ). slot N r (o + h)) pv pi) x) (pt x + 1) (o + pj x)))
+pub put-one : (N B A : List ℕ) (o first k : ℕ) {A₁ A₂ : List ℕ} → A₁ ≡ putBindings N o (bindingsFrom B first k) A → A₂ ≡ putCells B N A₁ (4 * (first + k)) o → A₂ ≡ putBindings N o (bindingsFrom B first (k + 1)) A
+unfolding putCells
+put-one N B A o first k q p = rw add-one (p ∙ ap (λ (y : List ℕ). putCells B N y (4 * (first + k)) o) q)
+
+-- A binding in range has its four cells in the table.
+pub binding-there : {B N A A₁ : List ℕ} {first n o : ℕ} (k : ℕ) → Puttable B N A first n o → length A₁ ≡ 524416 → k < n → BindingThere B N A₁ (4 * (first + k)) o
+binding-there {B} {N} {A} {A₁} {first} {n} {o} k P room h =
+    let K = all-at N B (P .top) first n k (P .all) h in
+    let low = K .value .low in
+    let high = K .bound .high in
+    let high₂ = K .value .high in
+    let fits = P .fits in
+    record {
+      nodeRoom = P .nodeRoom;
+      room = room;
+      inside = cell-inside B (4 * (first + k) + 3) low;
+      variable = P .nodes .room (getD B (4 * (first + k)) 0) (K .bound .row);
+      number = P .nodes .number (getD B (4 * (first + k)) 0) (K .bound .row) (K .ofVariable);
+      index = omega arith;
+      row = P .nodes .room (getD B (4 * (first + k) + 2) 0) (K .value .row);
+      value = omega arith;
+    }
 
 -- Where the parents of a stored clause are, and what loading them asks.
 module _ {F C B N A : List ℕ} {c o rc u p : ℕ} {w : List ℕ} (L : Loadable F C B N A c o) (pr : rc ≡ recordCell C c) (pw : w ≡ recordPart F rc) (pu : u ≡ kindOf w) (pp : p ≡ fieldOf w 0) where
@@ -130,6 +174,27 @@ own-all N (input ls) K = tt
 own-all N (resolve l a r b bs) K = K .2
 own-all N (factor d a b bs) K = K .1
 
+-- The array's cells decide what a variable reads.
+module _ {F C B N A A₂ : List ℕ} {c o : ℕ} (L : Loadable F C B N A c o) where
+  all-loaded : length A₂ ≡ 524416 → ((d : Derivation) → Stored F C B c d → A₂ ≡ putClause N o d A) → Loaded F C B N A A₂ c o
+  all-loaded room cells = record { room = room; cells = cells; reads = reads }
+    where
+      reads : (d : Derivation) → Stored F C B c d → (x : Variable) → InStep N 4096 x → isVariable N (x .0) ≡ true
+          → readCell N A₂ x ≡ orElse (within o (maximumIndex d) (lookup d) x) (readCell N A x)
+      reads d s x g v =
+          let e : L .derivation ≡ d = stored-once (L .stored) s in
+          ap (λ (y : List ℕ). readCell N y x) (cells d s)
+          ∙ clause-read N (L .nodes) d (subst (BindingsIn N) e (L .bindings)) o (subst (λ (k : Derivation). o + maximumIndex k ≤ 4096) e (L .fits)) A (L .room) x g v
+
+-- An input clause has no bindings.
+pub input-loaded : {F C B N A : List ℕ} {c o u : ℕ} → Loadable F C B N A c o → u ≡ recordOf F C c .kind → u ≡ 4 → Loaded F C B N A A c o
+input-loaded {F} {C} {B} {N} {A} {c} {o} L pu four = all-loaded L (L .room) cells
+  where
+    cells : (d : Derivation) → Stored F C B c d → A ≡ putClause N o d A
+    cells d (storedInput k q s) = refl
+    cells d (storedResolve k la sa qa lb sb qb s) = absurd (omega arith)
+    cells d (storedFactor k l t qa qb s) = absurd (omega arith)
+
 module _ {F C B N A A₁ : List ℕ} {c o first n : ℕ} (L : Loadable F C B N A c o) (P : LoadedParents F C B N A A₁ c o) (pf : first ≡ firstCell C c) (pn : n ≡ bindingsCell C c) where
   own-is : {d : Derivation} → Stored F C B c d → bindingsFrom B first n ≡ ownBindings d
   own-is s = ap₂ (bindingsFrom B) pf pn ∙ stored-cells s .own
@@ -146,14 +211,5 @@ module _ {F C B N A A₁ : List ℕ} {c o first n : ℕ} (L : Loadable F C B N A
       }
 
   pub own-loaded : {A₂ : List ℕ} → BindingsPut B N A₁ A₂ first n o → Loaded F C B N A A₂ c o
-  own-loaded {A₂} G = record { room = G .room; cells = cells; reads = reads }
-    where
-      cells : (d : Derivation) → Stored F C B c d → A₂ ≡ putClause N o d A
-      cells d s = G .cells ∙ ap₂ (λ (bs : List Binding) (y : List ℕ). putBindings N o bs y) (own-is s) (P .cells d s) ∙ put-own N o d A
-
-      reads : (d : Derivation) → Stored F C B c d → (x : Variable) → InStep N 4096 x → isVariable N (x .0) ≡ true
-          → readCell N A₂ x ≡ orElse (within o (maximumIndex d) (lookup d) x) (readCell N A x)
-      reads d s x g v =
-          let e : L .derivation ≡ d = stored-once (L .stored) s in
-          ap (λ (y : List ℕ). readCell N y x) (cells d s)
-          ∙ clause-read N (L .nodes) d (subst (BindingsIn N) e (L .bindings)) o (subst (λ (k : Derivation). o + maximumIndex k ≤ 4096) e (L .fits)) A (L .room) x g v
+  own-loaded {A₂} G =
+      all-loaded L (G .room) (λ d s. G .cells ∙ ap₂ (λ (bs : List Binding) (y : List ℕ). putBindings N o bs y) (own-is s) (P .cells d s) ∙ put-own N o d A)

@@ -4,13 +4,13 @@ use mathlib.Core.Path.{_≡_}
 use mathlib.Core.Bool.{true}
 use mathlib.Core.Option.{Option, none, some}
 use mathlib.Core.List.{List, [], _∷_}
-use Prim.Native.Nat.{ℕ, zero, suc, _+_, _-_, _≤_}
+use Prim.Native.Nat.{ℕ, zero, suc, _+_, _-_, _≤_, _<_}
 use lib.Dec.{leb}
-use lib.ListN.{length}
+use lib.ListN.{length, getD}
 use Rattle.record.specs.Record.{pick}
 use Rattle.unify.specs.Bindings.{bindingsFrom}
 use Rattle.unify.specs.Environment.{Binding, Environment}
-use Rattle.unify.specs.Nodes.{isVariable, NodesOk}
+use Rattle.unify.specs.Nodes.{isVariable, part, NodesOk}
 use Rattle.unify.specs.Row.{Expression, Variable}
 use Rattle.unify.specs.Values.{slot, put, cellOf, indexOf, InStep}
 use Rattle.derivation.specs.Derivation.{input, Derivation, resolve, factor, maximumIndex, raiseAnswer, lookup}
@@ -108,3 +108,17 @@ pub record Puttable (B N A : List ℕ) (first n o : ℕ) : Type 0 where
 pub record BindingsPut (B N A A′ : List ℕ) (first n o : ℕ) : Type 0 where
   pub room : length A′ ≡ 524416
   pub cells : A′ ≡ putBindings N o (bindingsFrom B first n) A
+
+-- What putting the binding at cell `at` asks: its four cells are inside the table, and it is in range at offset o; and the array that it leaves.
+pub record BindingThere (B N A : List ℕ) (at o : ℕ) : Type 0 where
+  pub nodeRoom : length N ≡ 32768
+  pub room : length A ≡ 524416
+  pub inside : at + 3 < length B
+  pub variable : getD B at 0 < 4096
+  pub number : part N (getD B at 0) 0 < 64
+  pub index : o + getD B (at + 1) 0 ≤ 4096
+  pub row : getD B (at + 2) 0 < 4096
+  pub value : o + getD B (at + 3) 0 ≤ 4096
+
+unfoldable pub putCells : List ℕ → List ℕ → List ℕ → ℕ → ℕ → List ℕ
+putCells B N A at o = put A (slot N (getD B at 0) (o + getD B (at + 1) 0)) (getD B (at + 2) 0 + 1) (o + getD B (at + 3) 0)

@@ -1,7 +1,7 @@
 // Clauses as derivations: what the tables hold of a clause, its literals, and its bindings. The definitions are in specs/.
 ghost use mathlib.Core.Path.{_≡_};
 ghost use lib.ListN.{getD};
-ghost use Rattle.derivation.specs.Stored.{recordCell, literalsCell, indexCell, firstCell, bindingsCell};
+ghost use Rattle.derivation.specs.Stored.{recordCell, literalsCell, indexCell, firstCell, bindingsCell, recordOf};
 
 pub mod literal;
 pub mod load;
@@ -46,4 +46,11 @@ pub fn bindings_cell(clauses: &[u16], c: u16) -> u16
     ensures { λ r. ⌜ r ≡ bindingsCell (now (clauses .entry)) c ⌝ }
 {
     cell(clauses, 5 * (c as usize) + 4)
+}
+
+// The kind of clause c's record.
+pub fn clause_kind(file: &[u8], clauses: &[u16], c: u16) -> u8
+    ensures { λ r. ⌜ r ≡ recordOf (now (file .entry)) (now (clauses .entry)) c .kind ⌝ }
+{
+    record::kind(record::record_part(file, record_cell(clauses, c) as usize))
 }

@@ -5,6 +5,7 @@ ghost use Prim.Native.Nat.{ℕ, _<_, _≤_};
 ghost use Rattle.derivation.specs.Derivation.{Derivation, literals, numbered};
 ghost use Rattle.derivation.specs.Stored.{Stored, recordOf};
 ghost use Rattle.derivation.specs.Named.{namedLiteral, StoredClause, StoredLiteral, leftOver, passed, ComesUp, ComesFromInput};
+use super::clause_kind;
 use super::index_cell;
 use super::literals_cell;
 use super::record_cell;
@@ -41,13 +42,6 @@ fn passed_over(n: u16, a: u16) -> u16
         return n;
     }
     if n < a { n } else { n + 1 }
-}
-
-// The kind of clause c's record.
-fn clause_kind(file: &[u8], clauses: &[u16], c: u16) -> u8
-    ensures { λ r. ⌜ r ≡ recordOf (now (file .entry)) (now (clauses .entry)) c .kind ⌝ }
-{
-    record::kind(record::record_part(file, record_cell(clauses, c) as usize))
 }
 
 // The parent that literal n of a resolvent or a factor comes from.

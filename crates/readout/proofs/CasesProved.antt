@@ -2,10 +2,10 @@
 use mathlib.Core.Path.{refl}
 use Rattle.record.specs.Record.{records}
 use Rattle.unify.specs.Unification.{mostWork, mostBindings, mostLinks, run}
-use Rattle.checker.specs.Refusal.{mostLiterals, mostIndex}
-use Rattle.checker.specs.State.{held}
-use Rattle.checker.specs.Step.{require, addClause}
-use Rattle.checker.specs.Verdict.{ending}
+use Rattle.verdict.specs.Refusal.{mostLiterals, mostIndex}
+use Rattle.verdict.specs.State.{held}
+use Rattle.verdict.specs.Step.{require, addClause}
+use Rattle.verdict.specs.Verdict.{ending}
 use Rattle.readout.specs.Cases.{ReadoutsHold, TildeHolds}
 use Rattle.readout.specs.Readout.{readoutLines}
 

@@ -7,8 +7,8 @@ use lib.Dec.{eqb}
 use lib.ListN.{length}
 use Rattle.unify.specs.Row.{variable, Variable}
 use Rattle.unify.specs.Term.{Term, var, app, nil, cons}
-use Rattle.checker.specs.Cases.{caseA, caseF}
-use Rattle.checker.specs.Verdict.{named}
+use Rattle.verdict.specs.Cases.{caseA, caseF}
+use Rattle.verdict.specs.Verdict.{named}
 use Rattle.readout.specs.Readout.{readoutLines}
 use Rattle.readout.specs.Text.{literalText}
 

@@ -5,10 +5,10 @@ use lib.ListN.{length}
 use Rattle.record.specs.Record.{pick}
 use Rattle.derivation.specs.Derivation.{Derivation, maximumIndex}
 use Rattle.derivation.specs.Written.{written}
-use Rattle.checker.specs.Refusal.{badLength, shortTable, reasonNumber}
-use Rattle.checker.specs.State.{State, start, derivations, rowOf, termOf}
-use Rattle.checker.specs.Step.{stateOf}
-use Rattle.checker.specs.Verdict.{Verdict, refusal, accepted, undecided, verdictOf, Lengths, longEnough, fittingLength, ending}
+use Rattle.verdict.specs.Refusal.{badLength, shortTable, reasonNumber}
+use Rattle.verdict.specs.State.{State, start, derivations, rowOf, termOf}
+use Rattle.verdict.specs.Step.{stateOf}
+use Rattle.verdict.specs.Verdict.{Verdict, refusal, accepted, undecided, verdictOf, Lengths, longEnough, fittingLength, ending}
 use Rattle.readout.specs.Text.{decimal, literalsText}
 
 -- `accepted N`, `open`, or `refused R at K`.

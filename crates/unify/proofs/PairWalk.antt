@@ -16,8 +16,8 @@ use Rattle.unify.specs.Row.{Expression, same}
 use Rattle.unify.specs.Unification.{mostLinks, failureNumber, clash, occurs, overwork, Outcome, unified, failed, unifying, testing, goOn, noRoom, withWork, run}
 use Rattle.unify.specs.Unifying.{failureOf}
 use Rattle.unify.specs.Values.{slot, put, InStep, Models}
-use Rattle.unify.specs.Walks.{viewOf, Walked, Follows, absent, broken, testedOf, LeavesLess, LeavesNoMore, thenRun, PairRuns, ArgumentsRun, TestRuns, Looking, Looked, Filed, bindingsOnto, outcomeOnto, Stand, Stands, Settled, isApplication, isOther, Alike, Pairing, Paired, Bound, Met, Argued}
-use Rattle.unify.proofs.BindingsAdded.{onto-none, onto-then, onto-push, length-push}
+use Rattle.unify.specs.Walks.{viewOf, Walked, Follows, absent, broken, testedOf, LeavesLess, LeavesNoMore, thenRun, PairRuns, ArgumentsRun, TestRuns, Looking, Looked, Filed, bindingsOnto, outcomeOnto, Stand, Stands, Settled, isApplication, isOther, Alike, Pairing, Paired, Bound, Met, Argued, Meets, sameVariable, leftToVariable, leftToApplication, rightVariable, sameApplication, otherSymbol, noArguments, someArguments, Matching, Matched, ArguedBefore}
+use Rattle.unify.proofs.BindingsAdded.{added-then, added-below, onto-none, onto-then, onto-push, length-push}
 use Rattle.unify.proofs.Chains.{Short, short-le, Firm, short-with}
 use Rattle.unify.proofs.Halving.{walked-app, walked-var, walked-ends}
 use Rattle.unify.proofs.Limits.{links-8192, bindings-8192}
@@ -30,21 +30,14 @@ use Rattle.unify.specs.declared.follow.Followed.{Followed}
 use Rattle.unify.specs.declared.follow.Followed.the-variants.{Variable, Application}
 use Rattle.unify.specs.declared.occurs.Occurs.{Occurs}
 use Rattle.unify.specs.declared.occurs.Occurs.the-variants.{No, Yes, Spent}
+use Rattle.unify.specs.declared.pairs.Meeting.{Meeting}
+use Rattle.unify.specs.declared.pairs.Meeting.the-variants.{Bind, Nothing, Clash, Arguments}
 use Rattle.unify.specs.declared.pairs.Unified.{Unified}
 use Rattle.unify.specs.declared.pairs.Unified.the-variants.{Done, Refused}
 
 pub leaves-less : (w v : ℕ) (u : Unified) → v < w → LeavesNoMore v u → LeavesLess w u
 leaves-less w v (Done l h) p q = omega arith
 leaves-less w v (Refused n) p q = tt
-
--- In the arguments of v at index a and t at index b: what holds from argument n on, with `left` work left, holds of all.
-module _ (N : List ℕ) (top : ℕ) (A B : List ℕ) (first : ℕ) (base : Environment) (bs : List Binding) (held : ℕ) where
-  pub record Matching (v a t b w n rest left total : ℕ) : Type 0 where
-    pub stand : Stand N top A B first base (bindingsOnto B held (total - held) bs) total
-    pub whole : (q : Outcome) → ArgumentsRun (nodeRow N) mostLinks (noRoom first) base left (bindingsOnto B held (total - held) bs) (argumentsFrom N v rest n) a (argumentsFrom N t rest n) b q → ArgumentsRun (nodeRow N) mostLinks (noRoom first) base w bs (argumentsFrom N v (nodeArity N v) 1) a (argumentsFrom N t (nodeArity N t) 1) b q
-
-abbrev pub Matched : List ℕ → List ℕ → List ℕ → List ℕ → List ℕ → ℕ → ℕ → ℕ → ℕ → ℕ → ℕ → ℕ → ℕ → ℕ → ℕ → Type 0
-Matched N A A′ B B′ held v a t b w n rest left total = (top first : ℕ) (base : Environment) (bs : List Binding) → Stand N top A B first base bs held → Alike N top v a t b → Matching N top A′ B′ first base bs held v a t b w n rest left total
 
 settled-firm : (N : List ℕ) (ρ : Environment) (x d : Expression) → Settled N ρ x d → Firm (HasRow N) (nodeRow N) ρ x d
 settled-firm N ρ x d (isApplication h) = (applied (part N (d .0) 0) (argumentsFrom N (d .0) (nodeArity N (d .0)) 1) d, refl, ap (nodeRowIf N (d .0)) h, tt, λ q. q)
@@ -215,12 +208,15 @@ module _ (N A B : List ℕ) (held v a t b w : ℕ) where
       match-refused x p top first base bs S L =
           record { ok = ahead top first base bs S L (failed (failureOf x)) (arguments-failed (nodeRow N) mostLinks (noRoom first) base left (bindingsOnto B₁ held (total - held) bs) c a d b (argumentsFrom N v (rest - 1) (n + 1)) (argumentsFrom N t (rest - 1) (n + 1)) (failureOf x) (subst (λ (z : Unified). PairRuns (nodeRow N) mostLinks (noRoom first) base left (bindingsOnto B₁ held (total - held) bs) (c, a) (d, b) (outcomeOnto z B₂ total (bindingsOnto B₁ held (total - held) bs))) p (here top first base bs S L .ok))); after = tt }
 
-      pub match-next : (l h : ℕ) → u ≡ Done l h → Added B B₁ held total → Added B₁ B₂ total h → Matched N A A₂ B B₂ held v a t b w (n + 1) (rest - 1) l h
-      match-next l h p k₁ k₂ top first base bs S L =
+      match-on : (l h : ℕ) → u ≡ Done l h → Added B B₁ held total → Added B₁ B₂ total h → Matched N A A₂ B B₂ held v a t b w (n + 1) (rest - 1) l h
+      match-on l h p k₁ k₂ top first base bs S L =
           let j = onto-then bs k₁ k₂ in
           let y = here top first base bs S L in
           let o : PairRuns (nodeRow N) mostLinks (noRoom first) base left (bindingsOnto B₁ held (total - held) bs) (c, a) (d, b) (unified (bindingsOnto B₂ held (h - held) bs) l) = subst (λ (z : List Binding). PairRuns (nodeRow N) mostLinks (noRoom first) base left (bindingsOnto B₁ held (total - held) bs) (c, a) (d, b) (unified z l)) j (subst (λ (z : Unified). PairRuns (nodeRow N) mostLinks (noRoom first) base left (bindingsOnto B₁ held (total - held) bs) (c, a) (d, b) (outcomeOnto z B₂ total (bindingsOnto B₁ held (total - held) bs))) p (y .ok)) in
           record { stand = subst (λ (z : List Binding). Stand N top A₂ B₂ first base z h) j (subst (λ (z : Unified). Stands N top A₂ B₂ first base (bindingsOnto B₁ held (total - held) bs) total z) p (y .after)); whole = λ q g. ahead top first base bs S L q (arguments-next (nodeRow N) mostLinks (noRoom first) base left (bindingsOnto B₁ held (total - held) bs) c a d b (argumentsFrom N v (rest - 1) (n + 1)) (argumentsFrom N t (rest - 1) (n + 1)) (bindingsOnto B₂ held (h - held) bs) l q o g) }
+
+      pub match-next : (l h : ℕ) → u ≡ Done l h → Added B B₁ held total → Added B₁ B₂ total h → (rest′ : ℕ) → rest′ ≡ rest - 1 → Matched N A A₂ B B₂ held v a t b w (n + 1) rest′ l h
+      match-next l h p k₁ k₂ rest′ e = subst (λ (m : ℕ). Matched N A A₂ B B₂ held v a t b w (n + 1) m l h) (sym e) (match-on l h p k₁ k₂)
 
 -- An answer that is known.
 pub filed-done : (B B′ : List ℕ) (held : ℕ) (u : Unified) (l h : ℕ) → u ≡ Done l h → Filed B B′ held u → Added B B′ held h
@@ -231,3 +227,126 @@ filed-refused B B′ held u n p k = subst (Filed B B′ held) p k
 
 pub less-done : (w : ℕ) (u : Unified) (l h : ℕ) → u ≡ Done l h → LeavesLess w u → l < w
 less-done w u l h p k = subst (LeavesLess w) p k
+
+pub no-more-done : (w : ℕ) (u : Unified) (l h : ℕ) → u ≡ Done l h → LeavesNoMore w u → l ≤ w
+no-more-done w u l h p k = subst (LeavesNoMore w) p k
+
+pub match-last : (N A A₁ B B₁ : List ℕ) (held v a t b w n last left total : ℕ) → last ≡ nodeArity N v → n ≡ last → Matched N A A₁ B B₁ held v a t b w n (last + 1 - n) left total → Matched N A A₁ B B₁ held v a t b w (nodeArity N v) 1 left total
+match-last N A A₁ B B₁ held v a t b w n last left total p q K =
+    let z : last + 1 - n ≡ 1 = omega arith in
+    subst (λ (m : ℕ). Matched N A A₁ B B₁ held v a t b w m 1 left total) (q ∙ p) (subst (λ (m : ℕ). Matched N A A₁ B B₁ held v a t b w n m left total) z K)
+
+pub meets-as : {N : List ℕ} {x y x′ y′ : Followed} {m : Meeting} → x ≡ x′ → y ≡ y′ → Meets N x′ y′ m → Meets N x y m
+meets-as {N} {x} {y} {x′} {y′} {m} p q h = subst (λ (z : Followed). Meets N z y m) (sym p) (subst (λ (z : Followed). Meets N x′ z m) (sym q) h)
+
+pub meets-last : {N : List ℕ} {x y : Followed} {f a g b last : ℕ} → Meets N x y (Arguments f a g b last) → (last ≡ nodeArity N f) × (1 ≤ last)
+meets-last (someArguments q s isLast some) = (isLast, some)
+
+-- The ways out of a pair whose sides were followed, by what is to be done with them.
+module _ (N A B : List ℕ) (held : ℕ) (e d : Expression) (w : ℕ) (A₁ A₂ : List ℕ) (nz : w ≡ 0 → ⊥) (f g : Followed) (W₁ : Follows N A A₁ e f) (W₂ : Follows N A₁ A₂ d g) where
+  pub paired-nothing : {f′ g′ : Followed} → Meets N f′ g′ Nothing → f ≡ f′ → g ≡ g′ → Paired N A A₂ B B held e d w (Done (w - 1) held)
+  paired-nothing (sameVariable {v} {a} {t} {b} q) pf pg = paired-variable N A B held e d w A₁ A₂ nz f g W₁ W₂ A₂ B (Done (w - 1) held) v a pf (met-same N A₂ B held (v, a) g (w - 1) t b pg true (sym q) refl)
+  paired-nothing (sameApplication {f = v} {a} {g = t} {b} q) pf pg = paired-same-app N A B held e d w A₁ A₂ nz f g W₁ W₂ v a t b pf pg true (sym q) refl
+  paired-nothing (noArguments {f = v} {a} {g = t} {b} q s z) pf pg =
+      paired-args N A B held e d w A₁ A₂ nz f g W₁ W₂ A₂ B (Done (w - 1) held) v a t b pf pg false (sym q) refl (part N v 0) (part N t 0) refl refl s
+      (match-end N A₂ B held v a t b (w - 1) A₂ B 1 0 (w - 1) held (match-start N A₂ B held v a t b (w - 1) 0 z) refl)
+
+  pub paired-clashing : {f′ g′ : Followed} → Meets N f′ g′ Clash → f ≡ f′ → g ≡ g′ → Paired N A A₂ B B held e d w (Refused 10)
+  paired-clashing (otherSymbol {f = v} {a} {g = t} {b} q s) pf pg = paired-clash N A B held e d w A₁ A₂ nz f g W₁ W₂ v a t b pf pg false (sym q) refl (part N v 0) (part N t 0) refl refl s
+
+  pub paired-bind : {f′ g′ : Followed} {v a t b : ℕ} → Meets N f′ g′ (Bind v a t b) → f ≡ f′ → g ≡ g′ → (A₃ B₃ : List ℕ) (u : Unified) → Bound N A₂ A₃ B B₃ held (v, a) (t, b) (w - 1) u → Paired N A A₃ B B₃ held e d w u
+  paired-bind (leftToVariable {v} {a} {t} {b} q) pf pg A₃ B₃ u K = paired-variable N A B held e d w A₁ A₂ nz f g W₁ W₂ A₃ B₃ u v a pf (met-other N A₂ B held (v, a) g (w - 1) A₃ B₃ u t b pg false (sym q) refl K)
+  paired-bind (leftToApplication {v} {a} {g = t} {b}) pf pg A₃ B₃ u K = paired-variable N A B held e d w A₁ A₂ nz f g W₁ W₂ A₃ B₃ u v a pf (met-application N A₂ B held (v, a) g (w - 1) A₃ B₃ u t b pg K)
+  paired-bind (rightVariable {f = v} {a} {t} {b}) pf pg A₃ B₃ u K = paired-right N A B held e d w A₁ A₂ nz f g W₁ W₂ A₃ B₃ u v a t b pf pg K
+
+  -- The arguments were refused.
+  pub paired-refused : {f′ g′ : Followed} {v a t b last : ℕ} → Meets N f′ g′ (Arguments v a t b last) → f ≡ f′ → g ≡ g′ → (A₃ B₃ : List ℕ) (u : Unified) (n : ℕ) → u ≡ Refused n → ArguedBefore N A₂ A₃ B B₃ held v a t b (w - 1) u → Paired N A A₃ B B₃ held e d w (Refused n)
+  paired-refused (someArguments {f = v} {a} {g = t} {b} q s l m) pf pg A₃ B₃ u n isRefused K =
+      paired-args N A B held e d w A₁ A₂ nz f g W₁ W₂ A₃ B₃ (Refused n) v a t b pf pg false (sym q) refl (part N v 0) (part N t 0) refl refl s
+      (subst (ArguedBefore N A₂ A₃ B B₃ held v a t b (w - 1)) isRefused K)
+
+-- What the loop over pairs has come to: what holds of the pair at hand, with `left` work left, holds of the first.
+module _ (N : List ℕ) (top : ℕ) (A B : List ℕ) (first : ℕ) (base : Environment) (bs : List Binding) (held : ℕ) where
+  pub record Pursuing (e d : Expression) (w : ℕ) (c k : Expression) (left total : ℕ) : Type 0 where
+    pub stand : Stand N top A B first base (bindingsOnto B held (total - held) bs) total
+    pub goodLeft : InStep N top c
+    pub goodRight : InStep N top k
+    pub whole : (q : Outcome) → PairRuns (nodeRow N) mostLinks (noRoom first) base left (bindingsOnto B held (total - held) bs) c k q → PairRuns (nodeRow N) mostLinks (noRoom first) base w bs e d q
+
+abbrev pub Pursued : List ℕ → List ℕ → List ℕ → List ℕ → List ℕ → ℕ → Expression → Expression → ℕ → Expression → Expression → ℕ → ℕ → Type 0
+Pursued N A A′ B B′ held e d w c k left total = (top first : ℕ) (base : Environment) (bs : List Binding) → Stand N top A B first base bs held → InStep N top e → InStep N top d → Pursuing N top A′ B′ first base bs held e d w c k left total
+
+pub pursued-start : (N A B : List ℕ) (held : ℕ) (e d : Expression) (w : ℕ) → Pursued N A A B B held e d w e d w held
+pursued-start N A B held e d w top first base bs S ge gd = record {
+  stand = subst (λ (z : List Binding). Stand N top A B first base z held) (sym (onto-none B held bs)) S;
+  goodLeft = ge;
+  goodRight = gd;
+  whole = λ q h. subst (λ (z : List Binding). PairRuns (nodeRow N) mostLinks (noRoom first) base w z e d q) (onto-none B held bs) h;
+}
+
+pub filed-then : (B B₁ B₂ : List ℕ) (held total : ℕ) (u : Unified) → Added B B₁ held total → Filed B₁ B₂ total u → Filed B B₂ held u
+filed-then B B₁ B₂ held total (Done l h) k f = added-then k f
+filed-then B B₁ B₂ held total (Refused n) k f = (added-below k (f .0), f .1)
+
+module _ (N A A₁ B B₁ : List ℕ) (held : ℕ) (e d : Expression) (w : ℕ) (c k : Expression) (left total : ℕ) (P : Pursued N A A₁ B B₁ held e d w c k left total) (K₁ : Added B B₁ held total) where
+  pub pursued-then : (A₂ B₂ : List ℕ) (u : Unified) → Paired N A₁ A₂ B₁ B₂ total c k left u → Filed B₁ B₂ total u → Paired N A A₂ B B₂ held e d w u
+  pursued-then A₂ B₂ (Done l h) X K₂ top first base bs S ge gd =
+      let P′ = P top first base bs S ge gd in
+      let X′ = X top first base (bindingsOnto B₁ held (total - held) bs) (P′ .stand) (P′ .goodLeft) (P′ .goodRight) in
+      let j = onto-then bs K₁ K₂ in
+      record {
+        ok = P′ .whole (unified (bindingsOnto B₂ held (h - held) bs) l) (subst (λ (z : List Binding). PairRuns (nodeRow N) mostLinks (noRoom first) base left (bindingsOnto B₁ held (total - held) bs) c k (unified z l)) j (X′ .ok));
+        after = subst (λ (z : List Binding). Stand N top A₂ B₂ first base z h) j (X′ .after);
+      }
+  pursued-then A₂ B₂ (Refused n) X K₂ top first base bs S ge gd =
+      let P′ = P top first base bs S ge gd in
+      let X′ = X top first base (bindingsOnto B₁ held (total - held) bs) (P′ .stand) (P′ .goodLeft) (P′ .goodRight) in
+      record { ok = P′ .whole (failed (failureOf n)) (X′ .ok); after = tt }
+
+  -- The last arguments of two applications are next.
+  module _ (nz : left ≡ 0 → ⊥) (A₂ A₃ : List ℕ) (f g : Followed) (W₁ : Follows N A₁ A₂ c f) (W₂ : Follows N A₂ A₃ k g) where
+    pub pursued-next : {f′ g′ : Followed} {v a t b last : ℕ} → Meets N f′ g′ (Arguments v a t b last) → f ≡ f′ → g ≡ g′ → (A₄ B₄ : List ℕ) (l h : ℕ) (u : Unified) → u ≡ Done l h → ArguedBefore N A₃ A₄ B₁ B₄ total v a t b (left - 1) u → Added B₁ B₄ total h
+        → (p q : ℕ) → p ≡ part N v last → q ≡ part N t last → Pursued N A A₄ B B₄ held e d w (p, a) (q, b) l h
+    pursued-next (someArguments {f = v} {a} {g = t} {b} {last} isApart symbol isLast some) pf pg A₄ B₄ l h u isDone K K₂ p q pp pq top first base bs S ge gd =
+        record {
+          stand = subst (λ (z : List Binding). Stand N top A₄ B₄ first base z h) j (M .stand);
+          goodLeft = arg-good N top v last 1 (omega arith) p pp a some (omega arith) T (x .good) (alike .leftRow);
+          goodRight = arg-good N top t last 1 (omega arith) q pq b some (omega (arith, T .alike v t (x .good .row) (y .good .row) (alike .leftRow) (alike .rightRow) symbol)) T (y .good) (alike .rightRow);
+          whole = λ o r.
+              P′ .whole o
+              (at-w N A₁ B₁ total c k left A₂ A₃ nz f g W₁ W₂ (Application v a) (Application t b) pf pg top first base bs₁ (P′ .stand) (P′ .goodLeft) (P′ .goodRight) o
+              (pair-args (nodeRow N) mostLinks (noRoom first) base (left - 1) bs₁ c k (part N v 0) (argumentsFrom N v (nodeArity N v) 1) (argumentsFrom N t (nodeArity N t) 1) (v, a) (t, b) (x .seen)
+              (y .seen ∙ ap (λ (z : ℕ). applied z (argumentsFrom N t (nodeArity N t) 1) (t, b)) (sym symbol)) isApart o
+              (M .whole o (pairs-as o r))));
+        }
+      where
+        bs₁ : List Binding
+        bs₁ = bindingsOnto B₁ held (total - held) bs
+
+        P′ : Pursuing N top A₁ B₁ first base bs held e d w c k left total
+        P′ = P top first base bs S ge gd
+
+        x : Walked N top A₂ (extend base bs₁) c (Application v a)
+        x = X N A₁ B₁ total c k left A₂ A₃ nz f g W₁ W₂ (Application v a) (Application t b) pf pg top first base bs₁ (P′ .stand) (P′ .goodLeft) (P′ .goodRight)
+
+        y : Walked N top A₃ (extend base bs₁) k (Application t b)
+        y = Y N A₁ B₁ total c k left A₂ A₃ nz f g W₁ W₂ (Application v a) (Application t b) pf pg top first base bs₁ (P′ .stand) (P′ .goodLeft) (P′ .goodRight)
+
+        T : NodesOk N
+        T = x .models .table
+
+        alike : Alike N top v a t b
+        alike = record { left = x .good; right = y .good; leftRow = walked-app N top A₂ (extend base bs₁) c v a x; rightRow = walked-app N top A₃ (extend base bs₁) k t b y; symbol = symbol }
+
+        M : Matching N top A₄ B₄ first base bs₁ total v a t b (left - 1) (nodeArity N v) 1 l h
+        M = subst (ArguedBefore N A₃ A₄ B₁ B₄ total v a t b (left - 1)) isDone K top first base bs₁ (S₂ N A₁ B₁ total c k left A₂ A₃ nz f g W₁ W₂ (Application v a) (Application t b) pf pg top first base bs₁ (P′ .stand) (P′ .goodLeft) (P′ .goodRight)) alike
+
+        j : bindingsOnto B₄ total (h - total) bs₁ ≡ bindingsOnto B₄ held (h - held) bs
+        j = onto-then bs K₁ K₂
+
+        pairs-as : (o : Outcome) → PairRuns (nodeRow N) mostLinks (noRoom first) base l (bindingsOnto B₄ held (h - held) bs) (p, a) (q, b) o
+            → ArgumentsRun (nodeRow N) mostLinks (noRoom first) base l (bindingsOnto B₄ total (h - total) bs₁) (argumentsFrom N v 1 (nodeArity N v)) a (argumentsFrom N t 1 (nodeArity N v)) b o
+        pairs-as o r =
+            subst (λ (z : ℕ). PairRuns (nodeRow N) mostLinks (noRoom first) base l (bindingsOnto B₄ total (h - total) bs₁) (z, a) (part N t (nodeArity N v), b) o) (pp ∙ ap (part N v) isLast)
+            (subst (λ (z : ℕ). PairRuns (nodeRow N) mostLinks (noRoom first) base l (bindingsOnto B₄ total (h - total) bs₁) (p, a) (z, b) o) (pq ∙ ap (part N t) isLast)
+            (subst (λ (z : List Binding). PairRuns (nodeRow N) mostLinks (noRoom first) base l z (p, a) (q, b) o) (sym j) r))

@@ -12,7 +12,7 @@ use Rattle.record.specs.Record.{pick}
 use Rattle.unify.specs.Bindings.{bindingsFrom, KeptBelow, Added}
 use Rattle.unify.specs.Environment.{follow, Binding, Environment, extend, unbound, View, applied, Ends}
 use Rattle.unify.specs.Nodes.{isVariable, part, nodeArity, HasRow, argumentsFrom, nodeRow}
-use Rattle.unify.specs.Row.{Row, Expression}
+use Rattle.unify.specs.Row.{Row, Expression, same}
 use Rattle.unify.specs.Unification.{mostLinks, failureNumber, Failure, occurs, overwork, full, Outcome, unified, failed, Pair, unifying, testing, arguments, argumentPairs, meet, noRoom, testRest, withWork, run}
 use Rattle.unify.specs.Unifying.{failureOf}
 use Rattle.unify.specs.Values.{slot, put, InStep, Models}
@@ -20,6 +20,8 @@ use Rattle.unify.specs.declared.follow.Followed.{Followed}
 use Rattle.unify.specs.declared.follow.Followed.the-variants.{Variable, Application}
 use Rattle.unify.specs.declared.occurs.Occurs.{Occurs}
 use Rattle.unify.specs.declared.occurs.Occurs.the-variants.{No, Yes, Spent}
+use Rattle.unify.specs.declared.pairs.Meeting.{Meeting}
+use Rattle.unify.specs.declared.pairs.Meeting.the-variants.{Bind, Nothing, Clash, Arguments}
 use Rattle.unify.specs.declared.pairs.Unified.{Unified}
 use Rattle.unify.specs.declared.pairs.Unified.the-variants.{Done, Refused}
 
@@ -119,6 +121,26 @@ Looked N A A′ x o w r = (top : ℕ) (isFull : List Binding → Bool) (base : E
 abbrev pub LookedArgs : List ℕ → List ℕ → List ℕ → Expression → ℕ → ℕ → ℕ → Occurs → Type 0
 LookedArgs N A A′ x r k w q = (top : ℕ) (isFull : List Binding → Bool) (base : Environment) (bs : List Binding) → Models N top A (extend base bs) → InStep N top (r, k) → isVariable N r ≡ false → LookingArgs N top A′ isFull base bs x r k w q
 
+-- In the arguments of r at index k: what holds from argument n on, of which `rest` are left, holds of all.
+module _ (N : List ℕ) (top : ℕ) (A : List ℕ) (isFull : List Binding → Bool) (base : Environment) (bs : List Binding) (x : Expression) where
+  pub record Scanning (r k w n rest left : ℕ) : Type 0 where
+    pub models : Models N top A (extend base bs)
+    pub whole : (e : Expression) (q : Tested) → TestsRun (nodeRow N) mostLinks isFull base left bs x e (argumentsFrom N r rest n) k q → TestsRun (nodeRow N) mostLinks isFull base w bs x e (argumentsFrom N r (nodeArity N r) 1) k q
+
+abbrev pub Scanned : List ℕ → List ℕ → List ℕ → Expression → ℕ → ℕ → ℕ → ℕ → ℕ → ℕ → Type 0
+Scanned N A A′ x r k w n rest left = (top : ℕ) (isFull : List Binding → Bool) (base : Environment) (bs : List Binding) → Models N top A (extend base bs) → InStep N top (r, k) → isVariable N r ≡ false → Scanning N top A′ isFull base bs x r k w n rest left
+
+-- The arguments before the last: the last is left to be taken up, or the test of all of them ended.
+abbrev pub LookedBefore : List ℕ → List ℕ → List ℕ → Expression → ℕ → ℕ → ℕ → Occurs → Type 0
+LookedBefore N A A′ x r k w (No l) = Scanned N A A′ x r k w (nodeArity N r) 1 l
+LookedBefore N A A′ x r k w Yes = LookedArgs N A A′ x r k w Yes
+LookedBefore N A A′ x r k w Spent = LookedArgs N A A′ x r k w Spent
+
+-- The answer of a test that ends on an unbound variable: it is the one sought, or not.
+abbrev pub metVariable : Bool → ℕ → Occurs
+metVariable true left = Yes
+metVariable false left = No left
+
 abbrev pub LeavesLess : ℕ → Unified → Type 0
 LeavesLess w (Done l h) = l < w
 LeavesLess w (Refused n) = Unit {0}
@@ -166,6 +188,17 @@ pub record Alike (N : List ℕ) (top v a t b : ℕ) : Type 0 where
   pub rightRow : isVariable N t ≡ false
   pub symbol : part N v 0 ≡ part N t 0
 
+-- What is to be done with two followed sides (document 01, "Unification, and what it counts").
+pub data Meets (N : List ℕ) : Followed → Followed → Meeting → Type 0 where
+  sameVariable : {v a t b : ℕ} → same (v, a) (t, b) ≡ true → Meets N (Variable v a) (Variable t b) Nothing
+  leftToVariable : {v a t b : ℕ} → same (v, a) (t, b) ≡ false → Meets N (Variable v a) (Variable t b) (Bind v a t b)
+  leftToApplication : {v a g b : ℕ} → Meets N (Variable v a) (Application g b) (Bind v a g b)
+  rightVariable : {f a t b : ℕ} → Meets N (Application f a) (Variable t b) (Bind t b f a)
+  sameApplication : {f a g b : ℕ} → same (f, a) (g, b) ≡ true → Meets N (Application f a) (Application g b) Nothing
+  otherSymbol : {f a g b : ℕ} → same (f, a) (g, b) ≡ false → ¬ (part N f 0 ≡ part N g 0) → Meets N (Application f a) (Application g b) Clash
+  noArguments : {f a g b : ℕ} → same (f, a) (g, b) ≡ false → part N f 0 ≡ part N g 0 → 0 ≡ nodeArity N f → Meets N (Application f a) (Application g b) Nothing
+  someArguments : {f a g b last : ℕ} → same (f, a) (g, b) ≡ false → part N f 0 ≡ part N g 0 → last ≡ nodeArity N f → 1 ≤ last → Meets N (Application f a) (Application g b) (Arguments f a g b last)
+
 -- The machine at a pair, at a binding to be made, at an unbound variable on the left, and at the arguments of two applications; and
 -- where the step stands afterwards.
 module _ (N : List ℕ) (top : ℕ) (A B : List ℕ) (first : ℕ) (base : Environment) (bs : List Binding) (held : ℕ) where
@@ -179,7 +212,7 @@ module _ (N : List ℕ) (top : ℕ) (A B : List ℕ) (first : ℕ) (base : Envir
     pub res : bindOutcome (nodeRow N) mostLinks (noRoom first) base tested bs x d ≡ outcomeOnto u B held bs
     pub after : Stands N top A B first base bs held u
 
-  pub record Meeting (x : Expression) (y : Followed) (w : ℕ) (u : Unified) : Type 0 where
+  pub record MetRuns (x : Expression) (y : Followed) (w : ℕ) (u : Unified) : Type 0 where
     pub ok : MeetRuns (nodeRow N) mostLinks (noRoom first) base w bs (unbound (part N (x .0) 0) x) (viewOf N y) (outcomeOnto u B held bs)
     pub after : Stands N top A B first base bs held u
 
@@ -196,7 +229,21 @@ Bound N A A′ B B′ held x d w u = (top first : ℕ) (base : Environment) (bs 
 abbrev pub Met : List ℕ → List ℕ → List ℕ → List ℕ → List ℕ → ℕ → Expression → Followed → ℕ → Unified → Type 0
 Met N A A′ B B′ held x y w u =
     (top first : ℕ) (base : Environment) (bs : List Binding) → Stand N top A B first base bs held → InStep N top x → isVariable N (x .0) ≡ true → extend base bs x ≡ none
-    → InStep N top (endOf y) → EndsAt N (extend base bs) y → Meeting N top A′ B′ first base bs held x y w u
+    → InStep N top (endOf y) → EndsAt N (extend base bs) y → MetRuns N top A′ B′ first base bs held x y w u
 
 abbrev pub Argued : List ℕ → List ℕ → List ℕ → List ℕ → List ℕ → ℕ → ℕ → ℕ → ℕ → ℕ → ℕ → Unified → Type 0
 Argued N A A′ B B′ held v a t b w u = (top first : ℕ) (base : Environment) (bs : List Binding) → Stand N top A B first base bs held → Alike N top v a t b → Arguing N top A′ B′ first base bs held v a t b w u
+
+-- In the arguments of v at index a and t at index b: what holds from argument n on, of which `rest` are left, holds of all.
+module _ (N : List ℕ) (top : ℕ) (A B : List ℕ) (first : ℕ) (base : Environment) (bs : List Binding) (held : ℕ) where
+  pub record Matching (v a t b w n rest left total : ℕ) : Type 0 where
+    pub stand : Stand N top A B first base (bindingsOnto B held (total - held) bs) total
+    pub whole : (q : Outcome) → ArgumentsRun (nodeRow N) mostLinks (noRoom first) base left (bindingsOnto B held (total - held) bs) (argumentsFrom N v rest n) a (argumentsFrom N t rest n) b q → ArgumentsRun (nodeRow N) mostLinks (noRoom first) base w bs (argumentsFrom N v (nodeArity N v) 1) a (argumentsFrom N t (nodeArity N t) 1) b q
+
+abbrev pub Matched : List ℕ → List ℕ → List ℕ → List ℕ → List ℕ → ℕ → ℕ → ℕ → ℕ → ℕ → ℕ → ℕ → ℕ → ℕ → ℕ → Type 0
+Matched N A A′ B B′ held v a t b w n rest left total = (top first : ℕ) (base : Environment) (bs : List Binding) → Stand N top A B first base bs held → Alike N top v a t b → Matching N top A′ B′ first base bs held v a t b w n rest left total
+
+-- The arguments before the last: the last ones are left to be unified, or the arguments were refused.
+abbrev pub ArguedBefore : List ℕ → List ℕ → List ℕ → List ℕ → List ℕ → ℕ → ℕ → ℕ → ℕ → ℕ → ℕ → Unified → Type 0
+ArguedBefore N A A′ B B′ held v a t b w (Done l h) = Matched N A A′ B B′ held v a t b w (nodeArity N v) 1 l h
+ArguedBefore N A A′ B B′ held v a t b w (Refused n) = Argued N A A′ B B′ held v a t b w (Refused n)

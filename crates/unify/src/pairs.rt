@@ -10,13 +10,25 @@ use super::occurs::occurs_in;
 use super::values::slot_of;
 use super::values::write_value;
 ghost use mathlib.Core.Path.{_≡_};
+ghost use Prim.Native.Nat.{_≤_};
 ghost use lib.ListN.{length};
-ghost use Rattle.unify.specs.Walks.{Paired, Bound, Met, Argued, Filed, LeavesLess, LeavesNoMore};
+ghost use Rattle.unify.specs.Nodes.{nodeArity};
+ghost use Rattle.unify.specs.declared.follow.Followed.the-variants.{Application};
+ghost use Rattle.unify.specs.Walks.{Meets, Paired, Bound, ArguedBefore, Filed, LeavesLess, LeavesNoMore};
 
 // The work left and the number of bindings held; or the reason for the refusal, 10 to 13.
 pub enum Unified {
     Done(u16, u16),
     Refused(u8),
+}
+
+// What is to be done with two followed sides: a variable is bound to the other side, first row and index the variable's; nothing; the
+// symbols clash; or the arguments of two applications are unified, the rows with their indices and the number of arguments.
+enum Meeting {
+    Bind(u16, u16, u16, u16),
+    Nothing,
+    Clash,
+    Arguments(u16, u16, u16, u16, u16),
 }
 
 // The variable v at index i is bound to t at index j, if it does not occur there and there is room for a binding.
@@ -53,76 +65,94 @@ fn bind(
     }
 }
 
-// Unifies the unbound variable v at index a with what the right side was followed to: nothing is to be done if that is the
-// same variable, and else v is bound to it.
-fn unify_variable(
-    nodes: &[u16; 32768],
-    values: &mut [u16; 524416],
-    bindings: &mut [u16],
-    held: u16,
-    v: u16,
-    a: u16,
-    y: Followed,
-    work: u16,
-) -> Unified
-    requires { ⌜ (length (now nodes) ≡ 32768) × (length (now values) ≡ 524416) ⌝ }
-    ensures { λ u. ⌜ Met (now (nodes .entry)) (now (values .entry)) (now (values .exit)) (now (bindings .entry)) (now (bindings .exit)) held (v, a) y work u ⌝ }
-    ensures { λ u. ⌜ Filed (now (bindings .entry)) (now (bindings .exit)) held u × LeavesNoMore work u × (length (now (values .exit)) ≡ 524416) ⌝ }
+// Two applications: nothing is to be done for the same row and index, or for one symbol without arguments.
+fn meet_applications(nodes: &[u16; 32768], f: u16, a: u16, g: u16, b: u16) -> Meeting
+    requires { ⌜ length (now nodes) ≡ 32768 ⌝ }
+    ensures { λ m. ⌜ Meets (now (nodes .entry)) (Application f a) (Application g b) m ⌝ }
 {
-    match y {
-        Followed::Variable(t, b) => {
-            if is_same(v, a, t, b) {
-                Unified::Done(work, held)
-            } else {
-                bind(nodes, values, bindings, held, v, a, t, b, work)
+    if is_same(f, a, g, b) {
+        return Meeting::Nothing;
+    }
+    if part_of(nodes, f, 0) != part_of(nodes, g, 0) {
+        return Meeting::Clash;
+    }
+    let last = arity_of(nodes, f);
+    if last == 0 {
+        return Meeting::Nothing;
+    }
+    Meeting::Arguments(f, a, g, b, last)
+}
+
+// The case of two followed sides. An unbound variable on the left comes before one on the right.
+fn meet(nodes: &[u16; 32768], x: Followed, y: Followed) -> Meeting
+    requires { ⌜ length (now nodes) ≡ 32768 ⌝ }
+    ensures { λ m. ⌜ Meets (now (nodes .entry)) x y m ⌝ }
+{
+    match x {
+        Followed::Variable(v, a) => match y {
+            Followed::Variable(t, b) => {
+                if is_same(v, a, t, b) {
+                    Meeting::Nothing
+                } else {
+                    Meeting::Bind(v, a, t, b)
+                }
             }
-        }
-        Followed::Application(g, b) => bind(nodes, values, bindings, held, v, a, g, b, work),
+            Followed::Application(g, b) => Meeting::Bind(v, a, g, b),
+        },
+        Followed::Application(f, a) => match y {
+            Followed::Variable(t, b) => Meeting::Bind(t, b, f, a),
+            Followed::Application(g, b) => meet_applications(nodes, f, a, g, b),
+        },
     }
 }
 
-// Unifies l at index i with r at index j. Both are followed first; then an unbound variable is bound, the left one if both
-// are, and two applications of one symbol go on with their arguments.
+// Unifies l at index i with r at index j. Both sides are followed and meet; the last arguments of two applications are taken up by the
+// loop, so that only nesting in arguments before the last takes calls and stack.
 pub fn unify_pair(
     nodes: &[u16; 32768],
     values: &mut [u16; 524416],
     bindings: &mut [u16],
-    held: u16,
-    l: u16,
-    i: u16,
-    r: u16,
-    j: u16,
-    work: u16,
+    mut held: u16,
+    mut l: u16,
+    mut i: u16,
+    mut r: u16,
+    mut j: u16,
+    mut work: u16,
 ) -> Unified
     requires { ⌜ (length (now nodes) ≡ 32768) × (length (now values) ≡ 524416) ⌝ }
     ensures { λ u. ⌜ Paired (now (nodes .entry)) (now (values .entry)) (now (values .exit)) (now (bindings .entry)) (now (bindings .exit)) held (l, i) (r, j) work u ⌝ }
     ensures { λ u. ⌜ Filed (now (bindings .entry)) (now (bindings .exit)) held u × LeavesLess work u × (length (now (values .exit)) ≡ 524416) ⌝ }
 {
-    if work == 0 {
-        return Unified::Refused(12);
-    }
-    let left = work - 1;
-    let x = follow(nodes, values, l, i);
-    let y = follow(nodes, values, r, j);
-    match x {
-        Followed::Variable(v, a) => unify_variable(nodes, values, bindings, held, v, a, y, left),
-        Followed::Application(f, a) => match y {
-            Followed::Variable(t, b) => bind(nodes, values, bindings, held, t, b, f, a, left),
-            Followed::Application(g, b) => {
-                if is_same(f, a, g, b) {
-                    return Unified::Done(left, held);
-                }
-                if part_of(nodes, f, 0) != part_of(nodes, g, 0) {
-                    return Unified::Refused(10);
-                }
-                unify_args(nodes, values, bindings, held, f, a, g, b, left)
+    while work > 0 {
+        work -= 1;
+        let x = follow(nodes, values, l, i);
+        let y = follow(nodes, values, r, j);
+        match meet(nodes, x, y) {
+            Meeting::Bind(v, a, t, b) => {
+                return bind(nodes, values, bindings, held, v, a, t, b, work);
             }
-        },
+            Meeting::Nothing => return Unified::Done(work, held),
+            Meeting::Clash => return Unified::Refused(10),
+            Meeting::Arguments(f, a, g, b, last) => {
+                match unify_before(nodes, values, bindings, held, f, a, g, b, last, work) {
+                    Unified::Done(w, h) => {
+                        work = w;
+                        held = h;
+                    }
+                    Unified::Refused(q) => return Unified::Refused(q),
+                }
+                l = part_of(nodes, f, last);
+                i = a;
+                r = part_of(nodes, g, last);
+                j = b;
+            }
+        }
     }
+    Unified::Refused(12)
 }
 
-// The arguments of two applications of one symbol, in order. A loop, so that only nesting takes room on the stack.
-fn unify_args(
+// The arguments of two applications of one symbol before the last, in order.
+fn unify_before(
     nodes: &[u16; 32768],
     values: &mut [u16; 524416],
     bindings: &mut [u16],
@@ -131,31 +161,28 @@ fn unify_args(
     a: u16,
     g: u16,
     b: u16,
+    last: u16,
     work: u16,
 ) -> Unified
     requires { ⌜ (length (now nodes) ≡ 32768) × (length (now values) ≡ 524416) ⌝ }
-    ensures { λ u. ⌜ Argued (now (nodes .entry)) (now (values .entry)) (now (values .exit)) (now (bindings .entry)) (now (bindings .exit)) held f a g b work u ⌝ }
+    requires { ⌜ (last ≡ nodeArity (now nodes) f) × (1 ≤ last) ⌝ }
+    ensures { λ u. ⌜ ArguedBefore (now (nodes .entry)) (now (values .entry)) (now (values .exit)) (now (bindings .entry)) (now (bindings .exit)) held f a g b work u ⌝ }
     ensures { λ u. ⌜ Filed (now (bindings .entry)) (now (bindings .exit)) held u × LeavesNoMore work u × (length (now (values .exit)) ≡ 524416) ⌝ }
 {
     let mut n: u16 = 1;
-    let mut rest = arity_of(nodes, f);
     let mut left = work;
     let mut total = held;
-    while rest > 0 {
+    while n < last {
         let c = part_of(nodes, f, n);
         let d = part_of(nodes, g, n);
-        let one = unify_pair(nodes, values, bindings, total, c, a, d, b, left);
-        match one {
+        match unify_pair(nodes, values, bindings, total, c, a, d, b, left) {
             Unified::Done(w, h) => {
                 left = w;
                 total = h;
             }
-            Unified::Refused(x) => {
-                return Unified::Refused(x);
-            }
+            Unified::Refused(q) => return Unified::Refused(q),
         }
         n += 1;
-        rest -= 1;
     }
     Unified::Done(left, total)
 }

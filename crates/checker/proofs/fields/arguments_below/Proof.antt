@@ -4,7 +4,7 @@ use Prim.Native.Nat.{ℕ, _+_, _-_, _≤_}
 use native.Mathlib.Omega.{arith}
 use lib.ListN.{take, drop}
 use Rattle.record.specs.Record.{decoded, fieldsOf}
-use Rattle.checker.specs.Refusal.{allBelow, argumentRows}
+use Rattle.verdict.specs.Refusal.{allBelow, argumentRows}
 use Rattle.checker.proofs.FieldLaws.{below-stop, below-on, fields-end}
 use borrow.Author.Needs.{needs}
 use Rattle.checker.proofs.fields.arguments_below.Statement.{statement}

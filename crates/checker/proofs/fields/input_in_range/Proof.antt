@@ -3,7 +3,7 @@ use mathlib.Core.Path.{ap, _∙_}
 use Prim.Native.Nat.{ℕ}
 use lib.ListN.{drop}
 use Rattle.record.specs.Record.{fieldsOf, countOf}
-use Rattle.checker.specs.Refusal.{zeros}
+use Rattle.verdict.specs.Refusal.{zeros}
 use Rattle.checker.proofs.FieldLaws.{few-passed, few-failed}
 use borrow.Author.Needs.{needs}
 use Rattle.checker.proofs.fields.input_in_range.Statement.{statement}

@@ -6,7 +6,7 @@ use native.Mathlib.Omega.{arith}
 use lib.ListN.{take, drop}
 use Rattle.record.specs.Record.{decoded, fieldsOf}
 use Rattle.derivation.specs.Derivation.{inputLiterals}
-use Rattle.checker.specs.Refusal.{allBelow}
+use Rattle.verdict.specs.Refusal.{allBelow}
 use Rattle.checker.proofs.FieldLaws.{rowsIn, rows-stop, rows-on, fields-end}
 use borrow.Author.Needs.{needs}
 use Rattle.checker.proofs.fields.literal_rows_below.Statement.{statement}

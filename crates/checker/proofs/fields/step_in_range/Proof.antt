@@ -1,7 +1,7 @@
 -- The two tests of the definition, in its order.
 use lib.ListN.{drop}
 use Rattle.record.specs.Record.{fieldsOf}
-use Rattle.checker.specs.Refusal.{zeros}
+use Rattle.verdict.specs.Refusal.{zeros}
 use Rattle.checker.proofs.FieldLaws.{none-passed, none-failed}
 use borrow.Author.Needs.{needs}
 use Rattle.checker.proofs.fields.step_in_range.Statement.{statement}

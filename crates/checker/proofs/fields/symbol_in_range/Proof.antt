@@ -1,6 +1,6 @@
 -- The two tests of the definition, in its order.
 use Rattle.record.specs.Record.{fieldsOf}
-use Rattle.checker.specs.Refusal.{zeros}
+use Rattle.verdict.specs.Refusal.{zeros}
 use Rattle.checker.proofs.FieldLaws.{few-passed, few-failed}
 use borrow.Author.Needs.{needs}
 use Rattle.checker.proofs.fields.symbol_in_range.Statement.{statement}

@@ -3,7 +3,7 @@ use mathlib.Core.Path.{_≡_, refl, sym, _∙_}
 use Prim.Native.Nat.{_-_}
 use lib.ListN.{drop}
 use Rattle.record.specs.Record.{fieldsOf}
-use Rattle.checker.specs.Refusal.{zeros}
+use Rattle.verdict.specs.Refusal.{zeros}
 use Rattle.checker.proofs.FieldLaws.{zeros-stop, zeros-on, zeros-end}
 use borrow.Author.Needs.{needs}
 use Rattle.checker.proofs.fields.zeros_from.Statement.{statement}

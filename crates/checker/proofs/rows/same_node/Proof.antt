@@ -4,7 +4,7 @@ use mathlib.Core.List.{List, _∷_}
 use Prim.Native.Nat.{ℕ, _+_, _-_, _*_, _≤_, _<_}
 use native.Mathlib.Omega.{arith}
 use lib.ListN.{length, drop}
-use Rattle.checker.specs.Refusal.{equalLists}
+use Rattle.verdict.specs.Refusal.{equalLists}
 use Rattle.checker.specs.Program.{nodeAt}
 use Rattle.checker.proofs.NodeLaws.{numbersFrom, code-differs, code-same, number-differs, number-same, numbers-end}
 use borrow.Author.Needs.{needs}

@@ -1,14 +1,15 @@
--- After k turns the first k bindings are in the array; each is in range, so that no sum wraps.
-use mathlib.Core.Path.{_≡_, refl}
+-- After k turns the first k bindings are in the array.
+use mathlib.Core.Path.{_≡_, refl, ap, _∙_}
 use Prim.Native.Nat.{_-_, _≤_}
 use native.Mathlib.Omega.{arith}
 use lib.ListN.{length}
-use borrow.Author.Needs.{needs}
 use Rattle.unify.specs.Bindings.{bindingsFrom}
 use Rattle.derivation.specs.Loaded.{putBindings}
-use Rattle.derivation.proofs.Putting.{all-at, put-one}
+use Rattle.derivation.proofs.Putting.{put-one, cells-room, binding-there}
+use borrow.Author.Needs.{needs}
 use Rattle.derivation.proofs.load.put_bindings.Statement.{statement}
 use Rattle.derivation.proofs.load.put_bindings.Tie as tie
+use Rattle.derivation.proofs.load.put_binding.Reads as put-binding-reads
 
 abbrev Inv-loop : tie.InvT-loop
 Inv-loop bindings nodes values₀ first n offset k₀ values k =
@@ -31,52 +32,9 @@ add-at c = search needs
 mul-at : tie.Need-mul-at Inv-loop μ-loop
 mul-at c = search needs
 
-cell-requires : tie.Need-cell-requires Inv-loop μ-loop
-cell-requires c κs = search needs
-
-add-cell : tie.Need-add-cell Inv-loop μ-loop
-add-cell c = search needs
-
-cell-requires-2 : tie.Need-cell-requires-2 Inv-loop μ-loop
-cell-requires-2 c κs = search needs
-
-add-index : tie.Need-add-index Inv-loop μ-loop
-add-index c =
-    let P = c .before .before .before .before .before .pre in
-    let K = all-at _ _ _ _ _ (c .before .before .before .loop .k) (P .all) (c .before .before .loop-test .taken) in
-    omega (arith, K .bound .high, c .cell2 .ensures, P .fits)
-
-add-cell-2 : tie.Need-add-cell-2 Inv-loop μ-loop
-add-cell-2 c = search needs
-
-cell-requires-3 : tie.Need-cell-requires-3 Inv-loop μ-loop
-cell-requires-3 c κs = search needs
-
-add-row : tie.Need-add-row Inv-loop μ-loop
-add-row c =
-    let P = c .before .before .before .before .before .before .pre in
-    let K = all-at _ _ _ _ _ (c .before .before .before .before .loop .k) (P .all) (c .before .before .before .loop-test .taken) in
-    omega (arith, P .nodes .room _ (K .value .row), c .cell3 .ensures)
-
-add-cell-3 : tie.Need-add-cell-3 Inv-loop μ-loop
-add-cell-3 c = search needs
-
-cell-requires-4 : tie.Need-cell-requires-4 Inv-loop μ-loop
-cell-requires-4 c κs = search needs
-
-add-raised : tie.Need-add-raised Inv-loop μ-loop
-add-raised c =
-    let P = c .before .before .before .before .before .before .before .pre in
-    let K = all-at _ _ _ _ _ (c .before .before .before .before .before .loop .k) (P .all) (c .before .before .before .before .loop-test .taken) in
-    omega (arith, K .value .high, c .cell4 .ensures, P .fits)
-
-slot-of-requires : tie.Need-slot-of-requires Inv-loop μ-loop
-slot-of-requires c κs =
-    c .before .before .before .before .before .before .before .before .pre .nodeRoom
-
-write-value-requires : tie.Need-write-value-requires Inv-loop μ-loop
-write-value-requires c κs =
-    (c .before .before .before .before .before .before .before .loop .inv .0, omega (arith, c .slot-of .ensures .1))
+put-binding-requires : tie.Need-put-binding-requires Inv-loop μ-loop
+put-binding-requires c κs =
+    binding-there (c .before .before .loop .k) (c .before .before .before .before .pre) (c .before .before .loop .inv .0) (c .before .loop-test .taken)
 
 add-k : tie.Need-add-k Inv-loop μ-loop
 add-k c = search needs
@@ -86,7 +44,7 @@ loop-less c = search needs
 
 loop-again : tie.Need-loop-again Inv-loop μ-loop
 loop-again c =
-    (c .write-value .ensures .1, omega arith, put-one _ _ _ _ _ (c .before .before .before .before .before .before .before .before .loop .k) (c .before .before .before .before .before .before .before .before .loop .inv .2) (c .before .before .before .before .before .before .cell .ensures) (c .before .before .before .before .before .cell2 .ensures) (c .before .before .before .before .cell3 .ensures) (c .before .before .before .cell4 .ensures) (c .before .slot-of .ensures .0) (c .write-value .ensures .0))
+    (ap length (c .put-binding .ensures) ∙ cells-room _ _ _ _ _ (c .before .before .before .loop .inv .0), omega arith, put-one _ _ _ _ _ (c .before .before .before .loop .k) (c .before .before .before .loop .inv .2) (c .put-binding .ensures))
 
 returns : tie.Need-returns Inv-loop μ-loop
 returns c =
@@ -103,18 +61,7 @@ put-bindings-spec =
     cast-at
     add-at
     mul-at
-    cell-requires
-    add-cell
-    cell-requires-2
-    add-index
-    add-cell-2
-    cell-requires-3
-    add-row
-    add-cell-3
-    cell-requires-4
-    add-raised
-    slot-of-requires
-    write-value-requires
+    put-binding-requires
     add-k
     loop-less
     loop-again

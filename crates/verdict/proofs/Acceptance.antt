@@ -1,0 +1,108 @@
+-- The lowest empty clause, and what its cells in the table of clauses are.
+use mathlib.Core.Path.{_≡_, refl, ap, _∙_, subst}
+use mathlib.Core.Bool.{Bool, true, false}
+use mathlib.Core.Option.{Option, none, some}
+use mathlib.Core.List.{List, [], _∷_, _++_, map}
+use Prim.Native.Nat.{ℕ, _+_, _*_, _<_}
+use native.Mathlib.Omega.{arith}
+use lib.Dec.{eqb, eqb→eq}
+use lib.ListN.{length, getD, length-append, length-map, List·getD-append}
+use lib.Seq.{getD-append-add}
+use Rattle.record.specs.Record.{pick}
+use Rattle.unify.proofs.Rows.{eqb-below}
+use Rattle.unify.proofs.Tests.{to-T, true-not-false, some-not-none, some-injective}
+use Rattle.derivation.specs.Derivation.{literals, Derivation, maximumIndex}
+use Rattle.verdict.specs.State.{entry, bindingsOf}
+use Rattle.verdict.specs.Tables.{cellsOfClause, clauseCells}
+use Rattle.verdict.specs.Verdict.{isEmpty, firstEmpty}
+use Rattle.verdict.proofs.Inversions.{entry-below, entry-more, entry-new}
+
+empty-list : {A : Type 0} (xs : List A) → isEmpty xs ≡ true → xs ≡ []
+empty-list [] q = refl
+empty-list (x ∷ xs) q = absurd (true-not-false q refl)
+
+is-empty : {A : Type 0} (xs : List A) → xs ≡ [] → isEmpty xs ≡ true
+is-empty xs q = rw q
+
+-- Clause n of a list is empty and none before it is.
+pub record Lowest (cs : List Derivation) (n : ℕ) : Type 0 where
+  pub clause : Derivation
+  pub isClause : entry cs n ≡ some clause
+  pub empty : literals clause ≡ []
+  pub lowest : (i : ℕ) (c : Derivation) → i < n → entry cs i ≡ some c → ¬ (literals c ≡ [])
+
+-- No clause is empty.
+pub none-empty : (cs : List Derivation) → firstEmpty cs ≡ none → (i : ℕ) (c : Derivation) → entry cs i ≡ some c → ¬ (literals c ≡ [])
+none-empty [] q i c e = absurd (some-not-none refl e)
+none-empty (d ∷ cs) q i c e = try (firstEmpty cs) refl q (λ z. none-empty cs z i c)
+  where
+    here : (b : Bool) → isEmpty (literals d) ≡ b → pick b (some (length cs)) none ≡ none → (entry cs i ≡ some c → ¬ (literals c ≡ [])) → ¬ (literals c ≡ [])
+    here true p r k z = absurd (some-not-none r refl)
+    here false p r k z = which (eqb i (length cs)) e k
+      where
+        which : (b : Bool) → pick b (some d) (entry cs i) ≡ some c → (entry cs i ≡ some c → ¬ (literals c ≡ [])) → ⊥
+        which true y k = true-not-false (is-empty (literals d) (ap literals (some-injective y) ∙ z)) p
+        which false y k = k y z
+
+    try : (o : Option ℕ) → firstEmpty cs ≡ o → _≡_ {A = Option ℕ} (elim o [ some n ↦ some n | none ↦ pick (isEmpty (literals d)) (some (length cs)) none ]) none → (firstEmpty cs ≡ none → entry cs i ≡ some c → ¬ (literals c ≡ [])) → ¬ (literals c ≡ [])
+    try (some n) p r k = absurd (some-not-none r refl)
+    try none p r k = here (isEmpty (literals d)) refl r (k p)
+
+entry-old : {A : Type 0} (x : A) (xs : List A) (i : ℕ) (a : A) → i < length xs → entry (x ∷ xs) i ≡ some a → entry xs i ≡ some a
+entry-old x xs i a l q = rw (eqb-below i (length xs) l) at q
+
+pub first-lowest : (cs : List Derivation) (n : ℕ) → firstEmpty cs ≡ some n → Lowest cs n
+first-lowest [] n q = absurd (some-not-none refl q)
+first-lowest (d ∷ cs) n q = try (firstEmpty cs) refl q (λ p. first-lowest cs n p)
+  where
+    last : (b : Bool) → isEmpty (literals d) ≡ b → firstEmpty cs ≡ none → pick b (some (length cs)) none ≡ some n → Lowest (d ∷ cs) n
+    last true p f r = subst (Lowest (d ∷ cs)) (some-injective r)
+        (record { clause = d; isClause = entry-new d cs; empty = empty-list (literals d) p; lowest = λ i c l e. none-empty cs f i c (entry-old d cs i c l e) })
+    last false p f r = absurd (some-not-none refl r)
+
+    older : Lowest cs n → Lowest (d ∷ cs) n
+    older L =
+        let z : n < length cs = entry-below cs n (L .clause) (L .isClause) in
+        record { clause = L .clause; isClause = entry-more d cs n (L .clause) (L .isClause); empty = L .empty; lowest = λ i c l e. L .lowest i c l (entry-old d cs i c (omega arith) e) }
+
+    try : (o : Option ℕ) → firstEmpty cs ≡ o → elim o [ some n ↦ some n | none ↦ pick (isEmpty (literals d)) (some (length cs)) none ] ≡ some n → (firstEmpty cs ≡ some n → Lowest cs n) → Lowest (d ∷ cs) n
+    try (some m) p r k = older (k (p ∙ r))
+    try none p r k = last (isEmpty (literals d)) refl p r
+
+pub some-first : (cs : List Derivation) (i : ℕ) (c : Derivation) → entry cs i ≡ some c → literals c ≡ [] → (n : ℕ) × (firstEmpty cs ≡ some n)
+some-first cs i c e q = try (firstEmpty cs) refl
+  where
+    try : (o : Option ℕ) → firstEmpty cs ≡ o → (n : ℕ) × (firstEmpty cs ≡ some n)
+    try none p = absurd (none-empty cs p i c e q)
+    try (some n) p = (n, p)
+
+-- The table of clauses has five cells a clause; the third is the maximum index.
+pub cells-length : (cs : List (ℕ × Derivation)) → length (clauseCells cs) ≡ 5 * length cs
+cells-length [] = refl
+cells-length (c ∷ cs) =
+    let ih = cells-length cs in
+    length-append (clauseCells cs) (cellsOfClause (c .0) (bindingsOf (map (λ (d : ℕ × Derivation). d .1) cs)) (c .1)) ∙ omega (arith, ih)
+
+pub index-cell : (cs : List (ℕ × Derivation)) (n : ℕ) (c : Derivation) → entry (map (λ (d : ℕ × Derivation). d .1) cs) n ≡ some c → getD (clauseCells cs) (5 * n + 2) 0 ≡ maximumIndex c
+index-cell [] n c q = absurd (some-not-none refl q)
+index-cell (d ∷ cs) n c q = try (eqb n (length (map (λ (d : ℕ × Derivation). d .1) cs))) refl q (λ p. index-cell cs n c p)
+  where
+    five : List ℕ
+    five = cellsOfClause (d .0) (bindingsOf (map (λ (d : ℕ × Derivation). d .1) cs)) (d .1)
+
+    same-length : length (map (λ (d : ℕ × Derivation). d .1) cs) ≡ length cs
+    same-length = length-map cs (λ (d : ℕ × Derivation). d .1)
+
+    new : n ≡ length cs → d .1 ≡ c → getD (clauseCells cs ++ five) (5 * n + 2) 0 ≡ maximumIndex c
+    new e p =
+        let l : 5 * n + 2 ≡ length (clauseCells cs) + 2 = omega (arith, cells-length cs) in
+        ap (λ (i : ℕ). getD (clauseCells cs ++ five) i 0) l ∙ getD-append-add (clauseCells cs) five 2 0 ∙ ap maximumIndex p
+
+    old : n < length cs → getD (clauseCells cs) (5 * n + 2) 0 ≡ maximumIndex c → getD (clauseCells cs ++ five) (5 * n + 2) 0 ≡ maximumIndex c
+    old l p = List·getD-append (clauseCells cs) five 0 (5 * n + 2) (omega (arith, cells-length cs)) ∙ p
+
+    try : (b : Bool) → eqb n (length (map (λ (d : ℕ × Derivation). d .1) cs)) ≡ b → pick b (some (d .1)) (entry (map (λ (d : ℕ × Derivation). d .1) cs) n) ≡ some c → (entry (map (λ (d : ℕ × Derivation). d .1) cs) n ≡ some c → getD (clauseCells cs) (5 * n + 2) 0 ≡ maximumIndex c) → getD (clauseCells cs ++ five) (5 * n + 2) 0 ≡ maximumIndex c
+    try true p r k = new (eqb→eq n (length (map (λ (d : ℕ × Derivation). d .1) cs)) (to-T (eqb n (length (map (λ (d : ℕ × Derivation). d .1) cs))) p) ∙ same-length) (some-injective r)
+    try false p r k =
+        let z = entry-below (map (λ (d : ℕ × Derivation). d .1) cs) n c r in
+        old (omega (arith, z, same-length)) (k r)

@@ -1,0 +1,146 @@
+-- Reading record by record, as a program does it: the state after k records, and what the next record makes of it.
+use mathlib.Core.Path.{_≡_, refl, sym, ap, ap₂, _∙_, subst}
+use mathlib.Core.Bool.{true, _&&_}
+use mathlib.Core.List.{List, [], _∷_, _++_}
+use Prim.Native.Nat.{ℕ, zero, suc, _+_, _≤_, _<_}
+use native.Mathlib.Nat.{add-zero, add-suc, suc-add, zero-add}
+use native.Mathlib.Omega.{arith}
+use lib.Dec.{eqb, leb, T, leb→le}
+use lib.ListN.{length, take, drop, length-take, take-append-drop}
+use lib.Seq.{take-length}
+use Rattle.record.specs.Record.{Record, records, recordCount, recordPart, countOf, decoded, otherKind, Kind, symbolKind, variableKind, applicationKind, inputKind, resolveKind, factorKind, fieldA, fieldB, fieldC, fieldD}
+use Rattle.record.proofs.Records.{records-length, record-numbered}
+use Rattle.unify.specs.Row.{variable, Row, application}
+use Rattle.unify.proofs.Lists.{Each}
+use Rattle.unify.proofs.Tests.{to-T, both-true, true-not-false}
+use Rattle.derivation.specs.Derivation.{input, inputLiterals, Derivation, resolve, factor}
+use Rattle.verdict.specs.Refusal.{tests, Reason, kindOfRecord, zeros, argumentRows, leftOf, rightOf, deletedOf, differsFromAll}
+use Rattle.verdict.specs.State.{State, start, withRow, withClause, rowsOf}
+use Rattle.verdict.specs.Step.{stands, refused, Result, step, unifyResolve, unifyFactor, enter, read, allStand, refusedAt}
+use Rattle.verdict.specs.Verdict.{ending}
+use Rattle.verdict.proofs.Inversions.{tests-passed, stands-same, all-stand, named-stands, clause-added, Passed}
+use Rattle.verdict.proofs.Reading.{ending-stands, start-ok}
+use Rattle.verdict.proofs.Sources.{Sourced, step-sourced}
+use Rattle.verdict.proofs.Standing.{StateOk}
+use Rattle.verdict.proofs.Steps.{step-ok}
+
+-- A row in range: a variable's number is below 64, and an application has at most six arguments.
+abbrev pub RowFits : Row → Type 0
+RowFits (variable v) = v < 64
+RowFits (application s xs) = length xs ≤ 6
+
+-- No two rows are equal.
+abbrev pub Distinct : List Row → Type 0
+Distinct [] = Unit {0}
+Distinct (w ∷ ws) = (differsFromAll w ws ≡ true) × Distinct ws
+
+-- What the records read so far add up to.
+pub record Tally (F : List ℕ) (k : ℕ) (S : State) : Type 0 where
+  pub total : length (S .symbols) + (length (S .rows) + length (S .clauses)) ≡ k
+  pub aritiesRead : Each (λ (s : ℕ × ℕ). countOf (recordPart F (s .0)) ≡ s .1) (S .symbols)
+  pub rowsFit : Each RowFits (rowsOf S)
+  pub distinct : Distinct (rowsOf S)
+
+pub record Standing (F : List ℕ) (k : ℕ) (S : State) : Type 0 where
+  pub before : read start 0 (take k (records F)) ≡ allStand S
+  pub ok : StateOk k S
+  pub sourced : Sourced F (S .clauses)
+  pub tally : Tally F k S
+
+pub standing-start : (F : List ℕ) → Standing F 0 start
+standing-start F = record { before = refl; ok = start-ok; sourced = tt; tally = record { total = refl; aritiesRead = tt; rowsFit = tt; distinct = tt } }
+
+-- Reading goes on where it stopped.
+read-on : (S : State) (j : ℕ) (xs ys : List Record) (T : State) → read S j xs ≡ allStand T → read S j (xs ++ ys) ≡ read T (j + length xs) ys
+read-on S j [] ys T q = ap₂ (λ (U : State) (i : ℕ). read U i ys) (ending-stands q) (sym (add-zero j))
+read-on S j (x ∷ xs) ys T q = try (step S j x) refl q (λ U p. read-on U (suc j) xs ys T p)
+  where
+    no : {p : Reason} → refusedAt S p j ≡ allStand T → ⊥
+    no e = let z : _≡_ {A = ℕ} 0 1 = cc in omega arith
+
+    try : (o : Result) → step S j x ≡ o → elim o [ stands U ↦ read U (suc j) xs | refused p ↦ refusedAt S p j ] ≡ allStand T
+        → ((U : State) → read U (suc j) xs ≡ allStand T → read U (suc j) (xs ++ ys) ≡ read T (suc j + length xs) ys)
+        → elim o [ stands U ↦ read U (suc j) (xs ++ ys) | refused p ↦ refusedAt S p j ] ≡ read T (j + suc (length xs)) ys
+    try (stands U) e p ih = ih U p ∙ ap (λ (i : ℕ). read T i ys) (suc-add j (length xs) ∙ sym (add-suc j (length xs)))
+    try (refused p) e q ih = absurd (no q)
+
+pub take-next : (k : ℕ) (rs : List Record) (r : Record) (rest : List Record) → drop k rs ≡ r ∷ rest → take (suc k) rs ≡ take k rs ++ (r ∷ [])
+take-next zero [] r rest q = absurd (let z : _≡_ {A = ℕ} 0 1 = cc in omega arith)
+take-next zero (x ∷ rs) r rest q = let e : x ≡ r = cc in ap (λ (y : Record). y ∷ []) e
+take-next (suc k) [] r rest q = absurd (let z : _≡_ {A = ℕ} 0 1 = cc in omega arith)
+take-next (suc k) (x ∷ rs) r rest q = ap (λ (l : List Record). x ∷ l) (take-next k rs r rest q)
+
+module _ (F : List ℕ) (k : ℕ) (S : State) (H : Standing F k S) (l : k < recordCount F) where
+  abbrev rec : Record
+  rec = decoded (recordPart F k)
+
+  next : drop k (records F) ≡ rec ∷ drop (suc k) (records F)
+  next = record-numbered F k l
+
+  taken : length (take k (records F)) ≡ k
+  taken = let n = records-length F in simp length-take (omega arith)
+
+  seven : length (rec .fields) ≡ 7
+  seven = refl
+
+  pub read-one : (ys : List Record) → read start 0 (take k (records F) ++ ys) ≡ read S k ys
+  read-one ys = read-on start 0 (take k (records F)) ys S (H .before) ∙ ap (λ (i : ℕ). read S i ys) (zero-add (length (take k (records F))) ∙ taken)
+
+  module _ (T : State) (q : step S k (decoded (recordPart F k)) ≡ stands T) where
+    before-next : read start 0 (take (suc k) (records F)) ≡ allStand T
+    before-next = ap (read start 0) (take-next k (records F) rec (drop (suc k) (records F)) next) ∙ read-one (rec ∷ [])
+        ∙ ap (λ (o : Result). elim o [ stands U ↦ read U (suc k) [] | refused p ↦ refusedAt S p k ]) q
+
+    abbrev G : Tally F k S
+    G = H .tally
+
+    -- One entry more: a clause, a row, a symbol.
+    clause-more : (c : Derivation) → withClause S k c ≡ T → Tally F (suc k) T
+    clause-more c e = subst (Tally F (suc k)) e (record { total = let t = G .total in omega arith; aritiesRead = G .aritiesRead; rowsFit = G .rowsFit; distinct = G .distinct })
+
+    row-more : (w : Row) → RowFits w → differsFromAll w (rowsOf S) ≡ true → withRow S k w ≡ T → Tally F (suc k) T
+    row-more w f d e = subst (Tally F (suc k)) e (record { total = let t = G .total in omega arith; aritiesRead = G .aritiesRead; rowsFit = (f, G .rowsFit); distinct = (d, G .distinct) })
+
+    few-arguments : rec .count ≤ 6 → length (argumentRows rec) ≤ 6
+    few-arguments h = simp length-take (omega arith)
+
+    one-more : (kind : Kind) → Passed S kind rec → enter S k kind rec ≡ stands T → Tally F (suc k) T
+    one-more symbolKind a z = subst (Tally F (suc k)) (stands-same z) (record { total = let t = G .total in omega arith; aritiesRead = (refl, G .aritiesRead); rowsFit = G .rowsFit; distinct = G .distinct })
+    one-more variableKind a z =
+        let c = both-true (eqb (rec .count) 0 && leb (fieldA rec) 63) (zeros (drop 1 (rec .fields))) (a .ranged) in
+        let d = both-true (eqb (rec .count) 0) (leb (fieldA rec) 63) (c .0) in
+        let l : fieldA rec ≤ 63 = leb→le (fieldA rec) 63 (to-T (leb (fieldA rec) 63) (d .1)) in
+        row-more (variable (fieldA rec)) (omega arith) (a .fresh) (stands-same z)
+    one-more applicationKind a z =
+        let c = both-true (leb (rec .count) 6) (zeros (drop (1 + rec .count) (rec .fields))) (a .ranged) in
+        row-more (application (fieldA rec) (argumentRows rec)) (few-arguments (leb→le (rec .count) 6 (to-T (leb (rec .count) 6) (c .0)))) (a .fresh) (stands-same z)
+    one-more inputKind a z = clause-more (input (inputLiterals rec)) (stands-same z)
+    one-more resolveKind a z =
+        let s = named-stands _ (leftOf S rec) (rightOf S rec) T z in
+        let c = clause-added S k (resolve (s .0 .0) (fieldB rec) (s .1 .0) (fieldD rec)) (unifyResolve S (s .0) (s .1)) T (s .4) in
+        clause-more (resolve (s .0 .0) (fieldB rec) (s .1 .0) (fieldD rec) (c .0)) (c .3)
+    one-more factorKind a z =
+        let s = named-stands _ (leftOf S rec) (deletedOf S rec) T z in
+        let c = clause-added S k (factor (s .0 .0) (fieldB rec) (fieldC rec)) (unifyFactor S (s .0) (s .1)) T (s .4) in
+        clause-more (factor (s .0 .0) (fieldB rec) (fieldC rec) (c .0)) (c .3)
+    one-more otherKind a z = absurd (true-not-false (a .known) refl)
+
+    pub advance : Standing F (suc k) T
+    advance =
+        let a = all-stand (tests S (kindOfRecord rec) rec) (enter S k (kindOfRecord rec) rec) T q in
+        let o = one-more (kindOfRecord rec) (tests-passed S (kindOfRecord rec) rec (a .0)) (a .1) in
+        record { before = before-next; ok = step-ok k S (H .ok) k rec T seven q; sourced = step-sourced F S k T q (H .sourced); tally = o }
+
+  pub refused-there : (p : Reason) → step S k (decoded (recordPart F k)) ≡ refused p → ending F ≡ refusedAt S p k
+  unfolding ending
+  refused-there p q =
+      ap (read start 0) (sym (take-append-drop k (records F)) ∙ ap (λ (l : List Record). take k (records F) ++ l) next)
+      ∙ read-one (rec ∷ drop (suc k) (records F))
+      ∙ ap (λ (o : Result). elim o [ stands U ↦ read U (suc k) (drop (suc k) (records F)) | refused p ↦ refusedAt S p k ]) q
+
+pub all-read : (F : List ℕ) (S : State) → Standing F (recordCount F) S → ending F ≡ allStand S
+unfolding ending
+all-read F S H =
+    let n = records-length F in
+    let e : take (recordCount F) (records F) ≡ records F = rw (← n) (take-length (records F)) in
+    ap (read start 0) (sym e) ∙ H .before

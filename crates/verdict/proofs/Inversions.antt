@@ -1,0 +1,184 @@
+-- What the tests of a record say once they have tests-passed, or failed.
+use mathlib.Core.Path.{_≡_, refl, sym, ap, _∙_, subst}
+use mathlib.Core.Logic.{_⊎_, inl, inr}
+use mathlib.Core.Bool.{Bool, true, false, not}
+use mathlib.Core.Option.{Option, none, some}
+use mathlib.Core.List.{List, [], _∷_, map}
+use Prim.Native.Nat.{ℕ, suc, _≤_, _<_}
+use native.Mathlib.Omega.{arith}
+use lib.Dec.{eqb, leb, ltb, T, eqb→eq, eqb-refl, leb→le, ltb→lt, lt→ltb}
+use lib.ListN.{length}
+use Rattle.record.specs.Record.{pick, Record, Kind}
+use Rattle.unify.specs.Environment.{Binding}
+use Rattle.unify.specs.Unification.{Failure, Outcome, unified, failed}
+use Rattle.unify.proofs.Lists.{Each}
+use Rattle.unify.proofs.Rows.{Below, eqb-below}
+use Rattle.unify.proofs.Tests.{to-T, from-T, both-true, true-not-false, some-not-none, some-injective}
+use Rattle.derivation.specs.Derivation.{literals, Literal, RowLiteral, Derivation, numbered}
+use Rattle.derivation.proofs.Literals.{leb-false-lt}
+use Rattle.verdict.specs.Demands.{FirstFailing, failsHere, passesHere, AllPass}
+use Rattle.verdict.specs.Refusal.{tests, Reason, unification, knownKind, inRange, literalIn, literalNamed, isThere, hasArity, allBelow, allThere, isNew, onApplications, equalSigns, fittingSigns, withinLimits}
+use Rattle.verdict.specs.State.{State, withClause, entry, clauseOf}
+use Rattle.verdict.specs.Step.{stands, refused, Result, require, requireAll, step, addClause, onNamed}
+
+pub stands-same : {S T : State} → stands S ≡ stands T → S ≡ T
+stands-same p = cc
+
+pub refused-injective : {p q : Reason} → refused p ≡ refused q → p ≡ q
+refused-injective e = cc
+
+refused-not-stands : {q : Reason} {S : State} → refused q ≡ stands S → ⊥
+refused-not-stands p = let z : _≡_ {A = ℕ} 0 1 = cc in omega arith
+
+stands-not-refused : {q : Reason} {S : State} → stands S ≡ refused q → ⊥
+stands-not-refused p = let z : _≡_ {A = ℕ} 0 1 = cc in omega arith
+
+pub all-stand : (ts : List (Bool × Reason)) (next : Result) (S : State) → requireAll ts next ≡ stands S → AllPass ts × (next ≡ stands S)
+unfolding require
+all-stand [] next S q = (tt, q)
+all-stand (t ∷ ts) next S q = try (t .0) refl q (λ z. all-stand ts next S z)
+  where
+    try : (b : Bool) → t .0 ≡ b → require b (t .1) (requireAll ts next) ≡ stands S → (requireAll ts next ≡ stands S → AllPass ts × (next ≡ stands S)) → AllPass (t ∷ ts) × (next ≡ stands S)
+    try true p z k = ((p, k z .0), k z .1)
+    try false p z k = absurd (refused-not-stands z)
+
+pub all-refused : (ts : List (Bool × Reason)) (next : Result) (q : Reason) → requireAll ts next ≡ refused q → FirstFailing ts q ⊎ (AllPass ts × (next ≡ refused q))
+unfolding require
+all-refused [] next q e = inr (tt, e)
+all-refused (t ∷ ts) next q e = try (t .0) refl e (λ z. all-refused ts next q z)
+  where
+    more : t .0 ≡ true → FirstFailing ts q ⊎ (AllPass ts × (next ≡ refused q)) → FirstFailing (t ∷ ts) q ⊎ (AllPass (t ∷ ts) × (next ≡ refused q))
+    more p (inl f) = inl (passesHere p f)
+    more p (inr f) = inr ((p, f .0), f .1)
+
+    try : (b : Bool) → t .0 ≡ b → require b (t .1) (requireAll ts next) ≡ refused q → (requireAll ts next ≡ refused q → FirstFailing ts q ⊎ (AllPass ts × (next ≡ refused q)))
+        → FirstFailing (t ∷ ts) q ⊎ (AllPass (t ∷ ts) × (next ≡ refused q))
+    try true p z k = more p (k z)
+    try false p z k = inl (subst (FirstFailing (t ∷ ts)) (refused-injective z) (failsHere p))
+
+-- A step that stands, or is refused, on the literals that it names.
+pub named-stands : (step : Derivation × Literal → Derivation × Literal → Result) (o p : Option (Derivation × Literal)) (S : State) → onNamed step o p ≡ stands S
+    → (x y : Derivation × Literal) × (o ≡ some x) × (p ≡ some y) × (step x y ≡ stands S)
+named-stands step none p S q = absurd (refused-not-stands q)
+named-stands step (some x) none S q = absurd (refused-not-stands q)
+named-stands step (some x) (some y) S q = (x, y, refl, refl, q)
+
+-- A named literal is a literal of a clause that exists.
+pub literal-named : (S : State) (c n : ℕ) (x : Derivation × Literal) → literalNamed S c n ≡ some x → (clauseOf S c ≡ some (x .0)) × (numbered (literals (x .0)) n ≡ some (x .1))
+literal-named S c n x q = clause (clauseOf S c) refl q
+  where
+    pair : {d : Derivation} {l : Literal} → _≡_ {A = Option (Derivation × Literal)} (some (d, l)) (some x) → (d ≡ x .0) × (l ≡ x .1)
+    pair p = (ap (λ (y : Derivation × Literal). y .0) (some-injective p), ap (λ (y : Derivation × Literal). y .1) (some-injective p))
+
+    literal : (d : Derivation) (o : Option Literal) → numbered (literals d) n ≡ o → elim o [ some l ↦ some (d, l) | none ↦ none ] ≡ some x → (d ≡ x .0) × (numbered (literals d) n ≡ some (x .1))
+    literal d none p z = absurd (some-not-none refl z)
+    literal d (some l) p z = (pair z .0, p ∙ ap some (pair z .1))
+
+    clause : (o : Option Derivation) → clauseOf S c ≡ o → literalIn n o ≡ some x → (clauseOf S c ≡ some (x .0)) × (numbered (literals (x .0)) n ≡ some (x .1))
+    clause none p z = absurd (some-not-none refl z)
+    clause (some d) p z =
+        let r = literal d (numbered (literals d) n) refl z in
+        (p ∙ ap some (r .0), subst (λ (e : Derivation). numbered (literals e) n ≡ some (x .1)) (r .0) (r .1))
+
+pub is-there : {A : Type 0} (o : Option A) → isThere o ≡ true → (a : A) × (o ≡ some a)
+is-there none q = absurd (true-not-false q refl)
+is-there (some a) q = (a, refl)
+
+pub has-arity : (n : ℕ) (o : Option ℕ) → hasArity n o ≡ true → o ≡ some n
+has-arity n none q = absurd (true-not-false q refl)
+has-arity n (some a) q = ap some (eqb→eq a n (to-T (eqb a n) q))
+
+pub all-below : (n : ℕ) (xs : List ℕ) → allBelow n xs ≡ true → Below n xs
+all-below n [] q = tt
+all-below n (a ∷ xs) q =
+    let p = both-true (ltb a n) (allBelow n xs) q in
+    (ltb→lt a n (to-T (ltb a n) (p .0)), all-below n xs (p .1))
+
+pub rows-below : (n : ℕ) (ls : List RowLiteral) → allBelow n (map (λ (l : RowLiteral). l .1) ls) ≡ true → Each (λ (l : RowLiteral). l .1 < n) ls
+rows-below n [] q = tt
+rows-below n (l ∷ ls) q =
+    let p = both-true (ltb (l .1) n) (allBelow n (map (λ (l : RowLiteral). l .1) ls)) q in
+    (ltb→lt (l .1) n (to-T (ltb (l .1) n) (p .0)), rows-below n ls (p .1))
+
+pub opposite-signs : (s t : Bool) → not (equalSigns s t) ≡ true → t ≡ not s
+opposite-signs true true q = absurd (true-not-false q refl)
+opposite-signs true false q = refl
+opposite-signs false true q = refl
+opposite-signs false false q = absurd (true-not-false q refl)
+
+pub equal-signs : (s t : Bool) → equalSigns s t ≡ true → t ≡ s
+equal-signs true true q = refl
+equal-signs true false q = absurd (true-not-false q refl)
+equal-signs false true q = absurd (true-not-false q refl)
+equal-signs false false q = refl
+
+pub not-equal : (a b : ℕ) → not (eqb a b) ≡ true → ¬ (a ≡ b)
+not-equal a b q p = try (eqb a b) (from-T (eqb a b) (subst (λ (c : ℕ). T (eqb a c)) p (eqb-refl a))) q
+  where
+    try : (c : Bool) → c ≡ true → not c ≡ true → ⊥
+    try true x y = true-not-false y refl
+    try false x y = true-not-false x refl
+
+-- Entries of a list that has the newest first.
+pub entry-below : {A : Type 0} (xs : List A) (n : ℕ) (a : A) → entry xs n ≡ some a → n < length xs
+entry-below [] n a q = absurd (some-not-none refl q)
+entry-below (x ∷ xs) n a q = try (eqb n (length xs)) refl q (λ p. entry-below xs n a p)
+  where
+    try : (b : Bool) → eqb n (length xs) ≡ b → pick b (some x) (entry xs n) ≡ some a → (entry xs n ≡ some a → n < length xs) → n < suc (length xs)
+    try true p r k = let z : n ≡ length xs = eqb→eq n (length xs) (to-T (eqb n (length xs)) p) in omega arith
+    try false p r k = let z = k r in omega arith
+
+pub entry-more : {A : Type 0} (x : A) (xs : List A) (n : ℕ) (a : A) → entry xs n ≡ some a → entry (x ∷ xs) n ≡ some a
+entry-more x xs n a q = rw (eqb-below n (length xs) (entry-below xs n a q)) q
+
+pub entry-new : {A : Type 0} (x : A) (xs : List A) → entry (x ∷ xs) (length xs) ≡ some x
+entry-new x xs = rw (from-T (eqb (length xs) (length xs)) (eqb-refl (length xs)))
+
+pub entry-none : {A : Type 0} (xs : List A) (n : ℕ) → length xs ≤ n → entry xs n ≡ none
+entry-none {A} xs n h = try (entry xs n) refl
+  where
+    try : (o : Option A) → entry xs n ≡ o → o ≡ none
+    try none q = refl
+    try (some a) q = let z = entry-below xs n a q in absurd (omega arith)
+
+pub entry-each : {A : Type 0} (P : A → Type 0) (xs : List A) → Each P xs → (n : ℕ) (a : A) → entry xs n ≡ some a → P a
+entry-each P [] h n a q = absurd (some-not-none refl q)
+entry-each P (x ∷ xs) h n a q = try (eqb n (length xs)) q (λ p. entry-each P xs (h .1) n a p)
+  where
+    try : (b : Bool) → pick b (some x) (entry xs n) ≡ some a → (entry xs n ≡ some a → P a) → P a
+    try true p z = subst P (some-injective p) (h .0)
+    try false p z = z p
+
+-- A step's clause that is added, or refused by unification.
+pub clause-added : (S : State) (k : ℕ) (clause : List Binding → Derivation) (o : Outcome) (T : State) → addClause S k clause o ≡ stands T → (bs : List Binding) × (n : ℕ) × (o ≡ unified bs n) × (withClause S k (clause bs) ≡ T)
+unfolding addClause
+clause-added S k clause (unified bs n) T q = (bs, n, refl, stands-same q)
+clause-added S k clause (failed f) T q = absurd (refused-not-stands q)
+
+pub clause-refused : (S : State) (k : ℕ) (clause : List Binding → Derivation) (o : Outcome) (q : Reason) → addClause S k clause o ≡ refused q → (f : Failure) × (o ≡ failed f) × (unification f ≡ q)
+unfolding addClause
+clause-refused S k clause (unified bs n) q e = absurd (stands-not-refused e)
+clause-refused S k clause (failed f) q e = (f, refl, refused-injective e)
+
+pub never-both : {q : Reason} {S : State} (o : Result) → o ≡ stands S → o ≡ refused q → ⊥
+never-both o p e = stands-not-refused (sym p ∙ e)
+
+-- All tests of a record have tests-passed, by name.
+pub record Passed (S : State) (kind : Kind) (r : Record) : Type 0 where
+  pub known : knownKind kind ≡ true
+  pub ranged : inRange kind r ≡ true
+  pub there : allThere S kind r ≡ true
+  pub fresh : isNew S kind r ≡ true
+  pub applications : onApplications S kind r ≡ true
+  pub signs : fittingSigns S kind r ≡ true
+  pub limits : withinLimits S kind r ≡ true
+
+pub tests-passed : (S : State) (kind : Kind) (r : Record) → AllPass (tests S kind r) → Passed S kind r
+tests-passed S kind r a = record { known = a .0; ranged = a .1 .0; there = a .1 .1 .0; fresh = a .1 .1 .1 .0; applications = a .1 .1 .1 .1 .0; signs = a .1 .1 .1 .1 .1 .0; limits = a .1 .1 .1 .1 .1 .1 .0 }
+
+pub not-below : (i n : ℕ) → ltb i n ≡ false → n ≤ i
+not-below i n q = try (leb n i) refl
+  where
+    try : (b : Bool) → leb n i ≡ b → n ≤ i
+    try true p = leb→le n i (to-T (leb n i) p)
+    try false p = let l : i < n = leb-false-lt n i p in absurd (true-not-false (from-T (ltb i n) (lt→ltb i n l)) q)

@@ -1,0 +1,168 @@
+-- Steps of a state in order: what stands is the textbook's, what clashes has no unifier, and what has one stands or meets a limit.
+use mathlib.Core.Path.{_≡_, refl, sym, ap, _∙_, subst}
+use mathlib.Core.Logic.{_⊎_, inl, inr}
+use mathlib.Core.Bool.{Bool, true, false, not}
+use mathlib.Core.Option.{some}
+use mathlib.Core.List.{List}
+use Prim.Native.Nat.{ℕ}
+use lib.Dec.{T}
+use lib.ListN.{length}
+use Rattle.record.specs.Record.{Record, Kind, resolveKind, factorKind, fieldA, fieldB, fieldC, fieldD}
+use Rattle.unify.specs.Environment.{Binding}
+use Rattle.unify.specs.Row.{application, Variable, rowTerm, writtenOut}
+use Rattle.unify.specs.Term.{Term, apply}
+use Rattle.unify.specs.Unification.{endless, clash, occurs, overwork, full, Outcome, unified, failed}
+use Rattle.unify.specs.Unifier.{Unifies, NoUnifier}
+use Rattle.unify.proofs.Tests.{true-not-false}
+use Rattle.derivation.specs.Derivation.{literals, Literal, Derivation, resolve, factor, numbered, maximumIndex, joined, lookup}
+use Rattle.derivation.specs.Written.{substitution, renamed}
+use Rattle.derivation.proofs.Resolvents.{no-resolvent, is-resolvent, no-factor, is-factor, standardized-apart}
+use Rattle.verdict.specs.Demands.{atomOf, StepAtoms, ofResolve, ofFactor, ResolventAdded, FactorAdded, StandsOrLimit, itStands, resultTooLarge, workAllDone, bindingsAllHeld}
+use Rattle.verdict.specs.Refusal.{tests, Reason, badKind, outOfRange, notThere, repeatedRow, variableLiteral, wrongSigns, tooLarge, kindOfRecord, knownKind, inRange, leftOf, rightOf, deletedOf, allThere, isNew, onApplications, fittingSigns, withinLimits}
+use Rattle.verdict.specs.State.{State, rowOf, termOf, held}
+use Rattle.verdict.specs.Step.{stands, refused, Result, require, requireAll, step, addClause, unifyResolve, unifyFactor, enter}
+use Rattle.verdict.proofs.Inversions.{tests-passed, all-stand, named-stands, literal-named, clause-added}
+use Rattle.verdict.proofs.Reading.{term-of-row, one-arity}
+use Rattle.verdict.proofs.Standing.{StateOk, order-of, ChainsAfter, resolve-chains, factor-chains}
+use Rattle.verdict.proofs.Steps.{NamedResolve, NamedFactor, signs-resolve, signs-factor, same-parent, named-resolve, named-factor}
+
+-- A step's kind, put in place of its number.
+pub at-kind : (S : State) (k : ℕ) (r : Record) (kind : Kind) → kindOfRecord r ≡ kind → step S k r ≡ requireAll (tests S kind r) (enter S k kind r)
+at-kind S k r kind e = ap (λ (z : Kind). requireAll (tests S z r) (enter S k z r)) e
+
+-- On the literals that it names, a step is its unification.
+pub enter-resolve : (S : State) (k : ℕ) (r : Record) (x y : Derivation × Literal) → leftOf S r ≡ some x → rightOf S r ≡ some y → enter S k resolveKind r ≡ addClause S k (resolve (x .0) (fieldB r) (y .0) (fieldD r)) (unifyResolve S x y)
+enter-resolve S k r x y p q = rw (p, q)
+
+pub enter-factor : (S : State) (k : ℕ) (r : Record) (x y : Derivation × Literal) → leftOf S r ≡ some x → deletedOf S r ≡ some y → enter S k factorKind r ≡ addClause S k (factor (x .0) (fieldB r) (fieldC r)) (unifyFactor S x y)
+enter-factor S k r x y p q = rw (p, q)
+
+module _ (S : State) (H : StateOk 4096 S) (k : ℕ) (r : Record) where
+  abbrev law : (w : ℕ) → termOf S w ≡ rowTerm (termOf S) w (rowOf S w)
+  law = term-of-row S H
+
+  abbrev one : (w q s : ℕ) (xs ys : List ℕ) → rowOf S w ≡ application s xs → rowOf S q ≡ application s ys → length xs ≡ length ys
+  one = one-arity S H
+
+  pub resolvent-added : (Y : Type 0) (T : State) → kindOfRecord r ≡ resolveKind → step S k r ≡ stands T → ResolventAdded Y S k r T
+  resolvent-added Y T e q =
+      let a = all-stand (tests S resolveKind r) (enter S k resolveKind r) T (sym (at-kind S k r resolveKind e) ∙ q) in
+      let s = named-stands _ (leftOf S r) (rightOf S r) T (a .1) in
+      made (s .0) (s .1) (named-resolve S r (s .0) (s .1) (s .2) (s .3) (tests-passed S resolveKind r (a .0))) (s .4)
+    where
+      made : (x y : Derivation × Literal) → NamedResolve S r x y → addClause S k (resolve (x .0) (fieldB r) (y .0) (fieldD r)) (unifyResolve S x y) ≡ stands T → ResolventAdded Y S k r T
+      made x y N z =
+          let c = clause-added S k (resolve (x .0) (fieldB r) (y .0) (fieldD r)) (unifyResolve S x y) T z in
+          let L = order-of 4096 S H (fieldA r) (x .0) (N .isLeft) .valid in
+          let R = order-of 4096 S H (fieldC r) (y .0) (N .isRight) .valid in
+          record {
+            left = x .0;
+            right = y .0;
+            isLeft = N .isLeft;
+            isRight = N .isRight;
+            clause = resolve (x .0) (fieldB r) (y .0) (fieldD r) (c .0);
+            added = sym (c .3);
+            apart = standardized-apart (rowOf S) (termOf S) law (x .0) (y .0) L R;
+            resolvent = is-resolvent (rowOf S) (termOf S) law (x .0) (y .0) L R (fieldB r) (fieldD r) (x .1 .0) (x .1 .1) (y .1 .1) (N .isLeftLiteral) (N .isRightLiteral ∙ ap (λ (b : Bool). some (b, y .1 .1)) (N .signs)) one (c .0) (held S, c .1, c .2) Y;
+          }
+
+  pub factor-added : (Y : Type 0) (T : State) → kindOfRecord r ≡ factorKind → step S k r ≡ stands T → FactorAdded Y S k r T
+  factor-added Y T e q =
+      let a = all-stand (tests S factorKind r) (enter S k factorKind r) T (sym (at-kind S k r factorKind e) ∙ q) in
+      let s = named-stands _ (leftOf S r) (deletedOf S r) T (a .1) in
+      made (s .0) (s .1) (named-factor S r (s .0) (s .1) (s .2) (s .3) (tests-passed S factorKind r (a .0))) (s .4)
+    where
+      made : (x y : Derivation × Literal) → NamedFactor S r x y → addClause S k (factor (x .0) (fieldB r) (fieldC r)) (unifyFactor S x y) ≡ stands T → FactorAdded Y S k r T
+      made x y N z =
+          let c = clause-added S k (factor (x .0) (fieldB r) (fieldC r)) (unifyFactor S x y) T z in
+          record {
+            parent = x .0;
+            isParent = N .isParent;
+            clause = factor (x .0) (fieldB r) (fieldC r) (c .0);
+            added = sym (c .3);
+            factored = is-factor (rowOf S) (termOf S) law (x .0) (order-of 4096 S H (fieldA r) (x .0) (N .isParent) .valid) (fieldB r) (fieldC r) (x .1 .0) (x .1 .1) (y .1 .1) (N .isKept) (N .isDeleted ∙ ap (λ (b : Bool). some (b, y .1 .1)) (N .signs)) one (c .0) (held S, c .1, c .2) (N .different) Y;
+          }
+
+  -- The atoms of a resolve whose unification clashes or meets an occurrence.
+  pub resolve-no-unifier : (Y : Type 0) (x y : Derivation × Literal) → leftOf S r ≡ some x → rightOf S r ≡ some y → y .1 .0 ≡ not (x .1 .0) → (unifyResolve S x y ≡ failed clash) ⊎ (unifyResolve S x y ≡ failed occurs)
+      → NoUnifier Y (atomOf S x) (apply (renamed (maximumIndex (x .0))) (atomOf S y))
+  resolve-no-unifier Y x y p q s f =
+      let l = literal-named S (fieldA r) (fieldB r) x p in
+      let m = literal-named S (fieldC r) (fieldD r) y q in
+      no-resolvent (rowOf S) (termOf S) law (x .0) (y .0) (order-of 4096 S H (fieldA r) (x .0) (l .0) .valid) (order-of 4096 S H (fieldC r) (y .0) (m .0) .valid) (fieldB r) (fieldD r) (x .1 .0) (x .1 .1) (y .1 .1) (l .1) (m .1 ∙ ap (λ (b : Bool). some (b, y .1 .1)) s) Y (held S) f
+
+  pub factor-no-unifier : (Y : Type 0) (x y : Derivation × Literal) → leftOf S r ≡ some x → deletedOf S r ≡ some y → y .1 .0 ≡ x .1 .0 → (unifyFactor S x y ≡ failed clash) ⊎ (unifyFactor S x y ≡ failed occurs)
+      → NoUnifier Y (atomOf S x) (atomOf S y)
+  factor-no-unifier Y x y p q s f =
+      let l = literal-named S (fieldA r) (fieldB r) x p in
+      let m = literal-named S (fieldA r) (fieldC r) y q in
+      let e = same-parent S r x y p q in
+      let n = subst (λ (c : Derivation). numbered (literals c) (fieldC r) ≡ some (y .1)) e (m .1) in
+      subst (λ (c : Derivation). NoUnifier Y (atomOf S x) (writtenOut (termOf S) (substitution (termOf S) c) (y .1 .1))) (sym e)
+      (no-factor (rowOf S) (termOf S) law (x .0) (order-of 4096 S H (fieldA r) (x .0) (l .0) .valid) (fieldB r) (fieldC r) (x .1 .0) (x .1 .1) (y .1 .1) (l .1) (n ∙ ap (λ (b : Bool). some (b, y .1 .1)) s) Y (held S) f)
+
+  -- Following never runs out.
+  pub resolve-not-endless : (x y : Derivation × Literal) → leftOf S r ≡ some x → rightOf S r ≡ some y → ¬ (unifyResolve S x y ≡ failed endless)
+  resolve-not-endless x y p q f =
+      let l = literal-named S (fieldA r) (fieldB r) x p in
+      let m = literal-named S (fieldC r) (fieldD r) y q in
+      subst (ChainsAfter 4096 S H (joined (maximumIndex (x .0)) (lookup (x .0)) (lookup (y .0)))) f
+      (resolve-chains 4096 S H x y (order-of 4096 S H (fieldA r) (x .0) (l .0)) (order-of 4096 S H (fieldC r) (y .0) (m .0)) (fieldB r) (fieldD r) (l .1) (m .1))
+
+  pub factor-not-endless : (x y : Derivation × Literal) → leftOf S r ≡ some x → deletedOf S r ≡ some y → ¬ (unifyFactor S x y ≡ failed endless)
+  factor-not-endless x y p q f =
+      let l = literal-named S (fieldA r) (fieldB r) x p in
+      let m = literal-named S (fieldA r) (fieldC r) y q in
+      let n = subst (λ (c : Derivation). numbered (literals c) (fieldC r) ≡ some (y .1)) (same-parent S r x y p q) (m .1) in
+      subst (ChainsAfter 4096 S H (lookup (x .0))) f
+      (factor-chains 4096 S H x y (order-of 4096 S H (fieldA r) (x .0) (l .0)) (fieldB r) (fieldC r) (l .1) n)
+
+  -- The seven tests one after the other.
+  require-true : (b : Bool) (q : Reason) (next : Result) → b ≡ true → require b q next ≡ next
+  unfolding require
+  require-true true q next e = refl
+  require-true false q next e = absurd (true-not-false e refl)
+
+  require-false : (b : Bool) (q : Reason) (next : Result) → b ≡ false → require b q next ≡ refused q
+  unfolding require
+  require-false true q next e = absurd (true-not-false refl e)
+  require-false false q next e = refl
+
+  -- A step whose tests but the last hold.
+  to-limits : (kind : Kind) → knownKind kind ≡ true → inRange kind r ≡ true → allThere S kind r ≡ true → isNew S kind r ≡ true → onApplications S kind r ≡ true → fittingSigns S kind r ≡ true
+      → requireAll (tests S kind r) (enter S k kind r) ≡ require (withinLimits S kind r) tooLarge (enter S k kind r)
+  to-limits kind a b c d e f =
+      require-true (knownKind kind) badKind _ a ∙ require-true (inRange kind r) outOfRange _ b ∙ require-true (allThere S kind r) notThere _ c
+      ∙ require-true (isNew S kind r) repeatedRow _ d ∙ require-true (onApplications S kind r) variableLiteral _ e ∙ require-true (fittingSigns S kind r) wrongSigns _ f
+
+  -- From the outcome of unification to the result of the step.
+  outcome : (kind : Kind) (clause : List Binding → Derivation) (o : Outcome) → step S k r ≡ require (withinLimits S kind r) tooLarge (addClause S k clause o)
+      → ¬ (o ≡ failed clash) → ¬ (o ≡ failed occurs) → ¬ (o ≡ failed endless) → StandsOrLimit S k r
+  unfolding addClause
+  outcome kind clause o e c u n = limits (withinLimits S kind r) refl
+    where
+      ends : (o : Outcome) → ¬ (o ≡ failed clash) → ¬ (o ≡ failed occurs) → ¬ (o ≡ failed endless) → step S k r ≡ addClause S k clause o → StandsOrLimit S k r
+      ends (unified bs m) c u n z = itStands z
+      ends (failed clash) c u n z = absurd (c refl)
+      ends (failed occurs) c u n z = absurd (u refl)
+      ends (failed overwork) c u n z = workAllDone z
+      ends (failed full) c u n z = bindingsAllHeld z
+      ends (failed endless) c u n z = absurd (n refl)
+
+      limits : (b : Bool) → withinLimits S kind r ≡ b → StandsOrLimit S k r
+      limits true q = ends o c u n (e ∙ require-true (withinLimits S kind r) tooLarge (addClause S k clause o) q)
+      limits false q = resultTooLarge (e ∙ require-false (withinLimits S kind r) tooLarge (addClause S k clause o) q)
+
+  pub unifiable-stands : (Y : Type 0) → inRange (kindOfRecord r) r ≡ true → (s t : Term Variable) → StepAtoms S r s t → fittingSigns S (kindOfRecord r) r ≡ true → (τ : Variable → Term Y) → Unifies τ s t → StandsOrLimit S k r
+  unifiable-stands Y range s t (ofResolve {x} {y} e p q) signs τ z =
+      let f = subst (λ (kind : Kind). fittingSigns S kind r ≡ true) e signs in
+      let g = signs-resolve S r x y p q f in
+      outcome resolveKind (resolve (x .0) (fieldB r) (y .0) (fieldD r)) (unifyResolve S x y)
+      (at-kind S k r resolveKind e ∙ to-limits resolveKind refl (subst (λ (kind : Kind). inRange kind r ≡ true) e range) (rw (p, q)) refl refl f ∙ ap (require (withinLimits S resolveKind r) tooLarge) (enter-resolve S k r x y p q))
+      (λ w. resolve-no-unifier Y x y p q g (inl w) τ z) (λ w. resolve-no-unifier Y x y p q g (inr w) τ z) (resolve-not-endless x y p q)
+  unifiable-stands Y range s t (ofFactor {x} {y} e p q) signs τ z =
+      let f = subst (λ (kind : Kind). fittingSigns S kind r ≡ true) e signs in
+      let g = signs-factor S r x y p q f .0 in
+      outcome factorKind (factor (x .0) (fieldB r) (fieldC r)) (unifyFactor S x y)
+      (at-kind S k r factorKind e ∙ to-limits factorKind refl (subst (λ (kind : Kind). inRange kind r ≡ true) e range) (rw (p, q)) refl refl f ∙ ap (require (withinLimits S factorKind r) tooLarge) (enter-factor S k r x y p q))
+      (λ w. factor-no-unifier Y x y p q g (inl w) τ z) (λ w. factor-no-unifier Y x y p q g (inr w) τ z) (factor-not-endless x y p q)

@@ -1,0 +1,210 @@
+-- What stands is in order: rows over symbols at their arities, and clauses whose bindings are unification's, over such rows, with
+-- chains of links no longer than the bindings held.
+use mathlib.Core.Path.{_≡_, refl, subst}
+use mathlib.Core.Bool.{Bool, true, false}
+use mathlib.Core.Option.{Option, none, some}
+use mathlib.Core.List.{List, [], _∷_, _++_}
+use Prim.Native.Nat.{ℕ, suc, _+_, _≤_, _<_}
+use native.Mathlib.Nat.{add-zero}
+use native.Mathlib.Omega.{arith}
+use lib.Dec.{eqb, eqb→eq, lit≤}
+use lib.ListN.{length}
+use Rattle.unify.specs.Environment.{follow, Binding, Environment, Ends, viewRow}
+use Rattle.unify.specs.Row.{variable, Row, application, Expression, Variable, rowAt}
+use Rattle.unify.specs.Unification.{unify, mostWork, mostBindings, mostLinks, Outcome, unifying, noRoom}
+use Rattle.unify.proofs.Chains.{Short, short-le, ChainEnd, chain-run}
+use Rattle.unify.proofs.Lists.{Each, each-more}
+use Rattle.unify.proofs.Meaning.{follow-unb, follow-appl}
+use Rattle.unify.proofs.Rows.{Below, RowOk, RowsOk, eqb-below, row-below}
+use Rattle.unify.proofs.Stability.{follow-agree}
+use Rattle.unify.proofs.Tests.{to-T}
+use Rattle.derivation.specs.Derivation.{literals, input, Literal, RowLiteral, Derivation, numbered, raise, maximumIndex, ownBindings, joined, lookup, uses}
+use Rattle.derivation.proofs.Chains.{short-joined}
+use Rattle.derivation.proofs.Known.{Known, KnownRows, KnownEnvironment, known-numbered, known-joined, known-variable, known-arguments, known-lookup, valid-stable, known-more}
+use Rattle.derivation.proofs.Literals.{leb-false-lt}
+use Rattle.derivation.proofs.Validity.{Valid, lookup-in}
+use Rattle.verdict.specs.Demands.{InputsOf}
+use Rattle.verdict.specs.Refusal.{mostLiterals, mostIndex}
+use Rattle.verdict.specs.State.{arities, State, start, withSymbol, withRow, withClause, entry, rowsOf, derivations, arityOf, clauseOf, rowOf, held}
+use Rattle.verdict.specs.Step.{unifyResolve, unifyFactor}
+use Rattle.verdict.proofs.Inversions.{not-equal, entry-more, entry-each}
+
+abbrev pub ChainsEnd : List Row → ℕ → Environment → Type 0
+ChainsEnd ws h ρ = Short (λ r. r < length ws) (rowAt ws) h ρ
+
+pub record InOrder (ws : List Row) (h : ℕ) (c : Derivation) : Type 0 where
+  pub valid : Valid (rowAt ws) c
+  pub known : KnownRows (length ws) c
+  pub chains : ChainsEnd ws h (lookup c)
+  pub literalsFit : length (literals c) ≤ mostLiterals
+  pub indexFits : maximumIndex c ≤ mostIndex
+
+-- After at most n records.
+pub record StateOk (n : ℕ) (S : State) : Type 0 where
+  pub rowsOk : RowsOk (arityOf S) (rowsOf S)
+  pub few : length (arities S) ≤ n
+  pub heldOk : held S ≤ mostBindings
+  pub clausesOk : Each (InOrder (rowsOf S) (held S)) (derivations S)
+  pub inputsOk : Each (λ (c : Derivation). InputsOf (derivations S) (uses c)) (derivations S)
+
+-- How many bindings are held.
+pub held-start : held start ≡ 0
+unfolding held
+held-start = refl
+
+pub held-symbol : (S : State) (k a : ℕ) → held (withSymbol S k a) ≡ held S
+unfolding held
+held-symbol S k a = refl
+
+pub held-row : (S : State) (k : ℕ) (w : Row) → held (withRow S k w) ≡ held S
+unfolding held
+held-row S k w = refl
+
+pub held-clause : (S : State) (k : ℕ) (c : Derivation) → held (withClause S k c) ≡ held S + length (ownBindings c)
+unfolding held
+held-clause S k c = refl
+
+-- The limits leave room for what the proofs need.
+links-enough : mostBindings ≤ mostLinks
+unfolding mostBindings mostLinks
+links-enough = lit≤ tt
+
+pub literals-enough : 7 ≤ mostLiterals
+unfolding mostLiterals
+literals-enough = lit≤ tt
+
+pub index-enough : 1 ≤ mostIndex
+unfolding mostIndex
+index-enough = lit≤ tt
+
+-- Inputs stay inputs while clauses are added.
+inputs-more : (cs ds : List Derivation) → ((i : ℕ) (c : Derivation) → entry cs i ≡ some c → entry ds i ≡ some c) → (us : List (List RowLiteral)) → InputsOf cs us → InputsOf ds us
+inputs-more cs ds f [] h = tt
+inputs-more cs ds f (u ∷ us) h = ((h .0 .0, f (h .0 .0) (input u) (h .0 .1)), inputs-more cs ds f us (h .1))
+
+pub inputs-append : (cs : List Derivation) (us vs : List (List RowLiteral)) → InputsOf cs us → InputsOf cs vs → InputsOf cs (us ++ vs)
+inputs-append cs [] vs h k = k
+inputs-append cs (u ∷ us) vs h k = (h .0, inputs-append cs us vs (h .1) k)
+
+pub inputs-kept : (c : Derivation) (cs : List Derivation) (us : List (List RowLiteral)) → InputsOf cs us → InputsOf (c ∷ cs) us
+inputs-kept c cs us h = inputs-more cs (c ∷ cs) (λ j d q. entry-more c cs j d q) us h
+
+rows-more : (ar ar′ : ℕ → Option ℕ) → ((s k : ℕ) → ar s ≡ some k → ar′ s ≡ some k) → (ws : List Row) → RowsOk ar ws → RowsOk ar′ ws
+rows-more ar ar′ f [] h = tt
+rows-more ar ar′ f (variable v ∷ ws) h = (h .0, rows-more ar ar′ f ws (h .1))
+rows-more ar ar′ f (application s xs ∷ ws) h = ((f s (length xs) (h .0 .0), h .0 .1), rows-more ar ar′ f ws (h .1))
+
+-- A new row makes no chain longer.
+chains-more : (ar : ℕ → Option ℕ) (w : Row) (ws : List Row) → RowOk ar ws w → (h : ℕ) (ρ : Environment) → KnownEnvironment (length ws) ρ → ChainsEnd ws h ρ → ChainsEnd (w ∷ ws) h ρ
+chains-more ar w ws R h ρ κ c e l = try (eqb (e .0) (length ws)) refl
+  where
+    free : e .0 ≡ length ws → (o : Option Expression) → ρ e ≡ o → o ≡ none
+    free p none q = refl
+    free p (some d) q = let z = κ e d q .0 in absurd (omega arith)
+
+    new : e .0 ≡ length ws → (w : Row) → (row : ℕ → Row) → row (e .0) ≡ w → Ends (follow row h ρ e)
+    new p (variable v) row q = rw (follow-unb row h ρ v e q (free p (ρ e) refl)) tt
+    new p (application s xs) row q = rw (follow-appl row h ρ s xs e q) tt
+
+    try : (b : Bool) → eqb (e .0) (length ws) ≡ b → Ends (follow (rowAt (w ∷ ws)) h ρ e)
+    try true q = new (eqb→eq (e .0) (length ws) (to-T (eqb (e .0) (length ws)) q)) w (rowAt (w ∷ ws)) (rw q)
+    try false q =
+        let m : ¬ (e .0 ≡ length ws) = not-equal (e .0) (length ws) (rw q) in
+        let k : e .0 < length ws = omega arith in
+        subst Ends (follow-agree (Known (length ws)) (Known (length ws)) (rowAt ws) (rowAt (w ∷ ws)) (λ d z. rw (eqb-below (d .0) (length ws) z)) h ρ κ e k) (c e k)
+
+pub no-chains : (ws : List Row) (h : ℕ) (ρ : Environment) → ((x : Variable) → ρ x ≡ none) → ChainsEnd ws h ρ
+no-chains ws h ρ f = short-le (λ r. r < length ws) (rowAt ws) 0 h ρ (omega arith) (λ e l. try e (rowAt ws (e .0)))
+  where
+    try : (e : Expression) (w : Row) → Ends (viewRow w ρ e)
+    try e (variable v) = rw (f e) tt
+    try e (application s xs) = tt
+
+order-more : (ar : ℕ → Option ℕ) (w : Row) (ws : List Row) → RowsOk ar ws → RowOk ar ws w → (h : ℕ) (c : Derivation) → InOrder ws h c → InOrder (w ∷ ws) h c
+order-more ar w ws R r h c k = record {
+  valid = valid-stable (length ws) (rowAt ws) (rowAt (w ∷ ws)) (λ r l. rw (eqb-below r (length ws) l)) below c (k .known) (k .valid);
+  known = known-more (length ws) (suc (length ws)) (omega arith) c (k .known);
+  chains = chains-more ar w ws r h (lookup c) (known-lookup (length ws) (rowAt ws) (rowAt ws) (λ r l. refl) below c (k .valid) (k .known)) (k .chains);
+  literalsFit = k .literalsFit;
+  indexFits = k .indexFits;
+}
+  where
+    below : (r s : ℕ) (xs : List ℕ) → rowAt ws r ≡ application s xs → r < length ws → Below (length ws) xs
+    below r s xs q l = rw q at (row-below ar ws R r)
+
+order-held : (ws : List Row) (h h′ : ℕ) → h ≤ h′ → (c : Derivation) → InOrder ws h c → InOrder ws h′ c
+order-held ws h h′ l c k = record { valid = k .valid; known = k .known; chains = short-le (λ r. r < length ws) (rowAt ws) h h′ (lookup c) l (k .chains); literalsFit = k .literalsFit; indexFits = k .indexFits }
+
+module _ (n : ℕ) (S : State) (H : StateOk n S) where
+  abbrev ws : List Row
+  ws = rowsOf S
+
+  abbrev row : ℕ → Row
+  row = rowOf S
+
+  pub below : (r s : ℕ) (xs : List ℕ) → rowOf S r ≡ application s xs → r < length (rowsOf S) → Below (length (rowsOf S)) xs
+  below r s xs q l = rw q at (row-below (arityOf S) ws (H .rowsOk) r)
+
+  pub symbol-added : (k a : ℕ) → StateOk (suc n) (withSymbol S k a)
+  symbol-added k a = record {
+    rowsOk = rows-more (arityOf S) (arityOf (withSymbol S k a)) (λ s j q. entry-more a (arities S) s j q) ws (H .rowsOk);
+    few = let z = H .few in omega arith;
+    heldOk = rw (held-symbol S k a) (H .heldOk);
+    clausesOk = rw (held-symbol S k a) (H .clausesOk);
+    inputsOk = H .inputsOk;
+  }
+
+  pub row-added : (k : ℕ) (w : Row) → RowOk (arityOf S) ws w → StateOk (suc n) (withRow S k w)
+  row-added k w R = record {
+    rowsOk = (R, H .rowsOk);
+    few = let z = H .few in omega arith;
+    heldOk = rw (held-row S k w) (H .heldOk);
+    clausesOk = rw (held-row S k w) (each-more (InOrder ws (held S)) (InOrder (w ∷ ws) (held S)) (λ c h. order-more (arityOf S) w ws (H .rowsOk) R (held S) c h) (derivations S) (H .clausesOk));
+    inputsOk = H .inputsOk;
+  }
+
+  pub clause-entered : (k : ℕ) (c : Derivation) → held S + length (ownBindings c) ≤ mostBindings → InOrder ws (held S + length (ownBindings c)) c → InputsOf (c ∷ derivations S) (uses c) → StateOk (suc n) (withClause S k c)
+  clause-entered k c l o i = record {
+    rowsOk = H .rowsOk;
+    few = let z = H .few in omega arith;
+    heldOk = rw (held-clause S k c) l;
+    clausesOk = rw (held-clause S k c) (o, each-more (InOrder ws (held S)) (InOrder ws (held S + length (ownBindings c))) (λ d h. order-held ws (held S) (held S + length (ownBindings c)) (omega arith) d h) (derivations S) (H .clausesOk));
+    inputsOk = (i, each-more (λ (d : Derivation). InputsOf (derivations S) (uses d)) (λ (d : Derivation). InputsOf (c ∷ derivations S) (uses d)) (λ d h. inputs-kept c (derivations S) (uses d) h) (derivations S) (H .inputsOk));
+  }
+
+  pub order-of : (i : ℕ) (c : Derivation) → clauseOf S i ≡ some c → InOrder (rowsOf S) (held S) c
+  order-of i c q = entry-each (InOrder ws (held S)) (derivations S) (H .clausesOk) i c q
+
+  pub inputs-of : (i : ℕ) (c : Derivation) → clauseOf S i ≡ some c → InputsOf (derivations S) (uses c)
+  inputs-of i c q = entry-each (λ (c : Derivation). InputsOf (derivations S) (uses c)) (derivations S) (H .inputsOk) i c q
+
+  pub known-of : (c : Derivation) → InOrder (rowsOf S) (held S) c → KnownEnvironment (length (rowsOf S)) (lookup c)
+  known-of c o = known-lookup (length ws) row row (λ r l. refl) below c (o .valid) (o .known)
+
+  pub held-links : held S ≤ mostLinks
+  held-links = omega (arith, H .heldOk, links-enough)
+
+  -- Unification over this state never loses its way, and what it adds keeps chains short.
+  pub room : (bs : List Binding) → noRoom (held S) bs ≡ false → held S + length bs < mostLinks
+  room bs q = omega (arith, leb-false-lt mostBindings (held S + length bs) q, links-enough)
+
+  abbrev pub ChainsAfter : Environment → Outcome → Type 0
+  ChainsAfter base o = ChainEnd (λ r. r < length (rowsOf S)) (Known (length (rowsOf S))) (rowOf S) (known-variable (length (rowsOf S)) (rowOf S) (rowOf S) (λ r l. refl) below) (known-arguments (length (rowsOf S)) (rowOf S) (rowOf S) (λ r l. refl) below) mostLinks (noRoom (held S)) base (held S) room o
+
+  unify-chains : (base : Environment) (e d : Expression) → ChainsEnd ws (held S) base → KnownEnvironment (length ws) base → Known (length ws) e → Known (length ws) d → ChainsAfter base (unify row (held S) base e d)
+  unify-chains base e d c κ a b =
+      chain-run (λ r. r < length ws) (Known (length ws)) row (known-variable (length ws) row row (λ r l. refl) below) (known-arguments (length ws) row row (λ r l. refl) below) mostLinks (noRoom (held S)) base (held S) room mostWork (unifying [] ((e, d) ∷ [])) (κ, (a, b, tt))
+      (rw add-zero (c, omega (arith, H .heldOk, links-enough)))
+
+  pub resolve-chains : (x y : Derivation × Literal) → InOrder (rowsOf S) (held S) (x .0) → InOrder (rowsOf S) (held S) (y .0) → (a b : ℕ) → numbered (literals (x .0)) a ≡ some (x .1) → numbered (literals (y .0)) b ≡ some (y .1)
+      → ChainsAfter (joined (maximumIndex (x .0)) (lookup (x .0)) (lookup (y .0))) (unifyResolve S x y)
+  resolve-chains x y X Y a b p q =
+      unify-chains (joined (maximumIndex (x .0)) (lookup (x .0)) (lookup (y .0))) (x .1 .1) (raise (maximumIndex (x .0)) (y .1 .1))
+      (short-joined (λ r. r < length ws) row (maximumIndex (x .0)) (maximumIndex (y .0)) (lookup (x .0)) (lookup (y .0)) (lookup-in row (x .0) (X .valid)) (lookup-in row (y .0) (Y .valid)) (held S) (X .chains) (Y .chains))
+      (known-joined (length ws) (maximumIndex (x .0)) (lookup (x .0)) (lookup (y .0)) (known-of (x .0) X) (known-of (y .0) Y))
+      (known-numbered (length ws) (x .0) (X .known) a (x .1) p) (known-numbered (length ws) (y .0) (Y .known) b (y .1) q)
+
+  pub factor-chains : (x y : Derivation × Literal) → InOrder (rowsOf S) (held S) (x .0) → (a b : ℕ) → numbered (literals (x .0)) a ≡ some (x .1) → numbered (literals (x .0)) b ≡ some (y .1) → ChainsAfter (lookup (x .0)) (unifyFactor S x y)
+  factor-chains x y X a b p q =
+      unify-chains (lookup (x .0)) (x .1 .1) (y .1 .1) (X .chains) (known-of (x .0) X)
+      (known-numbered (length ws) (x .0) (X .known) a (x .1) p) (known-numbered (length ws) (x .0) (X .known) b (y .1) q)

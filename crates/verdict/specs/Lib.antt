@@ -1,0 +1,7 @@
+pub mod State
+pub mod Refusal
+pub mod Step
+pub mod Verdict
+pub mod Tables
+pub mod Demands
+pub mod Cases

@@ -1,0 +1,205 @@
+-- Document 01, "Verdict, tables and refusals": the reasons with their numbers, and the tests of a record that give 3 to 9.
+use mathlib.Core.Bool.{Bool, true, false, _&&_, not}
+use mathlib.Core.Option.{Option, none, some}
+use mathlib.Core.List.{List, [], _∷_, map}
+use Prim.Native.Nat.{ℕ, _+_}
+use lib.Dec.{eqb, leb, ltb}
+use lib.ListN.{length, take, drop}
+use Rattle.record.specs.Record.{Record, otherKind, Kind, symbolKind, variableKind, applicationKind, inputKind, resolveKind, factorKind, kindNumbered, fieldA, fieldB, fieldC, fieldD}
+use Rattle.unify.specs.Row.{variable, Row, application, noSymbol}
+use Rattle.unify.specs.Unification.{Failure, failureNumber}
+use Rattle.derivation.specs.Derivation.{literals, Literal, RowLiteral, inputLiterals, Derivation, resolve, factor, numbered, maximumIndex}
+use Rattle.verdict.specs.State.{State, rowsOf, arityOf, clauseOf, rowOf}
+
+-- Reasons 1 to 9. What unification gives is in the crate unify.
+pub data Reason : Type 0 where
+  badLength shortTable badKind outOfRange notThere repeatedRow variableLiteral wrongSigns tooLarge : Reason
+  unification : Failure → Reason
+
+abbrev pub reasonNumber : Reason → ℕ
+reasonNumber badLength = 1
+reasonNumber shortTable = 2
+reasonNumber badKind = 3
+reasonNumber outOfRange = 4
+reasonNumber notThere = 5
+reasonNumber repeatedRow = 6
+reasonNumber variableLiteral = 7
+reasonNumber wrongSigns = 8
+reasonNumber tooLarge = 9
+reasonNumber (unification f) = failureNumber f
+
+-- The limits of document 01 on a clause.
+unfoldable pub mostLiterals : ℕ
+mostLiterals = 128
+
+unfoldable pub mostIndex : ℕ
+mostIndex = 4096
+
+abbrev pub kindOfRecord : Record → Kind
+kindOfRecord r = kindNumbered (r .kind)
+
+-- 3: the kind is 1 to 6.
+abbrev pub knownKind : Kind → Bool
+knownKind symbolKind = true
+knownKind variableKind = true
+knownKind applicationKind = true
+knownKind inputKind = true
+knownKind resolveKind = true
+knownKind factorKind = true
+knownKind otherKind = false
+
+-- 4: byte 1 and the variable number are in range, and unused fields are zero.
+abbrev pub zeros : List ℕ → Bool
+zeros [] = true
+zeros (n ∷ ns) = eqb n 0 && zeros ns
+
+abbrev pub inRange : Kind → Record → Bool
+inRange symbolKind r = leb (r .count) 6 && zeros (r .fields)
+inRange variableKind r = eqb (r .count) 0 && leb (fieldA r) 63 && zeros (drop 1 (r .fields))
+inRange applicationKind r = leb (r .count) 6 && zeros (drop (1 + r .count) (r .fields))
+inRange inputKind r = leb (r .count) 7 && zeros (drop (r .count) (r .fields))
+inRange resolveKind r = eqb (r .count) 0 && zeros (drop 4 (r .fields))
+inRange factorKind r = eqb (r .count) 0 && zeros (drop 3 (r .fields))
+inRange otherKind r = true
+
+-- The argument rows of an application.
+abbrev pub argumentRows : Record → List ℕ
+argumentRows r = take (r .count) (drop 1 (r .fields))
+
+-- A clause that a step names, with the literal that it names there, if both exist.
+abbrev pub literalIn : ℕ → Option Derivation → Option (Derivation × Literal)
+literalIn n none = none
+literalIn n (some c) = elim (numbered (literals c) n) [ some l ↦ some (c, l) | none ↦ none ]
+
+abbrev pub literalNamed : State → ℕ → ℕ → Option (Derivation × Literal)
+literalNamed S c n = literalIn n (clauseOf S c)
+
+abbrev pub leftOf : State → Record → Option (Derivation × Literal)
+leftOf S r = literalNamed S (fieldA r) (fieldB r)
+
+abbrev pub rightOf : State → Record → Option (Derivation × Literal)
+rightOf S r = literalNamed S (fieldC r) (fieldD r)
+
+-- In a factor the clause of the literal deleted is that of the literal kept.
+abbrev pub deletedOf : State → Record → Option (Derivation × Literal)
+deletedOf S r = literalNamed S (fieldA r) (fieldC r)
+
+-- 5: every symbol, row, clause and literal named exists, and the number of arguments is the symbol's arity.
+abbrev pub isThere {ℓ} : {A : Type ℓ} → Option A → Bool
+isThere none = false
+isThere (some a) = true
+
+abbrev pub hasArity : ℕ → Option ℕ → Bool
+hasArity n none = false
+hasArity n (some a) = eqb a n
+
+abbrev pub allBelow : ℕ → List ℕ → Bool
+allBelow n [] = true
+allBelow n (a ∷ xs) = ltb a n && allBelow n xs
+
+abbrev pub allThere : State → Kind → Record → Bool
+allThere S symbolKind r = true
+allThere S variableKind r = true
+allThere S applicationKind r = hasArity (r .count) (arityOf S (fieldA r)) && allBelow (length (rowsOf S)) (argumentRows r)
+allThere S inputKind r = allBelow (length (rowsOf S)) (map (λ l. l .1) (inputLiterals r))
+allThere S resolveKind r = isThere (leftOf S r) && isThere (rightOf S r)
+allThere S factorKind r = isThere (leftOf S r) && isThere (deletedOf S r)
+allThere S otherKind r = true
+
+-- 6: the row differs from every earlier row in kind, byte 1 or a field.
+abbrev pub newRow : Kind → Record → Row
+newRow variableKind r = variable (fieldA r)
+newRow applicationKind r = application (fieldA r) (argumentRows r)
+newRow symbolKind r = application noSymbol []
+newRow inputKind r = application noSymbol []
+newRow resolveKind r = application noSymbol []
+newRow factorKind r = application noSymbol []
+newRow otherKind r = application noSymbol []
+
+abbrev pub equalLists : List ℕ → List ℕ → Bool
+equalLists [] [] = true
+equalLists [] (y ∷ ys) = false
+equalLists (x ∷ xs) [] = false
+equalLists (x ∷ xs) (y ∷ ys) = eqb x y && equalLists xs ys
+
+abbrev pub equalRows : Row → Row → Bool
+equalRows (variable v) (variable w) = eqb v w
+equalRows (variable v) (application t ys) = false
+equalRows (application s xs) (variable w) = false
+equalRows (application s xs) (application t ys) = eqb s t && equalLists xs ys
+
+abbrev pub differsFromAll : Row → List Row → Bool
+differsFromAll w [] = true
+differsFromAll w (u ∷ us) = not (equalRows u w) && differsFromAll w us
+
+abbrev pub isNew : State → Kind → Record → Bool
+isNew S symbolKind r = true
+isNew S variableKind r = differsFromAll (newRow variableKind r) (rowsOf S)
+isNew S applicationKind r = differsFromAll (newRow applicationKind r) (rowsOf S)
+isNew S inputKind r = true
+isNew S resolveKind r = true
+isNew S factorKind r = true
+isNew S otherKind r = true
+
+-- 7: no literal's row is a variable.
+abbrev pub isApplication : Row → Bool
+isApplication (variable v) = false
+isApplication (application s xs) = true
+
+abbrev pub allApplications : (ℕ → Row) → List RowLiteral → Bool
+allApplications row [] = true
+allApplications row (l ∷ ls) = isApplication (row (l .1)) && allApplications row ls
+
+abbrev pub onApplications : State → Kind → Record → Bool
+onApplications S symbolKind r = true
+onApplications S variableKind r = true
+onApplications S applicationKind r = true
+onApplications S inputKind r = allApplications (rowOf S) (inputLiterals r)
+onApplications S resolveKind r = true
+onApplications S factorKind r = true
+onApplications S otherKind r = true
+
+-- 8: a resolve is on opposite signs; a factor is on equal signs and on two literals.
+abbrev pub equalSigns : Bool → Bool → Bool
+equalSigns true b = b
+equalSigns false b = not b
+
+-- A test of both literals that a step names; where one does not exist, an earlier test has failed.
+abbrev pub onBoth : (Derivation × Literal → Derivation × Literal → Bool) → Option (Derivation × Literal) → Option (Derivation × Literal) → Bool
+onBoth test none y = true
+onBoth test (some x) none = true
+onBoth test (some x) (some y) = test x y
+
+abbrev pub fittingSigns : State → Kind → Record → Bool
+fittingSigns S symbolKind r = true
+fittingSigns S variableKind r = true
+fittingSigns S applicationKind r = true
+fittingSigns S inputKind r = true
+fittingSigns S resolveKind r = onBoth (λ x y. not (equalSigns (x .1 .0) (y .1 .0))) (leftOf S r) (rightOf S r)
+fittingSigns S factorKind r = onBoth (λ x y. equalSigns (x .1 .0) (y .1 .0)) (leftOf S r) (deletedOf S r) && not (eqb (fieldB r) (fieldC r))
+fittingSigns S otherKind r = true
+
+-- 9: the result has at most 128 literals and a maximum index of at most 4,096. Neither depends on its bindings.
+abbrev pub resultFits : Derivation → Bool
+resultFits c = leb (length (literals c)) mostLiterals && leb (maximumIndex c) mostIndex
+
+abbrev pub withinLimits : State → Kind → Record → Bool
+withinLimits S symbolKind r = true
+withinLimits S variableKind r = true
+withinLimits S applicationKind r = true
+withinLimits S inputKind r = true
+withinLimits S resolveKind r = onBoth (λ x y. resultFits (resolve (x .0) (fieldB r) (y .0) (fieldD r) [])) (leftOf S r) (rightOf S r)
+withinLimits S factorKind r = onBoth (λ x y. resultFits (factor (x .0) (fieldB r) (fieldC r) [])) (leftOf S r) (deletedOf S r)
+withinLimits S otherKind r = true
+
+-- The tests of a record, in the order of their numbers.
+abbrev pub tests : State → Kind → Record → List (Bool × Reason)
+tests S kind r =
+    (knownKind kind, badKind)
+    ∷ (inRange kind r, outOfRange)
+    ∷ (allThere S kind r, notThere)
+    ∷ (isNew S kind r, repeatedRow)
+    ∷ (onApplications S kind r, variableLiteral)
+    ∷ (fittingSigns S kind r, wrongSigns)
+    ∷ (withinLimits S kind r, tooLarge)
+    ∷ []

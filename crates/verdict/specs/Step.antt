@@ -1,0 +1,74 @@
+-- Document 01, "Verdict, tables and refusals": one record on a state, and all records of a file.
+use mathlib.Core.Bool.{Bool, true, false}
+use mathlib.Core.Option.{Option, none, some}
+use mathlib.Core.List.{List, [], _∷_}
+use Prim.Native.Nat.{ℕ, suc}
+use lib.Dec.{T}
+use Rattle.record.specs.Record.{Record, otherKind, Kind, symbolKind, variableKind, applicationKind, inputKind, resolveKind, factorKind, fieldB, fieldC, fieldD}
+use Rattle.unify.specs.Environment.{Binding}
+use Rattle.unify.specs.Unification.{unify, Outcome, unified, failed}
+use Rattle.derivation.specs.Derivation.{input, Literal, inputLiterals, Derivation, resolve, factor, raise, maximumIndex, joined, lookup}
+use Rattle.verdict.specs.Refusal.{tests, Reason, unification, badKind, notThere, kindOfRecord, leftOf, rightOf, deletedOf, newRow}
+use Rattle.verdict.specs.State.{State, withSymbol, withRow, withClause, rowOf, held}
+
+-- A record that stands gives the next state; a refused one its reason.
+pub data Result : Type 0 where
+  stands : State → Result
+  refused : Reason → Result
+
+-- Each test holds, or the record is refused for the first that does not: lower numbers come first.
+unfoldable pub require : Bool → Reason → Result → Result
+require true reason next = next
+require false reason next = refused reason
+
+abbrev pub requireAll : List (Bool × Reason) → Result → Result
+requireAll [] next = next
+requireAll (t ∷ ts) next = require (t .0) (t .1) (requireAll ts next)
+
+-- A step's clause, with the bindings that unification adds.
+unfoldable pub addClause : State → ℕ → (List Binding → Derivation) → Outcome → Result
+addClause S k clause (unified bs n) = stands (withClause S k (clause bs))
+addClause S k clause (failed f) = refused (unification f)
+
+-- Resolve puts the left literal on the left, factor the one kept. The right literal is raised by the left maximum index.
+abbrev pub unifyResolve : State → Derivation × Literal → Derivation × Literal → Outcome
+unifyResolve S x y =
+    unify (rowOf S) (held S) (joined (maximumIndex (x .0)) (lookup (x .0)) (lookup (y .0))) (x .1 .1) (raise (maximumIndex (x .0)) (y .1 .1))
+
+abbrev pub unifyFactor : State → Derivation × Literal → Derivation × Literal → Outcome
+unifyFactor S x y = unify (rowOf S) (held S) (lookup (x .0)) (x .1 .1) (y .1 .1)
+
+-- A step on the literals that it names; the tests before have shown that they exist.
+abbrev pub onNamed : (Derivation × Literal → Derivation × Literal → Result) → Option (Derivation × Literal) → Option (Derivation × Literal) → Result
+onNamed step none y = refused notThere
+onNamed step (some x) none = refused notThere
+onNamed step (some x) (some y) = step x y
+
+-- What a record that has passed all tests adds.
+abbrev pub enter : State → ℕ → Kind → Record → Result
+enter S k symbolKind r = stands (withSymbol S k (r .count))
+enter S k variableKind r = stands (withRow S k (newRow variableKind r))
+enter S k applicationKind r = stands (withRow S k (newRow applicationKind r))
+enter S k inputKind r = stands (withClause S k (input (inputLiterals r)))
+enter S k resolveKind r =
+    onNamed (λ x y. addClause S k (resolve (x .0) (fieldB r) (y .0) (fieldD r)) (unifyResolve S x y)) (leftOf S r) (rightOf S r)
+enter S k factorKind r =
+    onNamed (λ x y. addClause S k (factor (x .0) (fieldB r) (fieldC r)) (unifyFactor S x y)) (leftOf S r) (deletedOf S r)
+enter S k otherKind r = refused badKind
+
+-- Record k on a state.
+abbrev pub step : State → ℕ → Record → Result
+step S k r = requireAll (tests S (kindOfRecord r) r) (enter S k (kindOfRecord r) r)
+
+-- Where reading ends: after the last record, or at the first refused one, with the state that the records before it left.
+pub data Ending : Type 0 where
+  allStand : State → Ending
+  refusedAt : State → Reason → ℕ → Ending
+
+abbrev pub read : State → ℕ → List Record → Ending
+read S k [] = allStand S
+read S k (r ∷ rs) = elim (step S k r) [ stands T ↦ read T (suc k) rs | refused reason ↦ refusedAt S reason k ]
+
+abbrev pub stateOf : Ending → State
+stateOf (allStand S) = S
+stateOf (refusedAt S reason k) = S

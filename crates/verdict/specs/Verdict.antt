@@ -1,0 +1,86 @@
+-- Document 01, "Verdict, tables and refusals": the answer to a whole file.
+use mathlib.Core.Bool.{Bool, true, false, _&&_}
+use mathlib.Core.Option.{Option, none, some}
+use mathlib.Core.List.{List, [], _∷_, _++_}
+use Prim.Native.Nat.{ℕ, _%_}
+use lib.Dec.{eqb, leb}
+use lib.ListN.{length}
+use Rattle.record.specs.Record.{pick, records}
+use Rattle.derivation.specs.Derivation.{literals, Derivation}
+use Rattle.verdict.specs.Refusal.{Reason, badLength, shortTable, reasonNumber}
+use Rattle.verdict.specs.State.{State, start, derivations, held}
+use Rattle.verdict.specs.Step.{read, Ending, allStand, refusedAt, stateOf}
+
+-- The verdict, with its numbers: 0 open; 1 accepted, and the clause; 2 refused, the reason and the record.
+pub data Verdict : Type 0 where
+  accepted : ℕ → Verdict
+  undecided : Verdict
+  refusal : Reason → ℕ → Verdict
+
+abbrev pub verdictNumbers : Verdict → List ℕ
+verdictNumbers undecided = 0 ∷ 0 ∷ 0 ∷ []
+verdictNumbers (accepted n) = 1 ∷ n ∷ 0 ∷ []
+verdictNumbers (refusal reason k) = 2 ∷ reasonNumber reason ∷ k ∷ []
+
+-- The answer: the verdict and how many symbols, rows, clauses and bindings there are.
+pub record Answer : Type 0 where
+  pub verdict : Verdict
+  pub symbols : ℕ
+  pub rows : ℕ
+  pub clauses : ℕ
+  pub bindings : ℕ
+
+-- The seven numbers of an answer: the verdict's three, then the counts.
+abbrev pub answerNumbers : Answer → List ℕ
+answerNumbers a = verdictNumbers (a .verdict) ++ (a .symbols ∷ a .rows ∷ a .clauses ∷ a .bindings ∷ [])
+
+-- The lowest number of a clause without literals.
+abbrev pub isEmpty {ℓ} : {A : Type ℓ} → List A → Bool
+isEmpty [] = true
+isEmpty (x ∷ xs) = false
+
+abbrev pub firstEmpty : List Derivation → Option ℕ
+firstEmpty [] = none
+firstEmpty (c ∷ cs) = elim (firstEmpty cs) [ some n ↦ some n | none ↦ pick (isEmpty (literals c)) (some (length cs)) none ]
+
+abbrev pub standing : Option ℕ → Verdict
+standing none = undecided
+standing (some n) = accepted n
+
+abbrev pub verdictOf : Ending → Verdict
+verdictOf (allStand S) = standing (firstEmpty (derivations S))
+verdictOf (refusedAt S reason k) = refusal reason k
+
+abbrev pub answerOf : Verdict → State → Answer
+answerOf v S = record { verdict = v; symbols = length (S .symbols); rows = length (S .rows); clauses = length (S .clauses); bindings = held S }
+
+-- The lengths that the four tables must have at least.
+pub record Lengths : Type 0 where
+  pub symbols : ℕ
+  pub rows : ℕ
+  pub clauses : ℕ
+  pub bindings : ℕ
+
+abbrev pub named : Lengths
+named = record { symbols = 4096; rows = 4096; clauses = 20480; bindings = 32768 }
+
+abbrev pub longEnough : Lengths → Bool
+longEnough n =
+    leb (named .symbols) (n .symbols) && leb (named .rows) (n .rows) && leb (named .clauses) (n .clauses) && leb (named .bindings) (n .bindings)
+
+-- 1: the length is at most 65,536 and a multiple of 16.
+abbrev pub fittingLength : ℕ → Bool
+fittingLength n = leb n 65536 && eqb (n % 16) 0
+
+-- The whole file is read, also after an empty clause; only a refusal ends the reading.
+unfoldable pub ending : List ℕ → Ending
+ending file = read start 0 (records file)
+
+-- 1 comes before 2, and both before any record.
+unfoldable pub check : List ℕ → Lengths → Answer
+check file lengths =
+    pick (fittingLength (length file))
+    (pick (longEnough lengths)
+    (answerOf (verdictOf (ending file)) (stateOf (ending file)))
+    (answerOf (refusal shortTable 0) start))
+    (answerOf (refusal badLength 0) start)
