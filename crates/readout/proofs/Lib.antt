@@ -1,1 +1,6 @@
+pub mod Positions
+pub mod Decimals
+pub mod TermTexts
+pub mod ArgumentTexts
+pub mod LiteralTexts
 pub mod CasesProved

@@ -1,3 +1,4 @@
 pub mod Text
 pub mod Readout
+pub mod Writing
 pub mod Cases

@@ -21,6 +21,11 @@ abbrev pub variableNumber : Row → ℕ
 variableNumber (variable v) = v
 variableNumber (application s xs) = 0
 
+-- The sign of a literal: `+` or `-`.
+abbrev pub signText : Bool → ℕ
+signText true = 43
+signText false = 45
+
 -- A term: `v`, number, dot and index; or `s`, number, and arguments in parentheses, with commas and no blanks.
 module _ (row : ℕ → Row) where
   abbrev mutual
@@ -37,10 +42,6 @@ module _ (row : ℕ → Row) where
     furtherText (cons t ts) = 44 ∷ (termText t ++ furtherText ts)
 
   -- A literal's text is defined on its value: its sign, and its atom; or `~` for one with more than 64 occurrences.
-  abbrev pub signText : Bool → ℕ
-  signText true = 43
-  signText false = 45
-
   abbrev pub literalText : Bool × Term Variable → List ℕ
   literalText l = signText (l .0) ∷ pick (leb (occurrences (l .1)) 64) (termText (l .1)) (126 ∷ [])
 

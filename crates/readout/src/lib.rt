@@ -1,1 +1,5 @@
-// The readout of a proof file. The definitions are in specs/.
+// The readout of a proof file. The definitions are in specs/: `Text` and `Readout` have what it is, and `Writing` how the parts of
+// this program go about it.
+pub mod literal;
+pub mod term;
+pub mod text;

@@ -1,7 +1,7 @@
 // Unification of expressions under bindings, over a table of rows and an array of values. The definitions are in specs/:
 // `Unification` has what unification is, and `Unifying` what this crate promises of it.
 mod bindings;
-mod follow;
+pub mod follow;
 pub mod nodes;
 mod occurs;
 mod pairs;
