@@ -59,6 +59,10 @@ fn run_group(name: &[u8], path: &[u8]) -> bool {
     let mut space = [0u8; 655360];
     let n = io::read_full(fd, &mut space);
     libc::close(fd);
+    if n == 0 {
+        complain(name, b" is empty or cannot be read\n");
+        return false;
+    }
     if n == 655360 {
         complain(name, b" is too long\n");
         return false;

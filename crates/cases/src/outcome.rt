@@ -53,7 +53,9 @@ pub fn numbers_of(v: Verdict) -> Numbers
 }
 
 // Checks a file with tables that are just long enough and zero before.
-pub fn outcome_of(file: &[u8]) -> Outcome {
+pub fn outcome_of(file: &[u8]) -> Outcome
+    ensures { λ o. ⌜ OutcomeOf (now (file .entry)) zeroTables o ⌝ }
+{
     let mut symbols = [0u16; 4096];
     let mut rows = [0u16; 4096];
     let mut clauses = [0u16; 20480];
