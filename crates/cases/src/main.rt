@@ -10,6 +10,8 @@ use pack::Counted;
 use pack::Entry;
 use pack::count_files;
 use pack::entry_at;
+ghost use Prim.Native.Nat.{_≤_};
+ghost use lib.ListN.{length};
 
 // A line for each file of a pack.
 fn print_files(pack: &[u8]) {
@@ -26,23 +28,33 @@ fn print_files(pack: &[u8]) {
 }
 
 // A line that says what is wrong with a pack.
-fn complain(name: &[u8], what: &[u8]) {
-    print::text(name);
+fn complain(path: &[u8], what: &[u8]) {
+    print::text(path);
     print::text(what);
 }
 
-// The lines of a group, with its name and the number of its files before them. Whether its pack is whole.
-fn print_group(name: &[u8], pack: &[u8]) -> bool {
+// The line of a group: its name, which is the path of its pack without `.bin`, and the number of its files.
+fn print_name(path: &[u8], files: usize)
+    requires { ⌜ 4 ≤ length (now path) ⌝ }
+{
+    let end = path.len() - 4;
+    print::text(&path[0..end]);
+    print::text(b" ");
+    print::count(files);
+    print::text(b"\n");
+}
+
+// The lines of a group. Whether its pack is whole.
+fn print_group(path: &[u8], pack: &[u8]) -> bool
+    requires { ⌜ 4 ≤ length (now path) ⌝ }
+{
     match count_files(pack) {
         Counted::Cut => {
-            complain(name, b" is cut short\n");
+            complain(path, b" is cut short\n");
             false
         }
         Counted::Files(n) => {
-            print::text(name);
-            print::text(b" ");
-            print::count(n);
-            print::text(b"\n");
+            print_name(path, n);
             print_files(pack);
             true
         }
@@ -50,45 +62,47 @@ fn print_group(name: &[u8], pack: &[u8]) -> bool {
 }
 
 // Reads the pack of a group and prints its lines. Whether it could be read whole.
-fn run_group(name: &[u8], path: &[u8]) -> bool {
+fn run_group(path: &[u8]) -> bool
+    requires { ⌜ 4 ≤ length (now path) ⌝ }
+{
     let fd = os::open_read(path);
     if fd < 0 {
-        complain(name, b" cannot be opened\n");
+        complain(path, b" cannot be opened\n");
         return false;
     }
     let mut space = [0u8; 655360];
     let n = io::read_full(fd, &mut space);
     libc::close(fd);
     if n == 0 {
-        complain(name, b" is empty or cannot be read\n");
+        complain(path, b" is empty or cannot be read\n");
         return false;
     }
     if n == 655360 {
-        complain(name, b" is too long\n");
+        complain(path, b" is too long\n");
         return false;
     }
-    print_group(name, &space[..n])
+    print_group(path, &space[..n])
 }
 
 // All groups in order, up to the first whose pack cannot be read.
 fn main() {
-    if !run_group(b"cases", b"cases.bin") {
+    if !run_group(b"cases.bin") {
         return;
     }
-    if !run_group(b"published", b"published.bin") {
+    if !run_group(b"published.bin") {
         return;
     }
-    if !run_group(b"edges", b"edges.bin") {
+    if !run_group(b"edges.bin") {
         return;
     }
-    if !run_group(b"refused", b"refused.bin") {
+    if !run_group(b"refused.bin") {
         return;
     }
-    if !run_group(b"deep", b"deep.bin") {
+    if !run_group(b"deep.bin") {
         return;
     }
-    if !run_group(b"random", b"random.bin") {
+    if !run_group(b"random.bin") {
         return;
     }
-    run_group(b"long", b"long.bin");
+    run_group(b"long.bin");
 }
