@@ -4,3 +4,4 @@ pub mod TermTexts
 pub mod ArgumentTexts
 pub mod LiteralTexts
 pub mod CasesProved
+pub mod PieceLaws

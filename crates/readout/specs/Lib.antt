@@ -2,3 +2,4 @@ pub mod Text
 pub mod Readout
 pub mod Writing
 pub mod Cases
+pub mod Pieces
