@@ -1,8 +1,8 @@
 //! The stored examples are what the example program writes, and the page beside them says what they say.
 
-use std::fs;
-use std::path::Path;
+mod pages;
 
+use pages::{cells, hexadecimal, section, stored, text};
 use yestrwyn::outcome::outcome;
 use yestrwyn::record::{kind, read};
 
@@ -14,24 +14,6 @@ mod duty;
 mod files;
 #[path = "../examples/trips/permit.rs"]
 mod permit;
-
-/// A file of the repository, by its path from the root.
-fn stored(path: &str) -> Vec<u8> {
-    let path = Path::new(env!("CARGO_MANIFEST_DIR")).join("..").join(path);
-    fs::read(&path).unwrap_or_else(|error| panic!("{}: {error}", path.display()))
-}
-
-/// The same as text.
-fn text(path: &str) -> String {
-    String::from_utf8(stored(path)).expect("text")
-}
-
-/// The part of a page under a heading of the second level.
-fn section<'a>(page: &'a str, heading: &str) -> &'a str {
-    let start = page.find(&format!("\n## {heading}\n")).unwrap_or_else(|| panic!("no section {heading}"));
-    let rest = &page[start + 4..];
-    &rest[..rest.find("\n## ").unwrap_or(rest.len())]
-}
 
 #[test]
 fn stored_files_are_what_the_example_writes() {
@@ -56,9 +38,8 @@ fn verdicts() {
 fn the_page_explains_every_line_of_every_readout() {
     let page = text("examples/README.md");
     for (name, _) in files::files() {
-        let explained: Vec<&str> = section(&page, name)
-            .lines()
-            .filter_map(|line| line.strip_prefix("| `")?.split('`').next())
+        let explained: Vec<&str> = cells(section(&page, name))
+            .filter_map(|row| row.0.strip_prefix('`')?.strip_suffix('`'))
             .collect();
         let readout = text(&format!("examples/{name}.txt"));
         assert_eq!(explained, readout.lines().collect::<Vec<_>>(), "{name}");
@@ -84,6 +65,5 @@ fn the_refused_file_has_one_slip() {
     let (right, wrong) = (duty::file(), duty::refused_file());
     let differing: Vec<usize> = (0..right.len()).filter(|&at| right[at] != wrong[at]).collect();
     assert_eq!(differing, [22 * 16 + 8]);
-    let bytes: Vec<String> = wrong[22 * 16..23 * 16].iter().map(|byte| format!("{byte:02x}")).collect();
-    assert!(section(&text("examples/README.md"), "refused").contains(&format!("`{}`", bytes.join(" "))));
+    assert!(section(&text("examples/README.md"), "refused").contains(&hexadecimal(&wrong)[22]));
 }
