@@ -1,8 +1,8 @@
-//! The stored examples are what the example program writes, and the page beside them says what they say.
+//! The stored examples are what the example program writes, and the pages say what they say.
 
 mod pages;
 
-use pages::{cells, hexadecimal, section, stored, text};
+use pages::{cells, hexadecimal, indented, section, stored, text};
 use yestrwyn::outcome::outcome;
 use yestrwyn::record::{kind, read};
 
@@ -44,6 +44,11 @@ fn the_page_explains_every_line_of_every_readout() {
         let readout = text(&format!("examples/{name}.txt"));
         assert_eq!(explained, readout.lines().collect::<Vec<_>>(), "{name}");
     }
+}
+
+#[test]
+fn the_front_page_prints_the_first_readout() {
+    assert!(text("README.md").contains(&format!("\n\n{}\n", indented(&text("examples/curfew.txt")))));
 }
 
 #[test]
