@@ -1,8 +1,9 @@
 //! The proved check and the second implementation on the same files in one run: the times and their ratio.
+//! Times are those that the thread had a processor, so that other programs on the machine matter less.
 
 use std::fmt::Display;
 use std::hint::black_box;
-use std::time::{Duration, Instant};
+use std::time::Duration;
 
 use yestrwyn::build::{app, neg, pos, var, FileBuilder};
 use yestrwyn::examples::{deep, heavy};
@@ -54,11 +55,29 @@ fn line(name: impl Display, rounds: u32, files: &[&[u8]], tables: &mut Tables) {
 }
 
 fn time(files: &[&[u8]], tables: &mut Tables, check: impl Fn(&[u8], &mut Tables)) -> Duration {
-    let start = Instant::now();
+    let start = processor_time();
     for file in files {
         check(file, tables);
     }
-    start.elapsed()
+    processor_time().saturating_sub(start)
+}
+
+/// The time that this thread has had a processor.
+fn processor_time() -> Duration {
+    #[repr(C)]
+    struct Timespec {
+        seconds: i64,
+        nanoseconds: i64,
+    }
+    extern "C" {
+        fn clock_gettime(clock: i32, time: *mut Timespec) -> i32;
+    }
+    const THREAD_CLOCK: i32 = 3;
+    let mut time = Timespec { seconds: 0, nanoseconds: 0 };
+    // Safety: the C library fills the struct that it is given, which has the layout of its own.
+    let status = unsafe { clock_gettime(THREAD_CLOCK, &mut time) };
+    assert_eq!(status, 0, "the thread's clock");
+    Duration::new(time.seconds as u64, time.nanoseconds as u32)
 }
 
 /// A count upward: each step resolves the rule with the last result, as right parent.
