@@ -1,7 +1,8 @@
-//! Stored vectors: packs of files, and beside each pack what every file gives. The format is
-//! described in `vectors/README.md`.
+//! Stored vectors: packs of files, what every file gives, and what the program `cases` prints for
+//! them. The format is described in `vectors/README.md`.
 
 use std::fmt::Write;
+use std::path::{Path, PathBuf};
 
 use crate::examples::{cases, deep, edges, published, refusals, Example};
 use crate::outcome::{outcome, Outcome};
@@ -34,6 +35,27 @@ pub fn groups() -> Vec<Group> {
         Group { name: "random", examples: (0..RANDOM_FILES).map(random_example).collect() },
         Group { name: "long", examples: long_examples() },
     ]
+}
+
+/// Where a group's pack is stored: in the folder that the program `cases` is run in.
+pub fn pack_path(group: &str) -> PathBuf {
+    repository().join("crates/cases/data").join(format!("{group}.bin"))
+}
+
+/// Where the results of a group are stored.
+pub fn results_path(group: &str) -> PathBuf {
+    repository().join("rust/vectors").join(format!("{group}.txt"))
+}
+
+/// Where the text is stored that the program `cases` must print.
+pub fn listing_path() -> PathBuf {
+    repository().join("crates/cases/stdout")
+}
+
+/// The repository's root: this package is a folder of it.
+fn repository() -> &'static Path {
+    let package = Path::new(env!("CARGO_MANIFEST_DIR"));
+    package.parent().unwrap_or(package)
 }
 
 /// The random file of a seed; each fourth one is damaged with the same seed.
@@ -94,8 +116,7 @@ pub fn describe(text: &mut String, name: &str, outcome: &Outcome) {
             line(text, table, &joined(used.iter().copied()));
         }
     }
-    let hashes = outcome.tables().map(|cells| hash(cells.iter().flat_map(|cell| cell.to_le_bytes())));
-    line(text, "hashes", &hashes.map(|hash| format!("{hash:016x}")).join(" "));
+    line(text, "hashes", &hashes(outcome));
     let works: Vec<String> =
         outcome.works.iter().map(|step| format!("{}:{}", step.record, step.work)).collect();
     if works.len() <= WORKS_IN_FULL {
@@ -110,6 +131,26 @@ pub fn describe(text: &mut String, name: &str, outcome: &Outcome) {
             line(text, "|", &part);
         }
     }
+}
+
+/// What the program `cases` prints for all groups.
+pub fn listing(groups: &[Group]) -> String {
+    let mut text = String::new();
+    for group in groups {
+        line(&mut text, group.name, &group.examples.len());
+        for (place, example) in group.examples.iter().enumerate() {
+            let outcome = outcome(&example.file);
+            let answer = joined(outcome.answer.numbers());
+            line(&mut text, &place.to_string(), &format!("{answer} {}", hashes(&outcome)));
+        }
+    }
+    text
+}
+
+/// The hash of each table, in hexadecimal digits.
+fn hashes(outcome: &Outcome) -> String {
+    let hashes = outcome.tables().map(|cells| hash(cells.iter().flat_map(|cell| cell.to_le_bytes())));
+    hashes.map(|hash| format!("{hash:016x}")).join(" ")
 }
 
 /// A line: a word, and what follows it if anything does.

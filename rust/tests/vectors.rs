@@ -1,37 +1,44 @@
 //! The stored vectors are what the generator writes, and the packs can be read back.
 
 use std::fs;
-use std::path::Path;
+use std::path::PathBuf;
 
-use yestrwyn::vectors::{expected, groups, pack, unpack};
+use yestrwyn::vectors::{expected, groups, listing, listing_path, pack, pack_path, results_path, unpack};
+
+const ADVICE: &str = "write them anew with `cargo run --release --bin vectors`";
 
 /// A stored file of the vectors.
-fn stored(name: &str) -> Vec<u8> {
-    let path = Path::new(env!("CARGO_MANIFEST_DIR")).join("vectors").join(name);
-    fs::read(&path).unwrap_or_else(|error| panic!("{name}: {error}"))
+fn stored(path: PathBuf) -> Vec<u8> {
+    fs::read(&path).unwrap_or_else(|error| panic!("{}: {error}", path.display()))
+}
+
+/// A stored text is ours; otherwise the first line that differs is shown.
+fn same_text(path: PathBuf, ours: &str) {
+    let name = path.display().to_string();
+    let text = String::from_utf8(stored(path)).expect("text");
+    let differs = text.lines().zip(ours.lines()).find(|(stored, ours)| stored != ours);
+    assert_eq!(differs, None, "{name}: {ADVICE}");
+    assert_eq!(text.len(), ours.len(), "{name}: {ADVICE}");
 }
 
 #[test]
 fn stored_vectors_are_up_to_date() {
     for group in groups() {
-        let advice = "write them anew with `cargo run --release --bin vectors`";
-        assert!(
-            stored(&format!("{}.bin", group.name)) == pack(&group.examples),
-            "{}.bin differs: {advice}",
-            group.name
-        );
-        let text = String::from_utf8(stored(&format!("{}.txt", group.name))).expect("text");
-        let ours = expected(&group);
-        let differs = text.lines().zip(ours.lines()).find(|(stored, ours)| stored != ours);
-        assert_eq!(differs, None, "{}.txt: {advice}", group.name);
-        assert_eq!(text.len(), ours.len(), "{}.txt: {advice}", group.name);
+        let same = stored(pack_path(group.name)) == pack(&group.examples);
+        assert!(same, "{}.bin differs: {ADVICE}", group.name);
+        same_text(results_path(group.name), &expected(&group));
     }
+}
+
+#[test]
+fn stored_listing_is_up_to_date() {
+    same_text(listing_path(), &listing(&groups()));
 }
 
 #[test]
 fn packs_can_be_read_back() {
     for group in groups() {
-        let bytes = stored(&format!("{}.bin", group.name));
+        let bytes = stored(pack_path(group.name));
         let files = unpack(&bytes).expect("a whole pack");
         assert!(files.iter().eq(group.examples.iter().map(|example| &example.file)), "{}", group.name);
         assert_eq!(unpack(&bytes[..bytes.len() - 1]), None);
@@ -40,10 +47,9 @@ fn packs_can_be_read_back() {
 
 #[test]
 fn the_vectors_are_small() {
-    let total: usize = groups()
-        .iter()
-        .flat_map(|group| ["bin", "txt"].map(|ending| stored(&format!("{}.{ending}", group.name)).len()))
-        .sum();
+    let paths = |name| [pack_path(name), results_path(name)];
+    let total: usize =
+        groups().iter().flat_map(|group| paths(group.name)).map(|path| stored(path).len()).sum();
     assert!(total < 3_000_000, "{total} bytes");
 }
 

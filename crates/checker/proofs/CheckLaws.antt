@@ -1,5 +1,5 @@
 -- The whole check: its two tests before the first record, the tables cleared, and the answer of what was read.
-use mathlib.Core.Path.{_≡_, refl, sym, ap, ap₂, _∙_}
+use mathlib.Core.Path.{_≡_, refl, sym, ap, ap₂, _∙_, subst}
 use mathlib.Core.Bool.{Bool, false, _&&_}
 use mathlib.Core.Option.{Option, none, some}
 use mathlib.Core.List.{List, [], _∷_, _++_, map, append-assoc}
@@ -14,8 +14,8 @@ use Rattle.derivation.specs.Derivation.{literals, Derivation}
 use Rattle.derivation.specs.Stored.{literalsCell}
 use Rattle.checker.specs.Given.{answerGiven, numbersWith, firstZero, standingNumbers, endedNumbers}
 use Rattle.checker.specs.Program.{clearedPart}
-use Rattle.checker.specs.Progress.{countsOf}
-use Rattle.checker.specs.Reader.{Begun, EndedWith, RecordsRead, Readable, FileRead}
+use Rattle.checker.specs.Progress.{nodeTableOf, countsOf}
+use Rattle.checker.specs.Reader.{Begun, EndsAs, EndedWith, RecordsRead, Readable, FileRead, FileReadWith, ReadTo}
 use Rattle.verdict.specs.Refusal.{Reason, reasonNumber}
 use Rattle.verdict.specs.State.{State, bindingsOf}
 use Rattle.verdict.specs.Step.{read, Ending, allStand, refusedAt, stateOf}
@@ -59,19 +59,19 @@ module _ {F : List ℕ} {s r C B : List ℕ} (R : Readable F (tablesWith s r C B
   table-sizes = sizes (tablesWith s r C B) (R .long)
 
   module _ {s′ r′ C′ B′ A : List ℕ} (ps : s′ ≡ clearedPart 0 4096 s) (pr : r′ ≡ clearedPart 0 4096 r) (pc : C′ ≡ clearedPart 0 20480 C) (pb : B′ ≡ clearedPart 0 32768 B) (pa : length A ≡ 524416) where
-    pub begun : Begun F (tablesWith s′ r′ C′ B′) (replicate 32768 0) A
-    begun = record {
+    pub begun : (N : List ℕ) → N ≡ nodeTableOf [] → Begun F (tablesWith s′ r′ C′ B′) N A
+    begun N isEmpty = record {
       tablesBefore = tablesWith s r C B;
       fit = R .fit;
       long = R .long;
       cleared = λ i. record { symbols = ps i; rows = pr i; clauses = pc i; bindings = pb i };
-      nodes = refl;
+      nodes = isEmpty;
       values = pa;
     }
 
-    pub read-begun : (e : Ended) (here : Tables) → RecordsRead F (tablesWith s′ r′ C′ B′) (replicate 32768 0) A e here → EndedWith F (tablesWith s r C B) e here
+    pub read-begun : (N : List ℕ) → N ≡ nodeTableOf [] → (e : Ended) (here : Tables) (N′ A′ : List ℕ) → RecordsRead F (tablesWith s′ r′ C′ B′) N A e here N′ A′ → EndedWith F (tablesWith s r C B) e here N′ A′
     unfolding begun
-    read-begun e here X = X .read begun
+    read-begun N isEmpty e here N′ A′ X = X .read (begun N isEmpty)
 
 -- The first clause without literals, by the table's cells.
 empty-length : {A : Type 0} (xs : List A) → eqb (length xs) 0 ≡ isEmpty xs
@@ -115,6 +115,14 @@ module _ (F : List ℕ) (t : Tables) (here : Tables) (a : Answer) where
     tables = h ∙ ap (λ (x : Ending). filledTables (stateOf x) t) (sym q);
   }
 
-  pub file-read : (e : Ended) → EndedWith F t e here → answerGiven a ≡ endedNumbers e (here .clauses) → FileRead F t a here
-  file-read (All n) X p = all-read-numbers n (X .state) (X .ended .0) (X .ended .1) (X .tables) p
-  file-read (Refused number k n) X p = refused-read-numbers number k n (X .state) (X .ended .1 .0) (X .ended .0) (X .ended .1 .1) (X .ended .1 .2) (X .tables) p
+  file-read : (e : Ended) (N A : List ℕ) → EndedWith F t e here N A → answerGiven a ≡ endedNumbers e (here .clauses) → FileRead F t a here
+  file-read (All n) N A X p = all-read-numbers n (X .state) (X .ended .0) (X .ended .1) (X .left .kept .tables) p
+  file-read (Refused number k n) N A X p = refused-read-numbers number k n (X .state) (X .ended .1 .0) (X .ended .0) (X .ended .1 .1) (X .ended .1 .2) (X .left .kept .tables) p
+
+  -- The state that reading ended with is the definition's.
+  ended-state : (e : Ended) (S : State) → EndsAs F S e → S ≡ stateOf (ending F)
+  ended-state (All n) S q = sym (ap stateOf (q .1))
+  ended-state (Refused number k n) S q = sym (ap stateOf (q .1 .1))
+
+  pub file-read-with : (e : Ended) (N A : List ℕ) → EndedWith F t e here N A → answerGiven a ≡ endedNumbers e (here .clauses) → FileReadWith F t a here N A
+  file-read-with e N A X p = record { file = file-read e N A X p; left = subst (λ (S : State). ReadTo F t S here N A) (ended-state e (X .state) (X .ended)) (X .left) }

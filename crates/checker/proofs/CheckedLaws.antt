@@ -7,13 +7,14 @@ use Prim.Native.Nat.{ℕ, _+_, _-_, _*_, _<_}
 use native.Mathlib.Omega.{arith}
 use lib.ListN.{length, getD, drop, replicate, length-map, List·getD-append}
 use Rattle.unify.specs.Row.{Variable}
-use Rattle.unify.proofs.Tests.{some-injective}
+use Rattle.unify.proofs.Tests.{true-not-false, some-injective}
 use Rattle.derivation.specs.Derivation.{Derivation, maximumIndex}
-use Rattle.checker.specs.Contract.{Checked}
+use Rattle.checker.specs.Contract.{Checked, CheckedWith, stateLeft}
 use Rattle.checker.specs.Given.{verdictGiven, answerGiven, untouchedNumbers}
-use Rattle.checker.specs.Reader.{Readable, FileRead}
+use Rattle.checker.specs.Reader.{Readable, FileRead, Unwritten, FileReadWith}
+use Rattle.checker.specs.Progress.{nodeTableOf}
 use Rattle.verdict.specs.Refusal.{Reason, badLength, shortTable}
-use Rattle.verdict.specs.State.{derivations, clauseOf, held}
+use Rattle.verdict.specs.State.{State, start, rowsOf, derivations, clauseOf, held}
 use Rattle.verdict.specs.Step.{stateOf}
 use Rattle.verdict.specs.Tables.{Tables, lengthsOf, clauseCells, tablesAfter}
 use Rattle.verdict.specs.Verdict.{refusal, check, accepted, undecided, verdictNumbers, answerNumbers, longEnough, fittingLength, ending}
@@ -100,3 +101,28 @@ module _ (F : List ℕ) (t : Tables) (a : Answer) (b : Bool) (isFitting : b ≡ 
     checked-read q here R =
         let l : longEnough (lengthsOf t) ≡ true = sym isLong ∙ not-false d q in
         checked F t a here (R .numbers ∙ sym (ap answerNumbers (check-reads F t fits l))) (R .tables ∙ sym (tables-read F t fits l))
+
+-- The same with a node table: the state that the check leaves, in each of the three ways.
+module _ (F : List ℕ) (t : Tables) where
+  pub left-length : fittingLength (length F) ≡ false → stateLeft F (lengthsOf t) ≡ start
+  left-length f = rw f
+
+  pub left-tables : fittingLength (length F) ≡ true → longEnough (lengthsOf t) ≡ false → stateLeft F (lengthsOf t) ≡ start
+  left-tables f l = rw (f, l)
+
+  pub left-read : fittingLength (length F) ≡ true → longEnough (lengthsOf t) ≡ true → stateLeft F (lengthsOf t) ≡ stateOf (ending F)
+  left-read f l = rw (f, l)
+
+module _ (F : List ℕ) (t : Tables) (a : Answer) (b : Bool) (isFitting : b ≡ fittingLength (length F)) where
+  pub checked-length-with : not b ≡ true → answerGiven a ≡ untouchedNumbers 1 → (N A : List ℕ) → Unwritten N A → CheckedWith F t a t N A
+  checked-length-with q p N A U =
+      record { checked = checked-length F t a b isFitting q p; nodes = U .nodes ∙ ap (λ (S : State). nodeTableOf (rowsOf S)) (sym (left-length F t (sym isFitting ∙ not-true b q))); values = U .values; read = λ f l. absurd (true-not-false f (sym isFitting ∙ not-true b q)) }
+
+  module _ (fit : not b ≡ false) (d : Bool) (isLong : d ≡ longEnough (lengthsOf t)) where
+    pub checked-tables-with : not d ≡ true → answerGiven a ≡ untouchedNumbers 2 → (N A : List ℕ) → Unwritten N A → CheckedWith F t a t N A
+    checked-tables-with q p N A U =
+        record { checked = checked-tables F t a b isFitting fit d isLong q p; nodes = U .nodes ∙ ap (λ (S : State). nodeTableOf (rowsOf S)) (sym (left-tables F t (sym isFitting ∙ not-false b fit) (sym isLong ∙ not-true d q))); values = U .values; read = λ f l. absurd (true-not-false l (sym isLong ∙ not-true d q)) }
+
+    pub checked-read-with : not d ≡ false → (here : Tables) (N A : List ℕ) → FileReadWith F t a here N A → CheckedWith F t a here N A
+    checked-read-with q here N A R =
+        record { checked = checked-read F t a b isFitting fit d isLong q here (R .file); nodes = R .left .kept .nodes ∙ ap (λ (S : State). nodeTableOf (rowsOf S)) (sym (left-read F t (sym isFitting ∙ not-false b fit) (sym isLong ∙ not-false d q))); values = R .left .kept .values; read = λ f l. R .left }

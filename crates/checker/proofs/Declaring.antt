@@ -128,7 +128,7 @@ module _ (F : List ℕ) (t : Tables) (k : ℕ) (S : State) (n : Counts) (here : 
       try true q =
           let p = at ∙ ap (λ (b : Bool). require b outOfRange (stands (withSymbol S k (rec .count)))) q in
           (withSymbol S k (rec .count), p, kept-next F t k S n here N A K l (withSymbol S k (rec .count)) p (moreSymbols n) (withSymbols (set (here .symbols) (n .symbols) k)) N A (symbol-counts (rec .count)) (made (K .tables)) (K .nodes) (K .values))
-      try false q = (outOfRange, at ∙ ap (λ (b : Bool). require b outOfRange (stands (withSymbol S k (rec .count)))) q, refl, K .tables)
+      try false q = (outOfRange, at ∙ ap (λ (b : Bool). require b outOfRange (stands (withSymbol S k (rec .count)))) q, refl, K .tables, K .nodes, K .values)
 
   -- One row more.
   row-table : (w : Row) → set (here .rows) (n .rows) k ≡ filled 4096 (rowCells (withRow S k w)) (t .rows)
@@ -172,7 +172,7 @@ module _ (F : List ℕ) (t : Tables) (k : ℕ) (S : State) (n : Counts) (here : 
       made = λ i. record { symbols = symbols-here i; rows = row-table w i; clauses = clauses-here i; bindings = bindings-here i }
 
       try : (b : Bool) → isRepeated N (n .rows) (nodeCells code part) ≡ b → RowNext (pick b (rowLeft (Refused (reasonNumber repeatedRow)) (here .rows) N) (rowLeft (Stands (moreRows n)) (set (here .rows) (n .rows) k) (withNode N (n .rows) (nodeCells code part))))
-      try true p = (repeatedRow, at ∙ ap (λ (b : Bool). require b repeatedRow (stands (withRow S k w))) (differ true p (differsFromAll w (rowsOf S)) refl), refl, K .tables)
+      try true p = (repeatedRow, at ∙ ap (λ (b : Bool). require b repeatedRow (stands (withRow S k w))) (differ true p (differsFromAll w (rowsOf S)) refl), refl, K .tables, K .nodes, K .values)
       try false p =
           let s = at ∙ ap (λ (b : Bool). require b repeatedRow (stands (withRow S k w))) (differ false p (differsFromAll w (rowsOf S)) refl) in
           (withRow S k w, s, kept-next F t k S n here N A K l (withRow S k w) s (moreRows n) (withRows (set (here .rows) (n .rows) k)) (withNode N (n .rows) (nodeCells code part)) A (row-counts w) made place (K .values))
@@ -194,7 +194,7 @@ module _ (F : List ℕ) (t : Tables) (k : ℕ) (S : State) (n : Counts) (here : 
 
       try : (b : Bool) → inRange variableKind rec ≡ b → RowNext (pick b (rowEntered part k 1 n (here .rows) N) (rowLeft (Refused (reasonNumber outOfRange)) (here .rows) N))
       try true q = row-entered (variable (fieldA rec)) 1 (variable-cells part q) (fits q) (at ∙ ap (λ (b : Bool). require b outOfRange (require (differsFromAll (variable (fieldA rec)) (rowsOf S)) repeatedRow (stands (withRow S k (variable (fieldA rec)))))) q)
-      try false q = (outOfRange, at ∙ ap (λ (b : Bool). require b outOfRange (require (differsFromAll (variable (fieldA rec)) (rowsOf S)) repeatedRow (stands (withRow S k (variable (fieldA rec)))))) q, refl, K .tables)
+      try false q = (outOfRange, at ∙ ap (λ (b : Bool). require b outOfRange (require (differsFromAll (variable (fieldA rec)) (rowsOf S)) repeatedRow (stands (withRow S k (variable (fieldA rec)))))) q, refl, K .tables, K .nodes, K .values)
 
   -- The arity of a symbol, off its record.
   arity-read : (s : ℕ) → arityIn F (here .symbols) (n .symbols) s ≡ arityOf S s
@@ -238,11 +238,11 @@ module _ (F : List ℕ) (t : Tables) (k : ℕ) (S : State) (n : Counts) (here : 
 
       second : inRange applicationKind rec ≡ true → (b : Bool) → applicationThere F part n (here .symbols) ≡ b → RowNext (pick b (rowEntered part k (2 + countOf part) n (here .rows) N) (rowLeft (Refused (reasonNumber notThere)) (here .rows) N))
       second q true p = row-entered w (2 + countOf part) (application-cells part q) (fits q) (at ∙ ap₂ (λ (a b : Bool). require a outOfRange (require b notThere last)) q (sym there ∙ p))
-      second q false p = (notThere, at ∙ ap₂ (λ (a b : Bool). require a outOfRange (require b notThere last)) q (sym there ∙ p), refl, K .tables)
+      second q false p = (notThere, at ∙ ap₂ (λ (a b : Bool). require a outOfRange (require b notThere last)) q (sym there ∙ p), refl, K .tables, K .nodes, K .values)
 
       try : (b : Bool) → inRange applicationKind rec ≡ b → RowNext (pick b (pick (applicationThere F part n (here .symbols)) (rowEntered part k (2 + countOf part) n (here .rows) N) (rowLeft (Refused (reasonNumber notThere)) (here .rows) N)) (rowLeft (Refused (reasonNumber outOfRange)) (here .rows) N))
       try true q = second q (applicationThere F part n (here .symbols)) refl
-      try false q = (outOfRange, at ∙ ap (λ (b : Bool). require b outOfRange (require (allThere S applicationKind rec) notThere last)) q, refl, K .tables)
+      try false q = (outOfRange, at ∙ ap (λ (b : Bool). require b outOfRange (require (allThere S applicationKind rec) notThere last)) q, refl, K .tables, K .nodes, K .values)
 
   -- One clause more, with the cells of a clause that adds bindings up to h.
   pub clause-table : (c : Derivation) (a b d e : ℕ) → a ≡ length (literals c) → b ≡ maximumIndex c → d ≡ held S → e ≡ length (ownBindings c)
@@ -297,14 +297,14 @@ module _ (F : List ℕ) (t : Tables) (k : ℕ) (S : State) (n : Counts) (here : 
           by : (b : Bool) → noVariable N (inputLiterals rec) ≡ b → allApplications (rowOf S) (inputLiterals rec) ≡ b
               → InputNext (pick b (inputLeft (Stands (moreClauses n)) (withClauseCells (here .clauses) (n .clauses) k (countOf part) 1 (n .bindings) 0)) (inputLeft (Refused (reasonNumber variableLiteral)) (here .clauses)))
           by true v z = (withClause S k (input (inputLiterals rec)), path true z, kept-next F t k S n here N A K l (withClause S k (input (inputLiterals rec))) (path true z) (moreClauses n) (withClauses (withClauseCells (here .clauses) (n .clauses) k (countOf part) 1 (n .bindings) 0)) N A counts (made q) (K .nodes) (K .values))
-          by false v z = (variableLiteral, path false z, refl, K .tables)
+          by false v z = (variableLiteral, path false z, refl, K .tables, K .nodes, K .values)
 
       second : inRange inputKind rec ≡ true → (b : Bool) → allBelow (n .rows) (map (λ (x : RowLiteral). x .1) (inputLiterals rec)) ≡ b
           → InputNext (pick b (pick (noVariable N (inputLiterals rec)) (inputLeft (Stands (moreClauses n)) (withClauseCells (here .clauses) (n .clauses) k (countOf part) 1 (n .bindings) 0)) (inputLeft (Refused (reasonNumber variableLiteral)) (here .clauses))) (inputLeft (Refused (reasonNumber notThere)) (here .clauses)))
       second q true p = third q p (noVariable N (inputLiterals rec)) refl
-      second q false p = (notThere, at ∙ (λ i. require (q i) outOfRange (require ((sym rows ∙ p) i) notThere (require (allApplications (rowOf S) (inputLiterals rec)) variableLiteral (stands (withClause S k (input (inputLiterals rec))))))), refl, K .tables)
+      second q false p = (notThere, at ∙ (λ i. require (q i) outOfRange (require ((sym rows ∙ p) i) notThere (require (allApplications (rowOf S) (inputLiterals rec)) variableLiteral (stands (withClause S k (input (inputLiterals rec))))))), refl, K .tables, K .nodes, K .values)
 
       try : (b : Bool) → inRange inputKind rec ≡ b
           → InputNext (pick b (pick (allBelow (n .rows) (map (λ (x : RowLiteral). x .1) (inputLiterals rec))) (pick (noVariable N (inputLiterals rec)) (inputLeft (Stands (moreClauses n)) (withClauseCells (here .clauses) (n .clauses) k (countOf part) 1 (n .bindings) 0)) (inputLeft (Refused (reasonNumber variableLiteral)) (here .clauses))) (inputLeft (Refused (reasonNumber notThere)) (here .clauses))) (inputLeft (Refused (reasonNumber outOfRange)) (here .clauses)))
       try true q = second q (allBelow (n .rows) (map (λ (x : RowLiteral). x .1) (inputLiterals rec))) refl
-      try false q = (outOfRange, at ∙ ap (λ (b : Bool). require b outOfRange (require (allBelow (length (rowsOf S)) (map (λ (x : RowLiteral). x .1) (inputLiterals rec))) notThere (require (allApplications (rowOf S) (inputLiterals rec)) variableLiteral (stands (withClause S k (input (inputLiterals rec))))))) q, refl, K .tables)
+      try false q = (outOfRange, at ∙ ap (λ (b : Bool). require b outOfRange (require (allBelow (length (rowsOf S)) (map (λ (x : RowLiteral). x .1) (inputLiterals rec))) notThere (require (allApplications (rowOf S) (inputLiterals rec)) variableLiteral (stands (withClause S k (input (inputLiterals rec))))))) q, refl, K .tables, K .nodes, K .values)

@@ -70,4 +70,4 @@ module _ {F : List ℕ} {k : ℕ} {n : Counts} {s r C B N A : List ℕ} (R : Rea
 
     pub other-done : ¬ (m ≡ 1) → ¬ (m ≡ 2) → ¬ (m ≡ 3) → ¬ (m ≡ 4) → ¬ (m ≡ 5) → ¬ (m ≡ 6) → RecordRead F k n (tablesWith s r C B) N A (Refused 3) (tablesWith s r C B) N A
     unfolding require
-    other-done a b c d e f = record { next = λ t S K. (badKind, at-kind S k (decoded (recordPart F k)) otherKind (ap kindNumbered (sym tag-is) ∙ kind-other m a b c d e f), refl, K .tables) }
+    other-done a b c d e f = record { next = λ t S K. (badKind, at-kind S k (decoded (recordPart F k)) otherKind (ap kindNumbered (sym tag-is) ∙ kind-other m a b c d e f), refl, K .tables, K .nodes, K .values) }

@@ -43,12 +43,12 @@ module _ {F : List ℕ} {t : Tables} {k : ℕ} {n : Counts} {here : Tables} {N A
       let z = subst (Next F t k (R .state) here′ N′ A′) q (X .next t (R .state) (R .kept)) in
       record { few = omega arith; state = z .0; kept = subst (λ (m : ℕ). Kept F t m (z .0) n′ here′ N′ A′) (sym (add-one k)) (z .2) }
 
-  pub read-refused : k < recordCount F → (e : Entered) (here′ : Tables) (N′ A′ : List ℕ) → RecordRead F k n here N A e here′ N′ A′ → (q : ℕ) → e ≡ Refused q → EndedWith F t (ended-variants.Refused q k n) here′
+  pub read-refused : k < recordCount F → (e : Entered) (here′ : Tables) (N′ A′ : List ℕ) → RecordRead F k n here N A e here′ N′ A′ → (q : ℕ) → e ≡ Refused q → EndedWith F t (ended-variants.Refused q k n) here′ N′ A′
   read-refused l e here′ N′ A′ X q p =
       let z = subst (Next F t k (R .state) here′ N′ A′) p (X .next t (R .state) (R .kept)) in
-      record { state = R .state; ended = (R .kept .counts, (z .0, refused-there F k (R .state) (standing-of F k (R .few) (R .state) (R .kept .before)) l (z .0) (z .1), z .2)); tables = z .3 }
+      record { state = R .state; ended = (R .kept .counts, (z .0, refused-there F k (R .state) (standing-of F k (R .few) (R .state) (R .kept .before)) l (z .0) (z .1), z .2)); left = record { count = k; few = R .few; counts = n; kept = record { fit = R .kept .fit; long = R .kept .long; before = R .kept .before; counts = R .kept .counts; tables = z .3; nodes = z .4; values = z .5 } } }
 
-  pub read-all : recordCount F ≤ k → EndedWith F t (All n) here
+  pub read-all : recordCount F ≤ k → EndedWith F t (All n) here N A
   read-all l =
       let z : k ≡ recordCount F = let f = R .few in omega arith in
-      record { state = R .state; ended = (R .kept .counts, all-read F (R .state) (subst (λ (m : ℕ). Standing F m (R .state)) z (standing-of F k (R .few) (R .state) (R .kept .before)))); tables = R .kept .tables }
+      record { state = R .state; ended = (R .kept .counts, all-read F (R .state) (subst (λ (m : ℕ). Standing F m (R .state)) z (standing-of F k (R .few) (R .state) (R .kept .before)))); left = record { count = k; few = R .few; counts = n; kept = R .kept } }

@@ -99,7 +99,7 @@ module _ {F : List ℕ} {k : ℕ} {n : Counts} {C B N A : List ℕ} (E : BeforeS
     ended : (u : Unified) → step (E .state) k (decoded (recordPart F k)) ≡ addClause (E .state) k clause (outcomeOf B′ (n .bindings) u) → UnifiedTables B B′ A′ (n .bindings) u → Read (stepFinished u k n literalCount index C B′)
     unfolding addClause
     ended (Done w h) p U = record { next = (after h, p, kept-next F t k S n Here N A (E .kept) (E .inside) (after h) p (withStep n h) (tablesWith (E .symbols) (E .rows) (withClauseCells C (n .clauses) k literalCount index (n .bindings) (h - n .bindings)) B′) N A′ (counts-after h (U .counted .0)) (tables-after w h U) (E .kept .nodes) (U .values)) }
-    ended (unified-variants.Refused q) p U = record { next = (unification (failureOf q), p, U .counted .0, tables-refused q U) }
+    ended (unified-variants.Refused q) p U = record { next = (unification (failureOf q), p, U .counted .0, tables-refused q U, E .kept .nodes, U .values) }
 
     pub step-ended : (u : Unified) → step (E .state) k (decoded (recordPart F k)) ≡ addClause (E .state) k clause (outcomeOf B′ (n .bindings) u) → UnifiedTables B B′ A′ (n .bindings) u
         → (e : Entered) (C₂ B₂ : List ℕ) → finished e C₂ B₂ ≡ stepFinished u k n literalCount index C B′ → StepRead F k n C B N A E C₂ B₂ A′ e

@@ -108,7 +108,7 @@ module _ {F : List ℕ} {k : ℕ} {n : Counts} {C B N A : List ℕ} (E : BeforeS
 
   -- A refusal leaves everything as it was.
   pub refuse : (q : Reason) → step (E .state) k (decoded (recordPart F k)) ≡ refused q → StepRead F k n C B N A E C B A (Refused (reasonNumber q))
-  refuse q p = record { next = (q, p, refl, E .kept .tables) }
+  refuse q p = record { next = (q, p, refl, E .kept .tables, E .kept .nodes, E .kept .values) }
 
   pub resolve-kind : kindOf (recordPart F k) ≡ 5 → kindOfRecord (decoded (recordPart F k)) ≡ resolveKind
   resolve-kind q = ap kindNumbered q

@@ -1,17 +1,21 @@
 -- The contract of the check: what `check` promises of every file and every four tables, with no condition on the call.
 use mathlib.Core.Path.{_≡_}
+use mathlib.Core.Bool.{true}
 use mathlib.Core.Option.{some}
 use mathlib.Core.List.{List}
 use Prim.Native.Nat.{ℕ, _+_, _*_}
-use lib.ListN.{getD}
+use lib.ListN.{length, getD}
+use Rattle.record.specs.Record.{pick}
 use Rattle.unify.specs.Row.{Variable}
 use Rattle.derivation.specs.Derivation.{Derivation, maximumIndex}
 use Rattle.verdict.specs.Demands.{Demand1, Demand2, Demand3}
 use Rattle.checker.specs.Given.{answerGiven}
-use Rattle.verdict.specs.State.{clauseOf}
+use Rattle.checker.specs.Progress.{nodeTableOf}
+use Rattle.checker.specs.Reader.{ReadTo}
+use Rattle.verdict.specs.State.{State, start, rowsOf, clauseOf}
 use Rattle.verdict.specs.Step.{stateOf}
 use Rattle.verdict.specs.Tables.{Tables, lengthsOf, tablesAfter}
-use Rattle.verdict.specs.Verdict.{check, answerNumbers, ending}
+use Rattle.verdict.specs.Verdict.{check, answerNumbers, Lengths, longEnough, fittingLength, ending}
 use Rattle.checker.specs.declared.answer.Answer.{Answer}
 use Rattle.checker.specs.declared.answer.Verdict.the-variants as verdict
 
@@ -28,3 +32,16 @@ pub record Checked (file : List ℕ) (before : Tables) (a : Answer) (after : Tab
   pub refutation : Demand3 file before
   -- The maximum index of an accepted clause is the cell that the table of clauses then holds.
   pub maximum : (n : ℕ) → a .verdict ≡ verdict.Accepted n → (c : Derivation) → clauseOf (stateOf (ending file)) n ≡ some c → getD (after .clauses) (5 * n + 2) 0 ≡ maximumIndex c
+
+-- The state that a check leaves: that of the records that stand; none where the length does not fit or a table is too short.
+abbrev pub stateLeft : List ℕ → Lengths → State
+stateLeft file lengths = pick (fittingLength (length file)) (pick (longEnough lengths) (stateOf (ending file)) start) start
+
+-- The same promise with a node table and an array of values that the caller lends: the node table then has the rows of that state. What the
+-- array holds is left to the program.
+pub record CheckedWith (file : List ℕ) (before : Tables) (a : Answer) (after : Tables) (N A : List ℕ) : Type 0 where
+  pub checked : Checked file before a after
+  pub nodes : N ≡ nodeTableOf (rowsOf (stateLeft file (lengthsOf before)))
+  pub values : length A ≡ 524416
+  -- Where records were read, what the program keeps of them: the readout goes on from there.
+  pub read : fittingLength (length file) ≡ true → longEnough (lengthsOf before) ≡ true → ReadTo file before (stateOf (ending file)) after N A

@@ -50,10 +50,10 @@ pub record Reading (F : List ℕ) (k : ℕ) (n : Counts) (here : Tables) (N A : 
   pub state : State
   pub kept : Kept F tablesBefore k state n here N A
 
--- What it answers: a record that stands leaves what belongs to the next state; a refused one its number, and the tables as they were.
+-- What it answers: a record that stands leaves what belongs to the next state; a refused one its number, and the tables and the node table as they were.
 abbrev pub Next : List ℕ → Tables → ℕ → State → Tables → List ℕ → List ℕ → Entered → Type 0
 Next F t k S here N A (Stands n) = (T : State) × (step S k (decoded (recordPart F k)) ≡ stands T) × Kept F t (suc k) T n here N A
-Next F t k S here N A (Refused q) = (reason : Reason) × (step S k (decoded (recordPart F k)) ≡ refused reason) × (q ≡ reasonNumber reason) × (here ≡ filledTables S t)
+Next F t k S here N A (Refused q) = (reason : Reason) × (step S k (decoded (recordPart F k)) ≡ refused reason) × (q ≡ reasonNumber reason) × (here ≡ filledTables S t) × (N ≡ nodeTableOf (rowsOf S)) × (length A ≡ 524416)
 
 pub record RecordRead (F : List ℕ) (k : ℕ) (n : Counts) (here : Tables) (N A : List ℕ) (e : Entered) (here′ : Tables) (N′ A′ : List ℕ) : Type 0 where
   pub next : (t : Tables) (S : State) → Kept F t k S n here N A → Next F t k S here′ N′ A′ e

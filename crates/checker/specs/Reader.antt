@@ -2,10 +2,11 @@
 use mathlib.Core.Path.{_≡_}
 use mathlib.Core.Bool.{true}
 use mathlib.Core.List.{List, []}
-use Prim.Native.Nat.{ℕ}
+use Prim.Native.Nat.{ℕ, _≤_}
 use lib.ListN.{length}
+use Rattle.record.specs.Record.{recordCount}
 use Rattle.checker.specs.Given.{answerGiven}
-use Rattle.checker.specs.Progress.{nodeTableOf, countsOf}
+use Rattle.checker.specs.Progress.{nodeTableOf, countsOf, Kept}
 use Rattle.verdict.specs.Refusal.{Reason, reasonNumber}
 use Rattle.verdict.specs.State.{State, start}
 use Rattle.verdict.specs.Step.{allStand, refusedAt, stateOf}
@@ -30,20 +31,41 @@ abbrev pub EndsAs : List ℕ → State → Ended → Type 0
 EndsAs F S (All n) = (n ≡ countsOf S) × (ending F ≡ allStand S)
 EndsAs F S (Refused q k n) = (n ≡ countsOf S) × ((reason : Reason) × (ending F ≡ refusedAt S reason k) × (q ≡ reasonNumber reason))
 
--- What is left when reading has ended: the state's tables.
-pub record EndedWith (F : List ℕ) (t : Tables) (e : Ended) (here : Tables) : Type 0 where
+-- What is left when reading has ended: what the program keeps of the state S that some number of records leave.
+pub record ReadTo (F : List ℕ) (t : Tables) (S : State) (here : Tables) (N A : List ℕ) : Type 0 where
+  pub count : ℕ
+  pub few : count ≤ recordCount F
+  pub counts : Counts
+  pub kept : Kept F t count S counts here N A
+
+pub record EndedWith (F : List ℕ) (t : Tables) (e : Ended) (here : Tables) (N A : List ℕ) : Type 0 where
   pub state : State
   pub ended : EndsAs F state e
-  pub tables : here ≡ filledTables state t
+  pub left : ReadTo F t state here N A
 
-pub record RecordsRead (F : List ℕ) (here : Tables) (N A : List ℕ) (e : Ended) (here′ : Tables) : Type 0 where
-  pub read : (B : Begun F here N A) → EndedWith F (B .tablesBefore) e here′
+pub record RecordsRead (F : List ℕ) (here : Tables) (N A : List ℕ) (e : Ended) (here′ : Tables) (N′ A′ : List ℕ) : Type 0 where
+  pub read : (B : Begun F here N A) → EndedWith F (B .tablesBefore) e here′ N′ A′
+
+-- A node table in which no row is written yet, and an array of values, whatever it holds.
+pub record Unwritten (N A : List ℕ) : Type 0 where
+  pub nodes : N ≡ nodeTableOf []
+  pub values : length A ≡ 524416
 
 -- A file and tables that can be read, and what is read of them: the answer's numbers and the tables.
 pub record Readable (F : List ℕ) (t : Tables) : Type 0 where
   pub fit : fittingLength (length F) ≡ true
   pub long : longEnough (lengthsOf t) ≡ true
 
+-- The same with a node table in which no row is written yet, and an array of values.
+pub record ReadableWith (F : List ℕ) (t : Tables) (N A : List ℕ) : Type 0 where
+  pub readable : Readable F t
+  pub empty : Unwritten N A
+
 pub record FileRead (F : List ℕ) (t : Tables) (a : Answer) (here : Tables) : Type 0 where
   pub numbers : answerGiven a ≡ answerNumbers (answerOf (verdictOf (ending F)) (stateOf (ending F)))
   pub tables : here ≡ filledTables (stateOf (ending F)) t
+
+-- What is read of them with a node table and an array: what the program keeps of the state that reading ended with.
+pub record FileReadWith (F : List ℕ) (t : Tables) (a : Answer) (here : Tables) (N A : List ℕ) : Type 0 where
+  pub file : FileRead F t a here
+  pub left : ReadTo F t (stateOf (ending F)) here N A

@@ -16,8 +16,8 @@ use reader::read_records;
 use tables::clear;
 ghost use mathlib.Core.Path.{_≡_};
 ghost use lib.ListN.{length};
-ghost use Rattle.checker.specs.Contract.{Checked};
-ghost use Rattle.checker.specs.Reader.{Readable, FileRead};
+ghost use Rattle.checker.specs.Contract.{Checked, CheckedWith};
+ghost use Rattle.checker.specs.Reader.{Readable, FileRead, Unwritten, ReadableWith, FileReadWith};
 ghost use Rattle.checker.specs.Stepping.{tablesWith};
 ghost use Rattle.verdict.specs.Verdict.{fittingLength, longEnough};
 
@@ -44,7 +44,28 @@ fn long_enough(symbols: usize, rows: usize, clauses: usize, bindings: usize) -> 
     32768 <= bindings
 }
 
-// The named parts cleared, and all records read.
+// The named parts cleared, and all records read. The rows go to the node table as well.
+fn read_tables(
+    file: &[u8],
+    symbols: &mut [u16],
+    rows: &mut [u16],
+    clauses: &mut [u16],
+    bindings: &mut [u16],
+    nodes: &mut [u16; 32768],
+    values: &mut [u16; 524416],
+) -> Answer
+    requires { ⌜ ReadableWith (now file) (tablesWith (now symbols) (now rows) (now clauses) (now bindings)) (now nodes) (now values) ⌝ }
+    ensures { λ a. ⌜ FileReadWith (now (file .entry)) (tablesWith (now (symbols .entry)) (now (rows .entry)) (now (clauses .entry)) (now (bindings .entry))) a (tablesWith (now (symbols .exit)) (now (rows .exit)) (now (clauses .exit)) (now (bindings .exit))) (now (nodes .exit)) (now (values .exit)) ⌝ }
+{
+    clear(symbols, 0, 4096);
+    clear(rows, 0, 4096);
+    clear(clauses, 0, 20480);
+    clear(bindings, 0, 32768);
+    let e = read_records(file, symbols, rows, clauses, bindings, nodes, values);
+    ended_answer(e, clauses)
+}
+
+// The same with a node table and an array of its own.
 fn read_file(
     file: &[u8],
     symbols: &mut [u16],
@@ -55,13 +76,9 @@ fn read_file(
     requires { ⌜ Readable (now file) (tablesWith (now symbols) (now rows) (now clauses) (now bindings)) ⌝ }
     ensures { λ a. ⌜ FileRead (now (file .entry)) (tablesWith (now (symbols .entry)) (now (rows .entry)) (now (clauses .entry)) (now (bindings .entry))) a (tablesWith (now (symbols .exit)) (now (rows .exit)) (now (clauses .exit)) (now (bindings .exit))) ⌝ }
 {
-    clear(symbols, 0, 4096);
-    clear(rows, 0, 4096);
-    clear(clauses, 0, 20480);
-    clear(bindings, 0, 32768);
     let mut nodes = [0u16; 32768];
     let mut values = [0u16; 524416];
-    let e = read_records(
+    read_tables(
         file,
         symbols,
         rows,
@@ -69,8 +86,7 @@ fn read_file(
         bindings,
         &mut nodes,
         &mut values,
-    );
-    ended_answer(e, clauses)
+    )
 }
 
 // The check of a file: its length, then the tables' lengths, then record by record.
@@ -90,4 +106,26 @@ pub fn check(
         return untouched(2);
     }
     read_file(file, symbols, rows, clauses, bindings)
+}
+
+// The same check with a node table, still empty, and an array of values that the caller lends: the readout goes on with them.
+pub fn check_with(
+    file: &[u8],
+    symbols: &mut [u16],
+    rows: &mut [u16],
+    clauses: &mut [u16],
+    bindings: &mut [u16],
+    nodes: &mut [u16; 32768],
+    values: &mut [u16; 524416],
+) -> Answer
+    requires { ⌜ Unwritten (now nodes) (now values) ⌝ }
+    ensures { λ a. ⌜ CheckedWith (now (file .entry)) (tablesWith (now (symbols .entry)) (now (rows .entry)) (now (clauses .entry)) (now (bindings .entry))) a (tablesWith (now (symbols .exit)) (now (rows .exit)) (now (clauses .exit)) (now (bindings .exit))) (now (nodes .exit)) (now (values .exit)) ⌝ }
+{
+    if !fitting_length(file.len()) {
+        return untouched(1);
+    }
+    if !long_enough(symbols.len(), rows.len(), clauses.len(), bindings.len()) {
+        return untouched(2);
+    }
+    read_tables(file, symbols, rows, clauses, bindings, nodes, values)
 }

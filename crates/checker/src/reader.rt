@@ -58,7 +58,7 @@ pub fn read_records(
     values: &mut [u16; 524416],
 ) -> Ended
     requires { ⌜ Begun (now file) (tablesWith (now symbols) (now rows) (now clauses) (now bindings)) (now nodes) (now values) ⌝ }
-    ensures { λ e. ⌜ RecordsRead (now (file .entry)) (tablesWith (now (symbols .entry)) (now (rows .entry)) (now (clauses .entry)) (now (bindings .entry))) (now (nodes .entry)) (now (values .entry)) e (tablesWith (now (symbols .exit)) (now (rows .exit)) (now (clauses .exit)) (now (bindings .exit))) ⌝ }
+    ensures { λ e. ⌜ RecordsRead (now (file .entry)) (tablesWith (now (symbols .entry)) (now (rows .entry)) (now (clauses .entry)) (now (bindings .entry))) (now (nodes .entry)) (now (values .entry)) e (tablesWith (now (symbols .exit)) (now (rows .exit)) (now (clauses .exit)) (now (bindings .exit))) (now (nodes .exit)) (now (values .exit)) ⌝ }
 {
     let mut counts = Counts {
         symbols: 0,

@@ -4,18 +4,16 @@
 //! 1 MiB and 64 KiB on it (`proved::STACK`).
 
 use std::fs;
-use std::path::Path;
 
 use proved::compare::{compare, file_of, lengths_of, value_numbers, Lengths, Pair, NAMED};
 use proved::proved::{check, check_numbers, with_stack};
 use yestrwyn::examples::{cases, heavy};
-use yestrwyn::vectors::{groups, unpack};
+use yestrwyn::vectors::{groups, pack_path, unpack};
 use yestrwyn::{damage, random_file};
 
 /// The files of every stored pack.
 fn stored() -> Vec<Vec<u8>> {
-    let directory = Path::new(env!("CARGO_MANIFEST_DIR")).join("../vectors");
-    let read = |name| fs::read(directory.join(format!("{name}.bin"))).expect("a stored pack");
+    let read = |name| fs::read(pack_path(name)).expect("a stored pack");
     let packs: Vec<Vec<u8>> = groups().iter().map(|group| read(group.name)).collect();
     packs.iter().flat_map(|pack| unpack(pack).expect("a whole pack")).map(<[u8]>::to_vec).collect()
 }

@@ -1,18 +1,16 @@
-//! Writes the stored vectors. Run it in the package directory, or give the directory to write to.
+//! Writes the stored vectors, and what the program `cases` must print for them.
 
 use std::io::Write;
-use std::path::PathBuf;
-use std::{env, fs, io};
+use std::{fs, io};
 
-use yestrwyn::vectors::{expected, groups, pack};
+use yestrwyn::vectors::{expected, groups, listing, listing_path, pack, pack_path, results_path};
 
 fn main() -> io::Result<()> {
-    let directory = env::args_os().nth(1).map_or_else(|| PathBuf::from("vectors"), PathBuf::from);
-    fs::create_dir_all(&directory)?;
     let mut out = io::stdout().lock();
+    let groups = groups();
     let mut total = 0;
-    for group in groups() {
-        let (files, text) = (pack(&group.examples), expected(&group));
+    for group in &groups {
+        let (files, text) = (pack(&group.examples), expected(group));
         writeln!(
             out,
             "{}: {} files, {} and {} bytes",
@@ -22,9 +20,13 @@ fn main() -> io::Result<()> {
             text.len()
         )?;
         total += files.len() + text.len();
-        fs::write(directory.join(format!("{}.bin", group.name)), files)?;
-        fs::write(directory.join(format!("{}.txt", group.name)), text)?;
+        fs::write(pack_path(group.name), files)?;
+        fs::write(results_path(group.name), text)?;
     }
+    let text = listing(&groups);
+    writeln!(out, "printed by cases: {} bytes", text.len())?;
+    total += text.len();
+    fs::write(listing_path(), text)?;
     writeln!(out, "{total} bytes in all")?;
     Ok(())
 }

@@ -1,43 +1,18 @@
-use mathlib.Core.Path.{_∙_}
-use native.Mathlib.Omega.{arith}
+-- A fresh array has its length, and a fresh node table no row.
+use mathlib.Core.Path.{refl}
 use Prim.Native.Nat.{ℕ}
 use lib.ListN.{length-replicate}
-use Rattle.checker.proofs.CheckLaws.{table-sizes, begun, read-begun, file-read}
 use borrow.Author.Needs.{needs}
 use Rattle.checker.proofs.read_file.Statement.{statement}
 use Rattle.checker.proofs.read_file.Tie as tie
-use Rattle.checker.proofs.read_file.Reads as reads
-use Rattle.checker.proofs.read_file.Lts as lts
-use Rattle.checker.proofs.answer.ended_answer.Reads as ended-answer-reads
-use Rattle.checker.proofs.reader.read_records.Reads as read-records-reads
-use Rattle.checker.proofs.tables.clear.Reads as clear-reads
+use Rattle.checker.proofs.read_tables.Reads as read-tables-reads
 
-clear-requires : tie.Need-clear-requires
-clear-requires c κs =
-    (omega arith, table-sizes (c .before .before .before .before .before .before .pre) .symbols)
-
-clear-requires-2 : tie.Need-clear-requires-2
-clear-requires-2 c κs =
-    (omega arith, table-sizes (c .before .before .before .before .before .before .before .before .before .before .pre) .rows)
-
-clear-requires-3 : tie.Need-clear-requires-3
-clear-requires-3 c κs =
-    (omega arith, table-sizes (c .before .before .before .before .before .before .before .before .before .before .before .before .before .before .pre) .clauses)
-
-clear-requires-4 : tie.Need-clear-requires-4
-clear-requires-4 c κs =
-    (omega arith, table-sizes (c .before .before .before .before .before .before .before .before .before .before .before .before .before .before .before .before .before .before .pre) .bindings)
-
-read-records-requires : tie.Need-read-records-requires
-read-records-requires c κs =
-    begun (c .before .before .before .before .before .before .before .before .before .before .before .before .before .before .before .before .before .before .before .before .before .before .before .before .before .before .before .pre) (c .before .before .before .before .before .before .before .before .before .before .before .before .before .before .before .before .before .before .before .before .clear .ensures) (c .before .before .before .before .before .before .before .before .before .before .before .before .before .before .before .before .clear2 .ensures) (c .before .before .before .before .before .before .before .before .before .before .before .before .clear3 .ensures) (c .before .before .before .before .before .before .before .before .clear4 .ensures) (length-replicate {A = ℕ} 524416 0)
-
-ended-answer-requires : tie.Need-ended-answer-requires
-ended-answer-requires c κs = search needs
+read-tables-requires : tie.Need-read-tables-requires
+read-tables-requires c κs =
+    record { readable = c .before .before .before .before .before .before .before .before .before .before .before .pre; empty = record { nodes = refl; values = length-replicate {A = ℕ} 524416 0 } }
 
 same-length : tie.Need-same-length
-same-length c =
-    let a = c .before .before .before .before .before .before .before .before .before .before .before .before .before .before .before .before .before .before .before .before .before .before .before .before .before .before .before .before .before .before .symbols .given in let b = c .before .before .before .before .before .before .before .before .before .symbols2 .given in omega (arith, a, b)
+same-length c = search needs
 
 same-length-2 : tie.Need-same-length-2
 same-length-2 c = search needs
@@ -50,20 +25,9 @@ same-length-4 c = search needs
 
 returns : tie.Need-returns
 returns c =
-    file-read _ _ _ _ _ (read-begun (c .before .before .before .before .before .before .before .before .before .before .before .before .before .before .before .before .before .before .before .before .before .before .before .before .before .before .before .before .before .before .before .before .before .before .before .before .before .before .pre) (c .before .before .before .before .before .before .before .before .before .before .before .before .before .before .before .before .before .before .before .before .before .before .before .before .before .before .before .before .before .before .before .clear .ensures) (c .before .before .before .before .before .before .before .before .before .before .before .before .before .before .before .before .before .before .before .before .before .before .before .before .before .before .before .clear2 .ensures) (c .before .before .before .before .before .before .before .before .before .before .before .before .before .before .before .before .before .before .before .before .before .before .before .clear3 .ensures) (c .before .before .before .before .before .before .before .before .before .before .before .before .before .before .before .before .before .before .before .clear4 .ensures) (length-replicate {A = ℕ} 524416 0) _ _ (c .before .before .before .before .before .before .before .before .before .before .read-records .ensures)) (c .ended-answer .ensures)
+    c .before .before .before .before .before .before .before .before .read-tables .ensures .file
 
 pub read-file-spec : {M : Type 1} → statement M
 read-file-spec =
     tie.close
-    (tie.spec
-    clear-requires
-    clear-requires-2
-    clear-requires-3
-    clear-requires-4
-    read-records-requires
-    ended-answer-requires
-    same-length
-    same-length-2
-    same-length-3
-    same-length-4
-    returns)
+    (tie.spec read-tables-requires same-length same-length-2 same-length-3 same-length-4 returns)

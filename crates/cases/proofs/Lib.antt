@@ -1,0 +1,3 @@
+pub mod HashLaws
+pub mod PackLaws
+pub mod OutcomeLaws

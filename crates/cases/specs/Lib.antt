@@ -1,0 +1,3 @@
+pub mod Hash
+pub mod Pack
+pub mod Outcome

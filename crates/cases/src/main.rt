@@ -1,0 +1,108 @@
+// Runs every stored vector through the check and prints, for each file, the answer and a hash of each table. The packs are in
+// data/, and stdout has what the second implementation gives for the same files (`rust/vectors/README.md`).
+mod hash;
+mod outcome;
+mod pack;
+mod print;
+
+use outcome::outcome_of;
+use pack::Counted;
+use pack::Entry;
+use pack::count_files;
+use pack::entry_at;
+ghost use Prim.Native.Nat.{_≤_};
+ghost use lib.ListN.{length};
+
+// A line for each file of a pack.
+fn print_files(pack: &[u8]) {
+    let mut at = 0;
+    let mut place = 0;
+    while at < pack.len() {
+        let Entry::File(first, end) = entry_at(pack, at) else {
+            return;
+        };
+        print::line(place, outcome_of(&pack[first..end]));
+        at = end;
+        place += 1;
+    }
+}
+
+// A line that says what is wrong with a pack.
+fn complain(path: &[u8], what: &[u8]) {
+    print::text(path);
+    print::text(what);
+}
+
+// The line of a group: its name, which is the path of its pack without `.bin`, and the number of its files.
+fn print_name(path: &[u8], files: usize)
+    requires { ⌜ 4 ≤ length (now path) ⌝ }
+{
+    let end = path.len() - 4;
+    print::text(&path[0..end]);
+    print::text(b" ");
+    print::count(files);
+    print::text(b"\n");
+}
+
+// The lines of a group. Whether its pack is whole.
+fn print_group(path: &[u8], pack: &[u8]) -> bool
+    requires { ⌜ 4 ≤ length (now path) ⌝ }
+{
+    match count_files(pack) {
+        Counted::Cut => {
+            complain(path, b" is cut short\n");
+            false
+        }
+        Counted::Files(n) => {
+            print_name(path, n);
+            print_files(pack);
+            true
+        }
+    }
+}
+
+// Reads the pack of a group and prints its lines. Whether it could be read whole.
+fn run_group(path: &[u8]) -> bool
+    requires { ⌜ 4 ≤ length (now path) ⌝ }
+{
+    let fd = os::open_read(path);
+    if fd < 0 {
+        complain(path, b" cannot be opened\n");
+        return false;
+    }
+    let mut space = [0u8; 655360];
+    let n = io::read_full(fd, &mut space);
+    libc::close(fd);
+    if n == 0 {
+        complain(path, b" is empty or cannot be read\n");
+        return false;
+    }
+    if n == 655360 {
+        complain(path, b" is too long\n");
+        return false;
+    }
+    print_group(path, &space[..n])
+}
+
+// All groups in order, up to the first whose pack cannot be read.
+fn main() {
+    if !run_group(b"cases.bin") {
+        return;
+    }
+    if !run_group(b"published.bin") {
+        return;
+    }
+    if !run_group(b"edges.bin") {
+        return;
+    }
+    if !run_group(b"refused.bin") {
+        return;
+    }
+    if !run_group(b"deep.bin") {
+        return;
+    }
+    if !run_group(b"random.bin") {
+        return;
+    }
+    run_group(b"long.bin");
+}

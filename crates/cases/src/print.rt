@@ -1,0 +1,53 @@
+// Lines on standard output.
+use crate::outcome::Hashes;
+use crate::outcome::Outcome;
+use crate::outcome::numbers_of;
+use libc::STDOUT_FILENO;
+
+// Bytes as they are.
+pub fn text(t: &[u8]) {
+    io::write_all(STDOUT_FILENO, t);
+}
+
+// A number after a blank.
+pub fn number(n: u16) {
+    text(b" ");
+    io::print_decimal(STDOUT_FILENO, n as u64);
+}
+
+// A place or a count, in decimal digits.
+pub fn count(n: usize) {
+    io::print_decimal(STDOUT_FILENO, n as u64);
+}
+
+// A hash after a blank, in 16 hexadecimal digits.
+fn hash(h: u64) {
+    text(b" ");
+    io::print_hex(STDOUT_FILENO, h, 16);
+}
+
+// The four hashes, each after a blank.
+fn hashes(h: Hashes) {
+    hash(h.symbols);
+    hash(h.rows);
+    hash(h.clauses);
+    hash(h.bindings);
+}
+
+// The line of a file: its place in the pack, the seven numbers of the answer, and the hashes.
+pub fn line(place: usize, o: Outcome) {
+    let a = o.answer;
+    let v = a.verdict;
+    let n = numbers_of(v);
+    count(place);
+    number(n.kind);
+    number(n.what);
+    number(n.record);
+    number(a.symbols);
+    number(a.rows);
+    number(a.clauses);
+    number(a.bindings);
+    let h = o.hashes;
+    hashes(h);
+    text(b"\n");
+}

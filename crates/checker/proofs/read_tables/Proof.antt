@@ -1,0 +1,66 @@
+-- The cleared parts are those of the empty state, and reading goes on from there.
+use mathlib.Core.Path.{_∙_}
+use native.Mathlib.Omega.{arith}
+use Rattle.checker.proofs.CheckLaws.{table-sizes, begun, read-begun, file-read-with}
+use borrow.Author.Needs.{needs}
+use Rattle.checker.proofs.read_tables.Statement.{statement}
+use Rattle.checker.proofs.read_tables.Tie as tie
+use Rattle.checker.proofs.answer.ended_answer.Reads as ended-answer-reads
+use Rattle.checker.proofs.reader.read_records.Reads as read-records-reads
+use Rattle.checker.proofs.tables.clear.Reads as clear-reads
+
+clear-requires : tie.Need-clear-requires
+clear-requires c κs =
+    (omega arith, table-sizes (c .before .before .before .before .before .before .pre .readable) .symbols)
+
+clear-requires-2 : tie.Need-clear-requires-2
+clear-requires-2 c κs =
+    (omega arith, table-sizes (c .before .before .before .before .before .before .before .before .before .before .pre .readable) .rows)
+
+clear-requires-3 : tie.Need-clear-requires-3
+clear-requires-3 c κs =
+    (omega arith, table-sizes (c .before .before .before .before .before .before .before .before .before .before .before .before .before .before .pre .readable) .clauses)
+
+clear-requires-4 : tie.Need-clear-requires-4
+clear-requires-4 c κs =
+    (omega arith, table-sizes (c .before .before .before .before .before .before .before .before .before .before .before .before .before .before .before .before .before .before .pre .readable) .bindings)
+
+read-records-requires : tie.Need-read-records-requires
+read-records-requires c κs =
+    begun (c .before .before .before .before .before .before .before .before .before .before .before .before .before .before .before .before .before .before .before .before .before .before .before .before .before .before .before .pre .readable) (c .before .before .before .before .before .before .before .before .before .before .before .before .before .before .before .before .before .before .before .before .clear .ensures) (c .before .before .before .before .before .before .before .before .before .before .before .before .before .before .before .before .clear2 .ensures) (c .before .before .before .before .before .before .before .before .before .before .before .before .clear3 .ensures) (c .before .before .before .before .before .before .before .before .clear4 .ensures) (c .before .before .before .before .before .before .before .before .before .before .before .before .before .before .before .before .before .before .before .before .before .before .before .before .before .before .before .pre .empty .values) _ (c .before .before .before .before .before .before .before .before .before .before .before .before .before .before .before .before .before .before .before .before .before .before .before .before .before .before .before .pre .empty .nodes)
+
+ended-answer-requires : tie.Need-ended-answer-requires
+ended-answer-requires c κs = search needs
+
+same-length : tie.Need-same-length
+same-length c =
+    let a = c .before .before .before .before .before .before .before .before .before .before .before .before .before .before .before .before .before .before .before .before .before .before .before .before .before .before .before .before .before .before .symbols .given in let b = c .before .before .before .before .before .before .before .before .before .symbols2 .given in omega (arith, a, b)
+
+same-length-2 : tie.Need-same-length-2
+same-length-2 c = search needs
+
+same-length-3 : tie.Need-same-length-3
+same-length-3 c = search needs
+
+same-length-4 : tie.Need-same-length-4
+same-length-4 c = search needs
+
+returns : tie.Need-returns
+returns c =
+    file-read-with _ _ _ _ _ _ _ (read-begun (c .before .before .before .before .before .before .before .before .before .before .before .before .before .before .before .before .before .before .before .before .before .before .before .before .before .before .before .before .before .before .before .before .before .before .before .before .before .before .pre .readable) (c .before .before .before .before .before .before .before .before .before .before .before .before .before .before .before .before .before .before .before .before .before .before .before .before .before .before .before .before .before .before .before .clear .ensures) (c .before .before .before .before .before .before .before .before .before .before .before .before .before .before .before .before .before .before .before .before .before .before .before .before .before .before .before .clear2 .ensures) (c .before .before .before .before .before .before .before .before .before .before .before .before .before .before .before .before .before .before .before .before .before .before .before .clear3 .ensures) (c .before .before .before .before .before .before .before .before .before .before .before .before .before .before .before .before .before .before .before .clear4 .ensures) (c .before .before .before .before .before .before .before .before .before .before .before .before .before .before .before .before .before .before .before .before .before .before .before .before .before .before .before .before .before .before .before .before .before .before .before .before .before .before .pre .empty .values) _ (c .before .before .before .before .before .before .before .before .before .before .before .before .before .before .before .before .before .before .before .before .before .before .before .before .before .before .before .before .before .before .before .before .before .before .before .before .before .before .pre .empty .nodes) _ _ _ _ (c .before .before .before .before .before .before .before .before .before .before .read-records .ensures)) (c .ended-answer .ensures)
+
+pub read-tables-spec : {M : Type 1} → statement M
+read-tables-spec =
+    tie.close
+    (tie.spec
+    clear-requires
+    clear-requires-2
+    clear-requires-3
+    clear-requires-4
+    read-records-requires
+    ended-answer-requires
+    same-length
+    same-length-2
+    same-length-3
+    same-length-4
+    returns)
