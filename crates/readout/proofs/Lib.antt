@@ -3,4 +3,5 @@ pub mod Decimals
 pub mod TermTexts
 pub mod ArgumentTexts
 pub mod LiteralTexts
+pub mod LineTexts
 pub mod CasesProved

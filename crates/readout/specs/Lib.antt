@@ -1,4 +1,5 @@
 pub mod Text
 pub mod Readout
 pub mod Writing
+pub mod Lines
 pub mod Cases
