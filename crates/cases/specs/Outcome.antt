@@ -4,8 +4,8 @@ use mathlib.Core.List.{List}
 use Prim.Native.Nat.{ℕ}
 use lib.ListN.{replicate}
 use Rattle.checker.specs.Given.{answerGiven}
-use Rattle.checker.specs.Tables.{Tables, lengthsOf, tablesAfter}
-use Rattle.checker.specs.Verdict.{check, answerNumbers, named}
+use Rattle.verdict.specs.Tables.{Tables, lengthsOf, tablesAfter}
+use Rattle.verdict.specs.Verdict.{check, answerNumbers, named}
 use Rattle.cases.specs.Hash.{start, hashCells}
 use Rattle.cases.specs.declared.outcome.Outcome.{Outcome}
 

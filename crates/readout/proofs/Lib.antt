@@ -5,3 +5,4 @@ pub mod ArgumentTexts
 pub mod LiteralTexts
 pub mod LineTexts
 pub mod CasesProved
+pub mod PieceLaws
