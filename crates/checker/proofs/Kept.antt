@@ -8,22 +8,18 @@ use lib.Dec.{eqb, leb, T, leb→le}
 use lib.ListN.{length, take, drop, length-map}
 use Rattle.record.specs.Record.{Record, records, recordCount, recordPart, decoded}
 use Rattle.record.proofs.Records.{record-numbered}
-use Rattle.unify.specs.Nodes.{NodesOk}
-use Rattle.unify.specs.Row.{Row, noSymbol}
+use Rattle.unify.specs.Row.{Row}
 use Rattle.unify.proofs.Lists.{Each}
 use Rattle.unify.proofs.Tests.{to-T, both-true}
 use Rattle.checker.specs.Progress.{nodeTableOf, countsOf, Kept}
 use Rattle.verdict.specs.Refusal.{Reason}
-use Rattle.verdict.specs.State.{arities, State, start, rowsOf, arityOf}
+use Rattle.verdict.specs.State.{State, start, rowsOf}
 use Rattle.verdict.specs.Step.{stands, refused, Result, step, read, allStand, refusedAt}
 use Rattle.verdict.specs.Tables.{Tables, lengthsOf, filledTables}
 use Rattle.verdict.specs.Verdict.{longEnough, fittingLength}
 use Rattle.verdict.proofs.Advance.{Standing, RowFits, Tally, standing-start, take-next, read-one, advance}
 use Rattle.checker.proofs.Entering.{node-table-length}
-use Rattle.verdict.proofs.Inversions.{entry-none}
-use Rattle.checker.proofs.NodeTable.{nodes-ok}
-use Rattle.verdict.proofs.Reading.{ending-stands, state-more}
-use Rattle.verdict.proofs.Standing.{StateOk}
+use Rattle.verdict.proofs.Reading.{ending-stands}
 use Rattle.checker.specs.declared.entry.Counts.{Counts}
 
 read-split : (S : State) (j : ℕ) (xs ys : List Record) (T : State) → read S j (xs ++ ys) ≡ allStand T → (U : State) × (read S j xs ≡ allStand U)
@@ -92,9 +88,6 @@ module _ (F : List ℕ) (t : Tables) (k : ℕ) (S : State) (n : Counts) (here : 
   pub stand : Standing F k S
   stand = standing-of F k (omega arith) S (K .before)
 
-  pub state-ok : StateOk 4096 S
-  state-ok = state-more k 4096 S (omega (arith, few-records)) (stand .ok)
-
   abbrev G : Tally F k S
   G = stand .tally
 
@@ -115,11 +108,6 @@ module _ (F : List ℕ) (t : Tables) (k : ℕ) (S : State) (n : Counts) (here : 
 
   pub nodes-length : length N ≡ 32768
   nodes-length = node-table-length (rowsOf S) rows-fit (omega (arith, same-rows, few-rows, few-records)) N (K .nodes)
-
-  pub nodes-in-order : NodesOk N
-  nodes-in-order =
-      let few = state-ok .few in
-      nodes-ok (rowsOf S) rows-fit N (K .nodes) (arityOf S) (entry-none (arities S) noSymbol (omega arith)) (state-ok .rowsOk) (stand .tally .distinct) (omega (arith, same-rows, few-rows, few-records))
 
   -- After a record that stands: what is left to show are the counts, the tables and the node table.
   pub kept-next : (T : State) → step S k (decoded (recordPart F k)) ≡ stands T → (n′ : Counts) (here′ : Tables) (N′ A′ : List ℕ) → n′ ≡ countsOf T → here′ ≡ filledTables T t → N′ ≡ nodeTableOf (rowsOf T) → length A′ ≡ 524416 → Kept F t (suc k) T n′ here′ N′ A′

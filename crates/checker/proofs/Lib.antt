@@ -6,6 +6,7 @@ pub mod NodeLaws
 pub mod Entering
 pub mod EntryLaws
 pub mod Kept
+pub mod KeptClauses
 pub mod Declaring
 pub mod StepLaws
 pub mod StepTests

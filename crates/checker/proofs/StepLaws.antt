@@ -1,47 +1,43 @@
 -- Resolve and factor in the program: the array loaded for a step stands for what its parents say, and unification over it is the
 -- definition's.
 use mathlib.Core.Path.{_≡_, refl, sym, ap, ap₂, _∙_, subst}
-use mathlib.Core.Bool.{Bool, true, false}
 use mathlib.Core.Option.{some}
-use mathlib.Core.List.{List, [], _∷_, _++_}
+use mathlib.Core.List.{List, [], _∷_}
 use Prim.Native.Nat.{ℕ, _+_, _-_, _*_, _≤_, _<_}
 use native.Mathlib.Omega.{arith}
-use lib.ListN.{length, drop, replicate}
+use lib.ListN.{length}
+use Rattle.record.specs.Record.{recordCount}
 use Rattle.unify.specs.Clearing.{Cleared}
-use Rattle.unify.specs.Environment.{follow, Binding, Environment, Ends}
-use Rattle.unify.specs.Nodes.{isVariable, HasRow, nodeRow, NodesOk}
-use Rattle.unify.specs.Row.{variable, Row, application, Expression}
+use Rattle.unify.specs.Environment.{follow, Environment, Ends}
+use Rattle.unify.specs.Nodes.{HasRow, nodeRow, NodesOk}
+use Rattle.unify.specs.Row.{Row, application, Expression}
 use Rattle.unify.specs.Unification.{unify, mostWork, mostBindings, mostLinks, Outcome, unifying, noRoom}
 use Rattle.unify.specs.Unifying.{outcomeOf, Facing, Ready, Answered}
 use Rattle.unify.specs.Values.{InStep, Models}
 use Rattle.unify.proofs.Chains.{short-le}
-use Rattle.unify.proofs.Lists.{Each}
 use Rattle.unify.proofs.Rows.{Below}
-use Rattle.unify.proofs.Stability.{follow-agree, run-agree}
+use Rattle.unify.proofs.Stability.{run-agree}
 use Rattle.unify.proofs.Tests.{some-injective}
-use Rattle.derivation.specs.Derivation.{literals, input, Derivation, resolve, factor, raise, maximumIndex, joined, lookup}
-use Rattle.derivation.specs.Loaded.{BindingIn, AllIn, BindingsIn, Loadable, Loaded}
+use Rattle.derivation.specs.Derivation.{literals, Derivation, raise, maximumIndex, joined, lookup}
+use Rattle.derivation.specs.Loaded.{BindingsIn, Loadable, Loaded}
 use Rattle.derivation.specs.Stored.{literalsCell, indexCell, Stored}
 use Rattle.derivation.proofs.Chains.{short-joined}
 use Rattle.derivation.proofs.Known.{Known, KnownEnvironment, known-numbered, known-joined, known-variable, known-arguments}
 use Rattle.derivation.proofs.Literals.{In, each-numbered, LiteralIn, literals-in}
-use Rattle.derivation.proofs.LoadedModels.{cleared-free, factor-models, resolve-models}
-use Rattle.derivation.proofs.Origins.{stored-cells}
-use Rattle.derivation.proofs.OwnBindings.{BindingThere, BindingsThere, bindings-there}
+use Rattle.derivation.proofs.LoadedModels.{cleared-free, resolve-models}
 use Rattle.derivation.proofs.Validity.{lookup-in}
 use Rattle.checker.specs.Program.{clearedPart, withClauseCells}
-use Rattle.verdict.specs.Refusal.{mostIndex}
 use Rattle.verdict.specs.State.{State, rowsOf, derivations, clauseOf, rowOf, held}
 use Rattle.verdict.specs.Step.{step, unifyResolve, unifyFactor}
 use Rattle.checker.specs.Stepping.{tablesWith, BeforeStep, AtomOf, atomNamed, Resolving, Factoring, UnifiedTables, finished, withStep, stepFinished, HeldUpTo}
-use Rattle.verdict.specs.Tables.{Tables, clauseCells, bindingCells, filled}
-use Rattle.verdict.proofs.Advance.{Standing, RowFits}
-use Rattle.checker.proofs.Declaring.{clauses-here, bindings-here}
+use Rattle.verdict.specs.Tables.{Tables, bindingCells}
+use Rattle.verdict.proofs.Advance.{Standing}
+use Rattle.checker.proofs.Declaring.{bindings-here}
 use Rattle.checker.proofs.Filling.{filled-length}
-use Rattle.checker.proofs.Kept.{stand, sizes, few-records, state-ok, few-clauses, rows-fit, nodes-length, nodes-in-order}
-use Rattle.checker.proofs.NodeTable.{node-row, has-row, row-there-of, application-row}
-use Rattle.verdict.proofs.Standing.{below, ChainsEnd, InOrder, StateOk, room, order-of, known-of, held-links}
-use Rattle.verdict.proofs.Tabled.{all-bindings-length, stored-clause}
+use Rattle.checker.proofs.Kept.{sizes, few-records, few-clauses}
+use Rattle.checker.proofs.KeptClauses as kept
+use Rattle.verdict.proofs.Standing.{below, ChainsEnd, InOrder, StateOk, room, known-of, held-links}
+use Rattle.verdict.proofs.Tabled.{all-bindings-length}
 use Rattle.unify.specs.declared.pairs.Unified.{Unified}
 use Rattle.unify.specs.declared.pairs.Unified.the-variants.{Done}
 use Rattle.unify.specs.declared.pairs.Unified.the-variants as unified-variants
@@ -65,23 +61,23 @@ module _ {F : List ℕ} {k : ℕ} {n : Counts} {C B N A : List ℕ} (E : BeforeS
   abbrev L : ℕ
   L = length (rowsOf (E .state))
 
+  few-inside : k ≤ recordCount F
+  few-inside = omega (arith, E .inside)
+
   pub stand-of : Standing F k (E .state)
-  stand-of = stand F T k S n Here N A (E .kept) (E .inside)
+  stand-of = kept.stand-of (E .kept) few-inside
 
   pub ok-of : StateOk 4096 (E .state)
-  ok-of = state-ok F T k S n Here N A (E .kept) (E .inside)
+  ok-of = kept.ok-of (E .kept) few-inside
 
   pub small : k < 4096
   small = few-records F T k S n Here N A (E .kept) (E .inside)
 
-  fit : Each RowFits (rowsOf (E .state))
-  fit = rows-fit F T k S n Here N A (E .kept) (E .inside)
-
   pub nodes-room : length N ≡ 32768
-  nodes-room = nodes-length F T k S n Here N A (E .kept) (E .inside)
+  nodes-room = kept.nodes-room (E .kept) few-inside
 
   pub nodes-fine : NodesOk N
-  nodes-fine = nodes-in-order F T k S n Here N A (E .kept) (E .inside)
+  nodes-fine = kept.nodes-fine (E .kept) few-inside
 
   pub held-count : n .bindings ≡ held (E .state)
   held-count = ap (λ (c : Counts). c .bindings) (E .kept .counts)
@@ -110,73 +106,34 @@ module _ {F : List ℕ} {k : ℕ} {n : Counts} {C B N A : List ℕ} (E : BeforeS
       let c : length (bindingCells (derivations S)) ≤ 32768 = omega (arith, cells, few-bindings) in
       rw (ap length b ∙ filled-length 32768 (bindingCells (derivations S)) (T .bindings) c (z .bindings)) (z .bindings)
 
-  -- Every clause is stored in the tables.
+  -- Clauses and rows, as for every state that the program keeps.
   pub stored-of : (c : ℕ) (d : Derivation) → clauseOf (E .state) c ≡ some d → Stored F C B c d
-  stored-of c d q =
-      let p = clauses-here F T k S n Here N A (E .kept) (E .inside) in
-      let b = bindings-here F T k S n Here N A (E .kept) (E .inside) in
-      let s = stored-clause F (S .clauses) (stand-of .sourced) (replicate (20480 - length (clauseCells (S .clauses))) 0 ++ drop 20480 (T .clauses)) (replicate (32768 - length (bindingCells (derivations S))) 0 ++ drop 32768 (T .bindings)) d c q in
-      subst (λ (x : List ℕ). Stored F C x c d) (sym b) (subst (λ (x : List ℕ). Stored F x (filled 32768 (bindingCells (derivations S)) (T .bindings)) c d) (sym p) s)
+  stored-of c d q = kept.stored-of (E .kept) few-inside c d q
 
   pub index-of : (c : ℕ) (d : Derivation) → clauseOf (E .state) c ≡ some d → indexCell C c ≡ maximumIndex d
-  index-of c d q = stored-cells (stored-of c d q) .index
+  index-of c d q = kept.index-of (E .kept) few-inside c d q
 
   pub literals-of : (c : ℕ) (d : Derivation) → clauseOf (E .state) c ≡ some d → literalsCell C c ≡ length (literals d)
-  literals-of c d q = stored-cells (stored-of c d q) .literalCount
+  literals-of c d q = kept.literals-of (E .kept) few-inside c d q
 
   pub order-in : (c : ℕ) (d : Derivation) → clauseOf (E .state) c ≡ some d → InOrder (rowsOf (E .state)) (held (E .state)) d
-  order-in c d q = order-of 4096 S ok-of c d q
+  order-in c d q = kept.order-in (E .kept) few-inside c d q
 
-  -- The node table's rows are the state's.
   agree : (r : ℕ) → r < length (rowsOf (E .state)) → nodeRow N r ≡ rowOf (E .state) r
-  agree r l = node-row ws fit N (E .kept .nodes) r l
-
-  node-below : (r s : ℕ) (xs : List ℕ) → nodeRow N r ≡ application s xs → r < length (rowsOf (E .state)) → Below (length (rowsOf (E .state))) xs
-  node-below r s xs q l = below 4096 S ok-of r s xs (sym (agree r l) ∙ q) l
+  agree r l = kept.agree (E .kept) few-inside r l
 
   there : (r : ℕ) → r < length (rowsOf (E .state)) → HasRow N r
-  there r l = has-row ws fit N (E .kept .nodes) r l
-
-  inside-of : (r : ℕ) → HasRow N r → r < length (rowsOf (E .state))
-  inside-of r h = row-there-of ws fit N (E .kept .nodes) r h
-
-  in-binding : (m : ℕ) (b : Binding) → BindingThere (rowOf (E .state)) (length (rowsOf (E .state))) m b → BindingIn N m b
-  unfolding isVariable
-  in-binding m b t = record {
-    bound = record { row = there (b .0 .0) (t .variableRow); low = t .variableIndex .0; high = t .variableIndex .1 };
-    ofVariable = variable-node (b .0 .0) (t .variableRow) (t .number) (t .isVariable);
-    value = record { row = there (b .1 .0) (t .termRow); low = t .termIndex .0; high = t .termIndex .1 };
-  }
-    where
-      variable-node : (r : ℕ) → r < length (rowsOf (E .state)) → (v : ℕ) → rowOf (E .state) r ≡ variable v → isVariable N r ≡ true
-      variable-node r l v q = try (isVariable N r) refl
-        where
-          no : {s : ℕ} {xs : List ℕ} → variable v ≡ application s xs → ⊥
-          no e = let z : _≡_ {A = ℕ} 0 1 = cc in omega arith
-
-          try : (c : Bool) → isVariable N r ≡ c → c ≡ true
-          try true p = refl
-          try false p = absurd (no (sym q ∙ application-row ws fit N (E .kept .nodes) r l p))
-
-  all-in : (m : ℕ) (bs : List Binding) → Each (BindingThere (rowOf (E .state)) (length (rowsOf (E .state))) m) bs → AllIn N m bs
-  all-in m [] h = tt
-  all-in m (b ∷ bs) h = (in-binding m b (h .0), all-in m bs (h .1))
-
-  clause-in : (d : Derivation) → BindingsThere (rowOf (E .state)) (length (rowsOf (E .state))) d → BindingsIn N d
-  clause-in (input ls) h = tt
-  clause-in (resolve l a r b bs) h = (clause-in l (h .0), clause-in r (h .1), all-in (maximumIndex l + maximumIndex r) bs (h .2))
-  clause-in (factor d a b bs) h = (clause-in d (h .0), all-in (maximumIndex d) bs (h .1))
+  there r l = kept.there (E .kept) few-inside r l
 
   pub bindings-in : (c : ℕ) (d : Derivation) → clauseOf (E .state) c ≡ some d → BindingsIn N d
-  bindings-in c d q =
-      let o = order-in c d q in
-      clause-in d (bindings-there L (rowOf S) (below 4096 S ok-of) d (o .valid) (o .known))
+  bindings-in c d q = kept.bindings-in (E .kept) few-inside c d q
 
   -- Following and unification over the node table.
   node-ends : (h : ℕ) (ρ : Environment) → KnownEnvironment (length (rowsOf (E .state))) ρ → ChainsEnd (rowsOf (E .state)) h ρ → (e : Expression) → HasRow N (e .0) → Ends (follow (nodeRow N) h ρ e)
-  node-ends h ρ κ c e r =
-      let l = inside-of (e .0) r in
-      subst Ends (follow-agree (Known L) (Known L) (rowOf S) (nodeRow N) (λ d z. sym (agree (d .0) z)) h ρ κ e l) (c e l)
+  node-ends h ρ κ c e r = kept.node-ends (E .kept) few-inside h ρ κ c e r
+
+  node-below : (r s : ℕ) (xs : List ℕ) → nodeRow N r ≡ application s xs → r < length (rowsOf (E .state)) → Below (length (rowsOf (E .state))) xs
+  node-below r s xs q l = below 4096 S ok-of r s xs (sym (agree r l) ∙ q) l
 
   node-unify : (h : ℕ) (ρ : Environment) (e d : Expression) → KnownEnvironment (length (rowsOf (E .state))) ρ → Known (length (rowsOf (E .state))) e → Known (length (rowsOf (E .state))) d → unify (nodeRow N) h ρ e d ≡ unify (rowOf (E .state)) h ρ e d
   node-unify h ρ e d κ a b =
@@ -188,7 +145,7 @@ module _ {F : List ℕ} {k : ℕ} {n : Counts} {C B N A : List ℕ} (E : BeforeS
 
   -- What a caller of `load` and `unify_literals` needs.
   pub load-ready : (c o : ℕ) (d : Derivation) → clauseOf (E .state) c ≡ some d → o + maximumIndex d ≤ 4096 → (Q : List ℕ) → length Q ≡ 524416 → Loadable F C B N Q c o
-  load-ready c o d q f Q v = record { nodes = nodes-fine; nodeRoom = nodes-room; room = v; derivation = d; stored = stored-of c d q; bindings = bindings-in c d q; fits = f }
+  load-ready c o d q f Q v = kept.load-ready (E .kept) few-inside c o d q f Q v
 
   facing : (ρ : Environment) (top : ℕ) (Q : List ℕ) (e d : Expression) → Models N top Q ρ → KnownEnvironment (length (rowsOf (E .state))) ρ → ChainsEnd (rowsOf (E .state)) (held (E .state)) ρ → InStep N top e → InStep N top d → Facing N top Q (n .bindings) ρ e d
   facing ρ top Q e d M κ c a b = record { models = M; short = subst (λ (h : ℕ). (x : Expression) → HasRow N (x .0) → Ends (follow (nodeRow N) h ρ x)) (sym held-count) (node-ends (held S) ρ κ c); left = a; right = b }
@@ -268,8 +225,7 @@ module _ {F : List ℕ} {k : ℕ} {n : Counts} {C B N A : List ℕ} (E : BeforeS
     one-known = known-of 4096 S ok-of m O
 
     parent-small : maximumIndex (x .clause) ≤ 4096
-    unfolding mostIndex
-    parent-small = O .indexFits
+    parent-small = kept.index-fits (E .kept) few-inside a m (x .isClause)
 
     pub factor-fits : 0 + maximumIndex (x .clause) ≤ 4096
     factor-fits = omega (arith, parent-small)
@@ -287,8 +243,7 @@ module _ {F : List ℕ} {k : ℕ} {n : Counts} {C B N A : List ℕ} (E : BeforeS
         let yin : In (maximumIndex m) (y .literal .1 .1) = subst (λ (z : Derivation). In (maximumIndex z) (y .literal .1 .1)) same-clause (ky .1) in
         let s = parent-small in
         facing (lookup m) top A₂ (b, c) (e, f)
-        (factor-models nodes-fine (stored-of a m (x .isClause)) (bindings-in a m (x .isClause)) (sym pq) (omega arith) (cleared-free N A A₁ top nodes-fine K) U
-        (λ g h. node-ends mostLinks (lookup m) one-known (short-le (λ r. r < L) (rowOf S) (held S) mostLinks (lookup m) (held-links 4096 S ok-of) (O .chains)) g h))
+        (kept.clause-models (E .kept) few-inside a m (x .isClause) top pq A A₁ A₂ K U)
         one-known (O .chains)
         (record { row = there b (rw (← xr) (kx .0)); low = omega arith; high = omega arith })
         (record { row = there e (rw (← yr) (ky .0)); low = omega arith; high = omega arith })

@@ -3,5 +3,6 @@ pub mod Decimals
 pub mod TermTexts
 pub mod ArgumentTexts
 pub mod LiteralTexts
+pub mod LineTexts
 pub mod CasesProved
 pub mod PieceLaws

@@ -1,5 +1,6 @@
 pub mod Text
 pub mod Readout
 pub mod Writing
+pub mod Lines
 pub mod Cases
 pub mod Pieces
