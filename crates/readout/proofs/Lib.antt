@@ -6,3 +6,4 @@ pub mod LiteralTexts
 pub mod LineTexts
 pub mod CasesProved
 pub mod PieceLaws
+pub mod UnitLaws

@@ -4,3 +4,4 @@ pub mod Writing
 pub mod Lines
 pub mod Cases
 pub mod Pieces
+pub mod Units

@@ -1,0 +1,165 @@
+-- The units of a readout: the lines of a file by the state that its check left, and how long they are.
+use mathlib.Core.Path.{_≡_, refl, sym, ap, ap₂, _∙_, subst}
+use mathlib.Core.Bool.{Bool, true, false}
+use mathlib.Core.Option.{some}
+use mathlib.Core.List.{List, [], _∷_, _++_}
+use Prim.Native.Nat.{ℕ, zero, suc, _+_, _≤_, _<_}
+use native.Mathlib.Omega.{arith}
+use lib.Dec.{eqb}
+use lib.ListN.{length, getD, drop, length-append, length-map, List·getD-append}
+use lib.Seq.{getD-append-add}
+use borrow.Author.Tests.{eqb-true, ne-eqb}
+use Rattle.record.specs.Record.{pick}
+use Rattle.derivation.specs.Derivation.{Derivation}
+use Rattle.verdict.specs.Refusal.{badLength, shortTable}
+use Rattle.verdict.specs.State.{State, start, derivations, entry, clauseOf}
+use Rattle.verdict.specs.Step.{stateOf}
+use Rattle.verdict.specs.Tables.{Tables, lengthsOf}
+use Rattle.verdict.specs.Verdict.{Verdict, accepted, undecided, refusal, verdictNumbers, answerNumbers, check, verdictOf, answerOf, longEnough, fittingLength, ending, Lengths}
+use Rattle.verdict.proofs.Inversions.{entry-below}
+use Rattle.unify.proofs.Tests.{some-injective}
+use Rattle.checker.specs.Contract.{stateLeft, CheckedWith}
+use Rattle.checker.specs.Given.{verdictGiven, answerGiven}
+use Rattle.checker.specs.declared.answer.Answer.{Answer}
+use Rattle.checker.specs.declared.answer.Verdict as given
+use Rattle.checker.specs.declared.answer.Verdict.the-variants as given-variants
+use Rattle.readout.specs.Pieces.{units}
+use Rattle.readout.specs.Readout.{verdictLine, clauseLine, clauseLines, linesOf, readoutLines}
+use Rattle.readout.specs.Units.{unitsWithin, unitAt}
+
+-- The lines of the clauses, by number.
+pub clause-lines-length : (S : State) (ds : List Derivation) → length (clauseLines S ds) ≡ length ds
+clause-lines-length S [] = refl
+clause-lines-length S (d ∷ ds) = let l = clause-lines-length S ds in omega (arith, length-append (clauseLines S ds) (clauseLine S (length ds) d ∷ []), l)
+
+pub clause-line-at : (S : State) (ds : List Derivation) (n : ℕ) (d : Derivation) → entry ds n ≡ some d → getD (clauseLines S ds) n [] ≡ clauseLine S n d
+clause-line-at S [] n d q = let z = entry-below [] n d q in absurd (omega arith)
+clause-line-at S (e ∷ ds) n d q = try (eqb n (length ds)) refl q (λ r. clause-line-at S ds n d r)
+  where
+    try : (b : Bool) → eqb n (length ds) ≡ b → pick b (some e) (entry ds n) ≡ some d → (entry ds n ≡ some d → getD (clauseLines S ds) n [] ≡ clauseLine S n d)
+        → getD (clauseLines S ds ++ (clauseLine S (length ds) e ∷ [])) n [] ≡ clauseLine S n d
+    try true p r ih =
+        let z : n ≡ length (clauseLines S ds) + 0 = omega (arith, eqb-true n (length ds) p, clause-lines-length S ds) in
+        ap (λ (k : ℕ). getD (clauseLines S ds ++ (clauseLine S (length ds) e ∷ [])) k []) z
+        ∙ getD-append-add (clauseLines S ds) (clauseLine S (length ds) e ∷ []) 0 []
+        ∙ ap₂ (clauseLine S) (sym (eqb-true n (length ds) p)) (some-injective r)
+    try false p r ih = List·getD-append (clauseLines S ds) (clauseLine S (length ds) e ∷ []) [] n (omega (arith, entry-below ds n d r, clause-lines-length S ds)) ∙ ih r
+
+-- The lines of a file are those of the verdict and the state that its check leaves.
+pub lines-left : (F : List ℕ) (lengths : Lengths) → readoutLines F lengths ≡ linesOf (check F lengths .verdict) (stateLeft F lengths)
+unfolding readoutLines check
+lines-left F lengths = try (fittingLength (length F)) (longEnough lengths)
+  where
+    try : (f l : Bool) → pick f (pick l (linesOf (verdictOf (ending F)) (stateOf (ending F))) (linesOf (refusal shortTable 0) start)) (linesOf (refusal badLength 0) start)
+        ≡ linesOf (pick f (pick l (answerOf (verdictOf (ending F)) (stateOf (ending F))) (answerOf (refusal shortTable 0) start)) (answerOf (refusal badLength 0) start) .verdict) (pick f (pick l (stateOf (ending F)) start) start)
+    try true true = refl
+    try true false = refl
+    try false l = refl
+
+counts-left : (F : List ℕ) (lengths : Lengths) → check F lengths .clauses ≡ length (stateLeft F lengths .clauses)
+unfolding check
+counts-left F lengths = try (fittingLength (length F)) (longEnough lengths)
+  where
+    try : (f l : Bool) → pick f (pick l (answerOf (verdictOf (ending F)) (stateOf (ending F))) (answerOf (refusal shortTable 0) start)) (answerOf (refusal badLength 0) start) .clauses
+        ≡ length (pick f (pick l (stateOf (ending F)) start) start .clauses)
+    try true true = refl
+    try true false = refl
+    try false l = refl
+
+-- The verdict's numbers and the counts, taken apart.
+rest-given : (v : given.Verdict) (xs : List ℕ) → drop 3 (verdictGiven v ++ xs) ≡ xs
+rest-given given-variants.Open xs = refl
+rest-given (given-variants.Accepted n) xs = refl
+rest-given (given-variants.Refused q k) xs = refl
+
+rest-numbers : (v : Verdict) (xs : List ℕ) → drop 3 (verdictNumbers v ++ xs) ≡ xs
+rest-numbers (accepted n) xs = refl
+rest-numbers undecided xs = refl
+rest-numbers (refusal reason k) xs = refl
+
+abbrev three : List ℕ → List ℕ
+three l = getD l 0 0 ∷ getD l 1 0 ∷ getD l 2 0 ∷ []
+
+three-given : (v : given.Verdict) (xs : List ℕ) → three (verdictGiven v ++ xs) ≡ verdictGiven v
+three-given given-variants.Open xs = refl
+three-given (given-variants.Accepted n) xs = refl
+three-given (given-variants.Refused q k) xs = refl
+
+three-numbers : (v : Verdict) (xs : List ℕ) → three (verdictNumbers v ++ xs) ≡ verdictNumbers v
+three-numbers (accepted n) xs = refl
+three-numbers undecided xs = refl
+three-numbers (refusal reason k) xs = refl
+
+module _ (F : List ℕ) (lengths : Lengths) (a : Answer) (isAnswer : answerGiven a ≡ answerNumbers (check F lengths)) where
+  pub verdict-given : verdictGiven (a .verdict) ≡ verdictNumbers (check F lengths .verdict)
+  verdict-given =
+      sym (three-given (a .verdict) (a .symbols ∷ a .rows ∷ a .clauses ∷ a .bindings ∷ []))
+      ∙ ap three isAnswer
+      ∙ three-numbers (check F lengths .verdict) (check F lengths .symbols ∷ check F lengths .rows ∷ check F lengths .clauses ∷ check F lengths .bindings ∷ [])
+
+  pub clauses-given : a .clauses ≡ length (stateLeft F lengths .clauses)
+  clauses-given =
+      ap (λ (l : List ℕ). getD l 2 0)
+      (sym (rest-given (a .verdict) (a .symbols ∷ a .rows ∷ a .clauses ∷ a .bindings ∷ []))
+      ∙ ap (drop 3) isAnswer
+      ∙ rest-numbers (check F lengths .verdict) (check F lengths .symbols ∷ check F lengths .rows ∷ check F lengths .clauses ∷ check F lengths .bindings ∷ []))
+      ∙ counts-left F lengths
+
+-- Units of a line and the lines after it.
+units-one : (v : List ℕ) (ls : List (List ℕ)) → length ls ≡ 0 → getD (units (v ∷ ls)) 0 [] ≡ v
+units-one v [] q = refl
+units-one v (l ∷ ls) q = absurd (omega arith)
+
+units-first : (v : List ℕ) (ls : List (List ℕ)) → 0 < length ls → getD (units (v ∷ ls)) 0 [] ≡ v ++ getD ls 0 []
+units-first v [] h = absurd (omega arith)
+units-first v (l ∷ ls) h = refl
+
+units-next : (v : List ℕ) (ls : List (List ℕ)) (n : ℕ) → 0 < n → 0 < length ls → getD (units (v ∷ ls)) n [] ≡ getD ls n []
+units-next v [] n h k = absurd (omega arith)
+units-next v (l ∷ ls) zero h k = absurd (omega arith)
+units-next v (l ∷ ls) (suc n) h k = refl
+
+units-length : (v : List ℕ) (ls : List (List ℕ)) → length (units (v ∷ ls)) ≡ unitsWithin (length ls)
+units-length v [] = refl
+units-length v (l ∷ ls) = sym (ap (λ (b : Bool). pick b 1 (suc (length ls))) (ne-eqb (suc (length ls)) 0 (λ q. omega arith)))
+
+module _ (F : List ℕ) (lengths : Lengths) where
+  abbrev S : State
+  S = stateLeft F lengths
+
+  abbrev lines : List (List ℕ)
+  lines = clauseLines S (derivations S)
+
+  abbrev heading : List ℕ
+  heading = verdictLine (check F lengths .verdict)
+
+  lines-count : length lines ≡ length (S .clauses)
+  lines-count = clause-lines-length S (derivations S) ∙ length-map (S .clauses) (λ (c : ℕ × Derivation). c .1)
+
+  pub unit-count : length (units (readoutLines F lengths)) ≡ unitsWithin (length (S .clauses))
+  unit-count = ap (λ (l : List (List ℕ)). length (units l)) (lines-left F lengths) ∙ units-length heading lines ∙ ap unitsWithin lines-count
+
+  -- Unit 0 without clauses, unit 0 with clauses, and any other.
+  pub unit-alone : length (S .clauses) ≡ 0 → unitAt F lengths 0 ≡ heading
+  unfolding unitAt
+  unit-alone z = ap (λ (l : List (List ℕ)). getD (units l) 0 []) (lines-left F lengths) ∙ units-one heading lines (lines-count ∙ z)
+
+  pub unit-first : (d : Derivation) → clauseOf S 0 ≡ some d → unitAt F lengths 0 ≡ heading ++ clauseLine S 0 d
+  unfolding unitAt
+  unit-first d q =
+      let l = entry-below (derivations S) 0 d q in
+      ap (λ (x : List (List ℕ)). getD (units x) 0 []) (lines-left F lengths)
+      ∙ units-first heading lines (omega (arith, l, clause-lines-length S (derivations S)))
+      ∙ ap (λ (x : List ℕ). heading ++ x) (clause-line-at S (derivations S) 0 d q)
+
+  pub unit-other : (n : ℕ) (d : Derivation) → (n ≡ 0 → ⊥) → clauseOf S n ≡ some d → unitAt F lengths n ≡ clauseLine S n d
+  unfolding unitAt
+  unit-other n d h q =
+      let l = entry-below (derivations S) n d q in
+      ap (λ (x : List (List ℕ)). getD (units x) n []) (lines-left F lengths)
+      ∙ units-next heading lines n (positive n h) (omega (arith, l, clause-lines-length S (derivations S)))
+      ∙ clause-line-at S (derivations S) n d q
+    where
+      positive : (n : ℕ) → (n ≡ 0 → ⊥) → 0 < n
+      positive zero h = absurd (h refl)
+      positive (suc n) h = omega arith

@@ -1,0 +1,40 @@
+-- The contracts of the functions that write the readout in pieces. What a piece is stands in `Pieces`, and what the crate promises in
+-- `Contract`; this file only says how the parts of the program fit together.
+use mathlib.Core.Path.{_≡_}
+use mathlib.Core.List.{List, [], _++_}
+use Prim.Native.Nat.{ℕ, _+_, _≤_, _<_}
+use lib.Dec.{eqb}
+use lib.ListN.{length, getD, take, drop}
+use Rattle.record.specs.Record.{pick}
+use Rattle.verdict.specs.Tables.{Tables, lengthsOf}
+use Rattle.verdict.specs.Verdict.{Lengths}
+use Rattle.checker.specs.Contract.{CheckedWith}
+use Rattle.checker.specs.Stepping.{tablesWith}
+use Rattle.checker.specs.declared.answer.Answer.{Answer}
+use Rattle.readout.specs.Readout.{readoutLines}
+use Rattle.readout.specs.Pieces.{units}
+use Rattle.readout.specs.Writing.{Wrote, Sized}
+
+-- How many units there are for so many clauses, and unit n of a file.
+abbrev pub unitsWithin : ℕ → ℕ
+unitsWithin clauses = pick (eqb clauses 0) 1 clauses
+
+unfoldable pub unitAt : List ℕ → Lengths → ℕ → List ℕ
+unitAt file lengths n = getD (units (readoutLines file lengths)) n []
+
+-- What is there after a check: its answer, for some tables before it, with the node table and the array.
+pub record AfterCheck (F C B N A : List ℕ) (a : Answer) : Type 0 where
+  pub before : Tables
+  pub symbols : List ℕ
+  pub rows : List ℕ
+  pub checked : CheckedWith F before a (tablesWith symbols rows C B) N A
+
+-- What writing unit n asks, and what it says, whichever tables there were before the check.
+pub record UnitReady (F C B N A T : List ℕ) (a : Answer) (n : ℕ) : Type 0 where
+  pub after : AfterCheck F C B N A a
+  pub inside : n < unitsWithin (a .clauses)
+  pub text : length T ≡ 131072
+
+pub record UnitWritten (F C B N A A′ T T′ : List ℕ) (at : ℕ) (a : Answer) (n end : ℕ) : Type 0 where
+  pub wrote : (R : AfterCheck F C B N A a) → Wrote T T′ at end (unitAt F (lengthsOf (R .before)) n)
+  pub sized : Sized N A′ T′
