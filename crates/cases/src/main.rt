@@ -12,6 +12,7 @@ use pack::count_files;
 use pack::entry_at;
 ghost use Prim.Native.Nat.{_≤_};
 ghost use lib.ListN.{length};
+ghost use Rattle.io.specs.Counts.{Counts};
 
 // A line for each file of a pack.
 fn print_files(pack: &[u8]) {
@@ -61,20 +62,27 @@ fn print_group(path: &[u8], pack: &[u8]) -> bool
     }
 }
 
+// Reads a file into the start of `space`. How many bytes there are: 0 where the file cannot be opened or read.
+fn read_file(path: &[u8], space: &mut [u8]) -> usize
+    ensures { λ r. ⌜ Counts r (now (space .exit)) ⌝ }
+{
+    let fd = os::open_read(path);
+    if fd < 0 {
+        return 0;
+    }
+    let n = io::read_full(fd, space);
+    libc::close(fd);
+    n
+}
+
 // Reads the pack of a group and prints its lines. Whether it could be read whole.
 fn run_group(path: &[u8]) -> bool
     requires { ⌜ 4 ≤ length (now path) ⌝ }
 {
-    let fd = os::open_read(path);
-    if fd < 0 {
-        complain(path, b" cannot be opened\n");
-        return false;
-    }
     let mut space = [0u8; 655360];
-    let n = io::read_full(fd, &mut space);
-    libc::close(fd);
+    let n = read_file(path, &mut space);
     if n == 0 {
-        complain(path, b" is empty or cannot be read\n");
+        complain(path, b" cannot be read or is empty\n");
         return false;
     }
     if n == 655360 {
