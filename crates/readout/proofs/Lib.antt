@@ -4,6 +4,7 @@ pub mod TermTexts
 pub mod ArgumentTexts
 pub mod LiteralTexts
 pub mod LineTexts
+pub mod VerdictTexts
 pub mod CasesProved
 pub mod PieceLaws
 pub mod UnitLaws

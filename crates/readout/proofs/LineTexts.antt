@@ -77,23 +77,23 @@ none-left (l ∷ ls) zero h = absurd (omega arith)
 none-left (l ∷ ls) (suc n) h = none-left ls n (omega arith)
 
 -- After the text `before` what is left, from the literal after the n-th on, makes the text of all literals.
-pub record Progress (N : List ℕ) (top : ℕ) (A : List ℕ) (ρ : Environment) (row : ℕ → Row) (term : ℕ → Term ℕ) (σ : Variable → Term Variable) (T T′ : List ℕ) (at end n : ℕ) (ls : List Literal) : Type 0 where
+pub record LiteralsSoFar (N : List ℕ) (top : ℕ) (A : List ℕ) (ρ : Environment) (row : ℕ → Row) (term : ℕ → Term ℕ) (σ : Variable → Term Variable) (T T′ : List ℕ) (at end n : ℕ) (ls : List Literal) : Type 0 where
   pub models : Models N top A ρ
   pub before : List ℕ
   pub wrote : Wrote T T′ at end before
   pub whole : before ++ literalsText row (map (writtenLiteral term σ) (drop n ls)) ≡ literalsText row (map (writtenLiteral term σ) ls)
 
-abbrev pub Progressed : List ℕ → List ℕ → List ℕ → List ℕ → List ℕ → List ℕ → List ℕ → ℕ → ℕ → ℕ → ℕ → Type 0
-Progressed F C N A A′ T T′ at c end n =
+abbrev pub WritesSoFar : List ℕ → List ℕ → List ℕ → List ℕ → List ℕ → List ℕ → List ℕ → ℕ → ℕ → ℕ → ℕ → Type 0
+WritesSoFar F C N A A′ T T′ at c end n =
     (B : List ℕ) (d : Derivation) → Stored F C B c d
     → (top : ℕ) (ρ : Environment) (row : ℕ → Row) (term : ℕ → Term ℕ) (σ : Variable → Term Variable) → AllWritable N top A ρ row term σ (literals d)
-    → Progress N top A′ ρ row term σ T T′ at end n (literals d)
+    → LiteralsSoFar N top A′ ρ row term σ T T′ at end n (literals d)
 
 module _ (F C N A T : List ℕ) (at c : ℕ) where
-  pub literals-start : Progressed F C N A A T T at c at 0
+  pub literals-start : WritesSoFar F C N A A T T at c at 0
   literals-start B d s top ρ row term σ W = record { models = W .models; before = []; wrote = wrote-nothing T at; whole = refl }
 
-  module _ (A₁ T₁ : List ℕ) (end n count : ℕ) (S : Progressed F C N A A₁ T T₁ at c end n) (counted : count ≡ literalsCell C c) where
+  module _ (A₁ T₁ : List ℕ) (end n count : ℕ) (S : WritesSoFar F C N A A₁ T T₁ at c end n) (counted : count ≡ literalsCell C c) where
     pub literals-end : count ≤ n → WritesLiterals F C N A A₁ T T₁ at c end
     literals-end h B d s top ρ row term σ W =
         let S′ = S B d s top ρ row term σ W in
@@ -102,7 +102,7 @@ module _ (F C N A T : List ℕ) (at c : ℕ) where
         sym (append-nil (S′ .before)) ∙ ap (λ (ls : List Literal). S′ .before ++ literalsText row (map (writtenLiteral term σ) ls)) (sym none) ∙ S′ .whole in
         record { models = S′ .models; wrote = subst (Wrote T T₁ at end) all (S′ .wrote) }
 
-    pub literals-next : n < count → (A₂ T₂ : List ℕ) (after : ℕ) → WritesNumbered F C N A₁ A₂ T₁ T₂ end c (n + 1) after → Progressed F C N A A₂ T T₂ at c after (n + 1)
+    pub literals-next : n < count → (A₂ T₂ : List ℕ) (after : ℕ) → WritesNumbered F C N A₁ A₂ T₁ T₂ end c (n + 1) after → WritesSoFar F C N A A₂ T T₂ at c after (n + 1)
     literals-next h A₂ T₂ after G B d s top ρ row term σ W =
         let S′ = S B d s top ρ row term σ W in
         let x = next-literal (literals d) n (omega (arith, stored-cells s .literalCount)) in

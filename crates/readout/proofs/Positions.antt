@@ -4,8 +4,8 @@ use mathlib.Core.List.{List, [], _∷_, _++_, append-assoc}
 use Prim.Native.Nat.{ℕ, _+_, _≤_, _<_}
 use native.Mathlib.Numerals.{add-one}
 use native.Mathlib.Omega.{arith}
-use lib.ListN.{length, take, set, length-append, length-set}
-use lib.Seq.{take-set-le, take-suc-set, take-take}
+use lib.ListN.{length, getD, take, set, length-append, length-set}
+use lib.Seq.{take-all, take-suc, take-set-le, take-suc-set, take-take}
 use Rattle.readout.specs.Writing.{KeptBefore, Wrote}
 
 pub kept-same : (T : List ℕ) (at : ℕ) → KeptBefore T T at
@@ -70,6 +70,14 @@ module _ (T T′ T″ : List ℕ) (at next end : ℕ) (x y : List ℕ) where
 
       ends : at + length (x ++ y) ≤ length T → end ≡ at + length (x ++ y)
       ends h = omega (arith, length-append x y, k .position (first h), l .position (second h))
+
+-- The bytes of a word, one after another: one more, and all of them.
+module _ (T T′ : List ℕ) (at end n : ℕ) (word : List ℕ) (w : Wrote T T′ at end (take n word)) where
+  pub wrote-next : n < length word → (T″ : List ℕ) (next : ℕ) → Wrote T′ T″ end next (getD word n 0 ∷ []) → Wrote T T″ at next (take (n + 1) word)
+  wrote-next h T″ next v = subst (Wrote T T″ at next) (sym (ap (λ (m : ℕ). take m word) (add-one n) ∙ take-suc word n 0 h)) (wrote-then T T′ T″ at end next (take n word) (getD word n 0 ∷ []) w v)
+
+  pub wrote-whole : length word ≤ n → Wrote T T′ at end word
+  wrote-whole h = subst (Wrote T T′ at end) (take-all n word h) w
 
 -- What was written at a position after something else was, from the same position on, is all that counts.
 pub wrote-over : (T T′ T″ : List ℕ) (at end : ℕ) (x : List ℕ) → KeptBefore T T′ at → Wrote T′ T″ at end x → Wrote T T″ at end x

@@ -15,9 +15,13 @@ use Rattle.derivation.specs.Stored.{Stored}
 use Rattle.derivation.specs.Written.{writtenLiteral, WritesOut}
 use Rattle.verdict.specs.State.{State, clauseOf}
 use Rattle.verdict.specs.Tables.{Tables}
+use Rattle.verdict.specs.Verdict.{Verdict, verdictNumbers}
+use Rattle.checker.specs.Given.{verdictGiven}
 use Rattle.checker.specs.Reader.{ReadTo}
 use Rattle.checker.specs.Stepping.{tablesWith}
-use Rattle.readout.specs.Readout.{clauseLine}
+use Rattle.checker.specs.declared.answer.Verdict as given
+use Rattle.checker.specs.declared.answer.Verdict.the-variants as given-variants
+use Rattle.readout.specs.Readout.{acceptedText, openText, refusedText, verdictLine, clauseLine}
 use Rattle.readout.specs.Text.{literalsText}
 use Rattle.readout.specs.Writing.{Wrote, Sized, LiteralWritten, WritesLiteral}
 
@@ -57,3 +61,14 @@ pub record LineWritten (F C B N A A′ T T′ : List ℕ) (at c end : ℕ) : Typ
   pub wrote : (t : Tables) (S : State) (symbols rows : List ℕ) → ReadTo F t S (tablesWith symbols rows C B) N A
       → (d : Derivation) → clauseOf S c ≡ some d → Wrote T T′ at end (clauseLine S c d)
   pub sized : Sized N A′ T′
+
+-- The words of a verdict as the program gives it.
+abbrev pub givenText : given.Verdict → List ℕ
+givenText given-variants.Open = openText
+givenText (given-variants.Accepted n) = acceptedText n
+givenText (given-variants.Refused q k) = refusedText q k
+
+-- What writing the verdict says: the line of the definition's verdict that has the same three numbers, and the buffer's length.
+pub record VerdictWritten (v : given.Verdict) (T T′ : List ℕ) (at end : ℕ) : Type 0 where
+  pub wrote : (u : Verdict) → verdictGiven v ≡ verdictNumbers u → Wrote T T′ at end (verdictLine u)
+  pub room : length T′ ≡ 131072

@@ -12,10 +12,19 @@ use Rattle.verdict.specs.Verdict.{Verdict, refusal, accepted, undecided, verdic
 use Rattle.readout.specs.Text.{decimal, literalsText}
 
 -- `accepted N`, `open`, or `refused R at K`.
+abbrev pub acceptedText : ℕ → List ℕ
+acceptedText n = 97 ∷ 99 ∷ 99 ∷ 101 ∷ 112 ∷ 116 ∷ 101 ∷ 100 ∷ 32 ∷ decimal n
+
+abbrev pub openText : List ℕ
+openText = 111 ∷ 112 ∷ 101 ∷ 110 ∷ []
+
+abbrev pub refusedText : ℕ → ℕ → List ℕ
+refusedText r k = (114 ∷ 101 ∷ 102 ∷ 117 ∷ 115 ∷ 101 ∷ 100 ∷ 32 ∷ decimal r) ++ (32 ∷ 97 ∷ 116 ∷ 32 ∷ decimal k)
+
 abbrev pub verdictText : Verdict → List ℕ
-verdictText (accepted n) = (97 ∷ 99 ∷ 99 ∷ 101 ∷ 112 ∷ 116 ∷ 101 ∷ 100 ∷ 32 ∷ decimal n)
-verdictText undecided = 111 ∷ 112 ∷ 101 ∷ 110 ∷ []
-verdictText (refusal reason k) = (114 ∷ 101 ∷ 102 ∷ 117 ∷ 115 ∷ 101 ∷ 100 ∷ 32 ∷ decimal (reasonNumber reason)) ++ (32 ∷ 97 ∷ 116 ∷ 32 ∷ decimal k)
+verdictText (accepted n) = acceptedText n
+verdictText undecided = openText
+verdictText (refusal reason k) = refusedText (reasonNumber reason) k
 
 abbrev pub verdictLine : Verdict → List ℕ
 verdictLine v = verdictText v ++ (10 ∷ [])

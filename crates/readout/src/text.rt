@@ -20,6 +20,20 @@ pub fn put_byte(text: &mut [u8; 131072], at: usize, b: u8) -> usize
     }
 }
 
+// Several bytes.
+pub fn put_word(text: &mut [u8; 131072], at: usize, word: &[u8]) -> usize
+    requires { ⌜ length (now text) ≡ 131072 ⌝ }
+    ensures { λ end. ⌜ Wrote (now (text .entry)) (now (text .exit)) at end (now (word .entry)) ⌝ }
+{
+    let mut end = at;
+    let mut n: usize = 0;
+    while n < word.len() {
+        end = put_byte(text, end, word[n]);
+        n += 1;
+    }
+    end
+}
+
 // The digit of a number below ten.
 fn digit(n: u16) -> u8
     requires { ⌜ n < 10 ⌝ }

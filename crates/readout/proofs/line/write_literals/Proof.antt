@@ -2,7 +2,7 @@ use Prim.Native.Nat.{_-_, _≤_}
 use native.Mathlib.Omega.{arith}
 use borrow.Author.Needs.{needs}
 use Rattle.readout.specs.Writing.{Sized}
-use Rattle.readout.proofs.LineTexts.{Progressed, literals-start, literals-end, literals-next}
+use Rattle.readout.proofs.LineTexts.{WritesSoFar, literals-start, literals-end, literals-next}
 use borrow.Author.Needs.{needs}
 use Rattle.readout.proofs.line.write_literals.Statement.{statement}
 use Rattle.readout.proofs.line.write_literals.Tie as tie
@@ -13,7 +13,7 @@ use Rattle.readout.proofs.line.write_numbered.Reads as write-numbered-r
 
 abbrev Inv-loop : tie.InvT-loop
 Inv-loop file clauses nodes values₀ text₀ at c count end₀ n₀ values text end n =
-    Sized nodes values text × (n ≤ count) × Progressed file clauses nodes values₀ values text₀ text at c end n
+    Sized nodes values text × (n ≤ count) × WritesSoFar file clauses nodes values₀ values text₀ text at c end n
 
 abbrev μ-loop : tie.MeasureT-loop
 μ-loop file clauses nodes values₀ text₀ at c count end₀ n₀ values text end n =

@@ -1,0 +1,25 @@
+use Rattle.readout.proofs.Positions.{wrote-then}
+use borrow.Author.Needs.{needs}
+use Rattle.readout.proofs.heading.put_accepted.Statement.{statement}
+use Rattle.readout.proofs.heading.put_accepted.Tie as tie
+use Rattle.readout.proofs.heading.put_accepted.Reads as reads
+use Rattle.readout.proofs.heading.put_accepted.Lts as lts
+use Rattle.readout.proofs.text.put_decimal.Reads as put-decimal-reads
+use Rattle.readout.proofs.text.put_word.Reads as put-word-reads
+
+slice-aggregate-put-word : tie.Need-slice-aggregate-put-word
+slice-aggregate-put-word c = search needs
+
+put-word-requires : tie.Need-put-word-requires
+put-word-requires c κs = search needs
+
+put-decimal-requires : tie.Need-put-decimal-requires
+put-decimal-requires c κs = search needs
+
+returns : tie.Need-returns
+returns c =
+    wrote-then _ _ _ _ _ _ _ _ (c .before .before .put-word .ensures) (c .put-decimal .ensures)
+
+pub put-accepted-spec : {M : Type 1} → statement M
+put-accepted-spec =
+    tie.close (tie.spec slice-aggregate-put-word put-word-requires put-decimal-requires returns)

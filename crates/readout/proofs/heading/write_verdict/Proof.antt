@@ -1,0 +1,21 @@
+use Rattle.readout.proofs.VerdictTexts.{verdict-written}
+use borrow.Author.Needs.{needs}
+use Rattle.readout.proofs.heading.write_verdict.Statement.{statement}
+use Rattle.readout.proofs.heading.write_verdict.Tie as tie
+use Rattle.readout.proofs.heading.write_verdict.Reads as reads
+use Rattle.readout.proofs.heading.write_verdict.Lts as lts
+use Rattle.readout.proofs.heading.put_verdict.Reads as put-verdict-reads
+use Rattle.readout.proofs.text.put_byte.Reads as put-byte-reads
+
+put-verdict-requires : tie.Need-put-verdict-requires
+put-verdict-requires c κs = search needs
+
+put-byte-requires : tie.Need-put-byte-requires
+put-byte-requires c κs = search needs
+
+returns : tie.Need-returns
+returns c =
+    verdict-written _ _ _ _ _ _ _ (c .before .before .before .before .pre) (c .before .before .put-verdict .ensures) (c .put-byte .ensures)
+
+pub write-verdict-spec : {M : Type 1} → statement M
+write-verdict-spec = tie.close (tie.spec put-verdict-requires put-byte-requires returns)
