@@ -8,3 +8,6 @@ pub mod VerdictTexts
 pub mod CasesProved
 pub mod PieceLaws
 pub mod UnitLaws
+pub mod UnitWriting
+pub mod PieceRuns
+pub mod PieceWriting

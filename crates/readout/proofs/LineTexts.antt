@@ -121,11 +121,11 @@ module _ (F C N A T : List ℕ) (at c : ℕ) where
         }
 
 -- The clause that a line is written of.
-record ClauseThere (S : State) (c : ℕ) : Type 0 where
-  clause : Derivation
-  isClause : clauseOf S c ≡ some clause
+pub record ClauseThere (S : State) (c : ℕ) : Type 0 where
+  pub clause : Derivation
+  pub isClause : clauseOf S c ≡ some clause
 
-clause-there : (S : State) (c : ℕ) → c < length (S .clauses) → ClauseThere S c
+pub clause-there : (S : State) (c : ℕ) → c < length (S .clauses) → ClauseThere S c
 clause-there S c h = let x = there (derivations S) (omega (arith, length-map (S .clauses) (λ (k : ℕ × Derivation). k .1))) in record { clause = x .0; isClause = x .1 }
   where
     there : (ds : List Derivation) → c < length ds → (d : Derivation) × (entry ds c ≡ some d)

@@ -5,3 +5,4 @@ pub mod Lines
 pub mod Cases
 pub mod Pieces
 pub mod Units
+pub mod Contract

@@ -2,9 +2,9 @@
 -- `Contract`; this file only says how the parts of the program fit together.
 use mathlib.Core.Path.{_≡_}
 use mathlib.Core.List.{List, [], _++_}
-use Prim.Native.Nat.{ℕ, _+_, _≤_, _<_}
+use Prim.Native.Nat.{ℕ, _<_}
 use lib.Dec.{eqb}
-use lib.ListN.{length, getD, take, drop}
+use lib.ListN.{length, getD, drop}
 use Rattle.record.specs.Record.{pick}
 use Rattle.verdict.specs.Tables.{Tables, lengthsOf}
 use Rattle.verdict.specs.Verdict.{Lengths}
@@ -12,8 +12,11 @@ use Rattle.checker.specs.Contract.{CheckedWith}
 use Rattle.checker.specs.Stepping.{tablesWith}
 use Rattle.checker.specs.declared.answer.Answer.{Answer}
 use Rattle.readout.specs.Readout.{readoutLines}
-use Rattle.readout.specs.Pieces.{units}
+use Rattle.readout.specs.Pieces.{units, Progress, complete, goOnWith, tooShortFor, pieceBytes, progress}
 use Rattle.readout.specs.Writing.{Wrote, Sized}
+use Rattle.readout.specs.declared.piece.Piece.{Piece}
+use Rattle.readout.specs.declared.piece.Rest.{Rest}
+use Rattle.readout.specs.declared.piece.Rest.the-variants.{Complete, GoOn, TooShort}
 
 -- How many units there are for so many clauses, and unit n of a file.
 abbrev pub unitsWithin : ℕ → ℕ
@@ -38,3 +41,22 @@ pub record UnitReady (F C B N A T : List ℕ) (a : Answer) (n : ℕ) : Type 0 wh
 pub record UnitWritten (F C B N A A′ T T′ : List ℕ) (at : ℕ) (a : Answer) (n end : ℕ) : Type 0 where
   pub wrote : (R : AfterCheck F C B N A a) → Wrote T T′ at end (unitAt F (lengthsOf (R .before)) n)
   pub sized : Sized N A′ T′
+
+-- What comes after a piece, as the program says it; and where one that began with a clause stopped before clause n.
+abbrev pub restGiven : Rest → Progress
+restGiven Complete = complete
+restGiven (GoOn n) = goOnWith n
+restGiven (TooShort n) = tooShortFor n
+
+abbrev pub stoppedAt : ℕ → ℕ → Progress
+stoppedAt begin n = pick (eqb n begin) (tooShortFor begin) (goOnWith n)
+
+-- The bytes of a piece at the start of an output, and the rest of it as it was.
+pub record PieceAt (file : List ℕ) (lengths : Lengths) (begin : ℕ) (output output′ : List ℕ) (p : Piece) : Type 0 where
+  pub written : p .written ≡ length (pieceBytes file lengths begin (length output))
+  pub rest : restGiven (p .rest) ≡ progress file lengths begin (length output)
+  pub bytes : output′ ≡ pieceBytes file lengths begin (length output) ++ drop (length (pieceBytes file lengths begin (length output))) output
+
+-- What writing a piece says, whichever tables there were before the check.
+pub record PieceOf (F C B N A : List ℕ) (a : Answer) (begin : ℕ) (output output′ : List ℕ) (p : Piece) : Type 0 where
+  pub piece : (R : AfterCheck F C B N A a) → PieceAt F (lengthsOf (R .before)) begin output output′ p

@@ -1,7 +1,51 @@
-// The readout of a proof file. The definitions are in specs/: `Text` and `Readout` have what it is, and `Writing` and `Lines` how the
-// parts of this program go about it.
+// The readout of a proof file. The definitions are in specs/: `Text` and `Readout` have what it is, `Pieces` what a piece of it is, and
+// `Contract` what this crate promises. `Writing`, `Lines` and `Units` say how the parts of this program go about it.
 pub mod heading;
 pub mod line;
 pub mod literal;
+pub mod piece;
 pub mod term;
 pub mod text;
+pub mod unit;
+
+use checker::check_with;
+use piece::Piece;
+use piece::write_piece;
+ghost use Rattle.checker.specs.Stepping.{tablesWith};
+ghost use Rattle.readout.specs.Contract.{PieceWritten};
+
+// Checks a file and writes as many whole lines of its readout as fit into the output, from a clause on; from clause 0 with the first line
+// before them. The tables are left as the check leaves them.
+pub fn readout_piece(
+    file: &[u8],
+    symbols: &mut [u16],
+    rows: &mut [u16],
+    clauses: &mut [u16],
+    bindings: &mut [u16],
+    clause: u16,
+    output: &mut [u8],
+) -> Piece
+    ensures { λ p. ⌜ PieceWritten (now (file .entry)) (tablesWith (now (symbols .entry)) (now (rows .entry)) (now (clauses .entry)) (now (bindings .entry))) clause (now (output .entry)) p (tablesWith (now (symbols .exit)) (now (rows .exit)) (now (clauses .exit)) (now (bindings .exit))) (now (output .exit)) ⌝ }
+{
+    let mut nodes = [0u16; 32768];
+    let mut values = [0u16; 524416];
+    let a = check_with(
+        file,
+        symbols,
+        rows,
+        clauses,
+        bindings,
+        &mut nodes,
+        &mut values,
+    );
+    write_piece(
+        file,
+        clauses,
+        bindings,
+        &nodes,
+        &mut values,
+        a,
+        clause,
+        output,
+    )
+}

@@ -1,0 +1,22 @@
+-- The test is the one that the definition takes.
+use mathlib.Core.Path.{sym, ap}
+use mathlib.Core.Bool.{Bool}
+use borrow.Author.Tests.{eq-eqb, ne-eqb}
+use Rattle.record.specs.Record.{pick}
+use Rattle.readout.specs.Pieces.{tooShortFor, goOnWith}
+use borrow.Author.Needs.{needs}
+use Rattle.readout.proofs.piece.stopped.Statement.{statement}
+use Rattle.readout.proofs.piece.stopped.Tie as tie
+
+returns : tie.Need-returns
+returns c =
+    let s = c .before .args in
+    sym (ap (λ (b : Bool). pick b (tooShortFor (s .begin)) (goOnWith (s .n))) (eq-eqb (s .n) (s .begin) (c .if1 .taken)))
+
+returns-2 : tie.Need-returns-2
+returns-2 c =
+    let s = c .before .args in
+    sym (ap (λ (b : Bool). pick b (tooShortFor (s .begin)) (goOnWith (s .n))) (ne-eqb (s .n) (s .begin) (c .if1 .left)))
+
+pub stopped-spec : {M : Type 1} → statement M
+stopped-spec = tie.close (tie.spec returns returns-2)

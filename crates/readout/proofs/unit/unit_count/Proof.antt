@@ -1,0 +1,16 @@
+-- The test is the one that the definition takes.
+use Rattle.readout.proofs.UnitWriting.{units-none, units-some}
+use borrow.Author.Needs.{needs}
+use Rattle.readout.proofs.unit.unit_count.Statement.{statement}
+use Rattle.readout.proofs.unit.unit_count.Tie as tie
+
+returns : tie.Need-returns
+returns c =
+    units-none _ (c .if1 .taken)
+
+returns-2 : tie.Need-returns-2
+returns-2 c =
+    units-some _ (c .if1 .left)
+
+pub unit-count-spec : {M : Type 1} → statement M
+unit-count-spec = tie.close (tie.spec returns returns-2)

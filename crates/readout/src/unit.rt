@@ -1,0 +1,40 @@
+// What a piece of the readout is made of: the line of a clause, with the first line before it for clause 0. Without clauses the first
+// line stands alone.
+use super::heading::write_verdict;
+use super::line::write_line;
+use checker::answer::Answer;
+ghost use mathlib.Core.Path.{_≡_};
+ghost use Rattle.readout.specs.Units.{unitsWithin, UnitReady, UnitWritten};
+
+// How many there are.
+pub fn unit_count(clauses: u16) -> u16
+    ensures { λ n. ⌜ n ≡ unitsWithin clauses ⌝ }
+{
+    if clauses == 0 { 1 } else { clauses }
+}
+
+// Unit n written at a position of the buffer; the answer is the position after it.
+pub fn write_unit(
+    file: &[u8],
+    clauses: &[u16],
+    bindings: &[u16],
+    nodes: &[u16; 32768],
+    values: &mut [u16; 524416],
+    text: &mut [u8; 131072],
+    at: usize,
+    a: Answer,
+    n: u16,
+) -> usize
+    requires { ⌜ UnitReady (now file) (now clauses) (now bindings) (now nodes) (now values) (now text) a n ⌝ }
+    ensures { λ end. ⌜ UnitWritten (now (file .entry)) (now (clauses .entry)) (now (bindings .entry)) (now (nodes .entry)) (now (values .entry)) (now (values .exit)) (now (text .entry)) (now (text .exit)) at a n end ⌝ }
+{
+    if n != 0 {
+        return write_line(file, clauses, bindings, nodes, values, text, at, n);
+    }
+    let verdict = a.verdict;
+    let first = write_verdict(verdict, text, at);
+    if a.clauses == 0 {
+        return first;
+    }
+    write_line(file, clauses, bindings, nodes, values, text, first, n)
+}
