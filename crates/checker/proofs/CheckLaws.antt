@@ -6,7 +6,7 @@ use mathlib.Core.List.{List, [], _∷_, _++_, map, append-assoc}
 use Prim.Native.Nat.{ℕ, suc, _+_, _-_, _%_, _≤_, _<_}
 use native.Mathlib.Omega.{arith}
 use lib.Dec.{eqb, leb}
-use lib.ListN.{length, getD, drop, replicate, length-map}
+use lib.ListN.{length, getD, drop, replicate, length-map, length-replicate}
 use lib.Seq.{getD-append-add}
 use borrow.Author.Tests.{ne-eqb, le-leb, lt-leb}
 use Rattle.record.specs.Record.{pick}
@@ -58,20 +58,16 @@ module _ {F : List ℕ} {s r C B : List ℕ} (R : Readable F (tablesWith s r C B
   pub table-sizes : Sizes (tablesWith s r C B)
   table-sizes = sizes (tablesWith s r C B) (R .long)
 
-  module _ {s′ r′ C′ B′ A : List ℕ} (ps : s′ ≡ clearedPart 0 4096 s) (pr : r′ ≡ clearedPart 0 4096 r) (pc : C′ ≡ clearedPart 0 20480 C) (pb : B′ ≡ clearedPart 0 32768 B) (pa : length A ≡ 524416) where
-    pub begun : Begun F (tablesWith s′ r′ C′ B′) (replicate 32768 0) A
+  module _ {s′ r′ C′ B′ : List ℕ} (ps : s′ ≡ clearedPart 0 4096 s) (pr : r′ ≡ clearedPart 0 4096 r) (pc : C′ ≡ clearedPart 0 20480 C) (pb : B′ ≡ clearedPart 0 32768 B) where
+    unfoldable pub begun : Begun F (tablesWith s′ r′ C′ B′) (replicate 32768 0) (replicate 524416 0)
     begun = record {
       tablesBefore = tablesWith s r C B;
       fit = R .fit;
       long = R .long;
       cleared = λ i. record { symbols = ps i; rows = pr i; clauses = pc i; bindings = pb i };
       nodes = refl;
-      values = pa;
+      values = length-replicate {A = ℕ} 524416 0;
     }
-
-    pub read-begun : (e : Ended) (here : Tables) → RecordsRead F (tablesWith s′ r′ C′ B′) (replicate 32768 0) A e here → EndedWith F (tablesWith s r C B) e here
-    unfolding begun
-    read-begun e here X = X .read begun
 
 -- The first clause without literals, by the table's cells.
 empty-length : {A : Type 0} (xs : List A) → eqb (length xs) 0 ≡ isEmpty xs

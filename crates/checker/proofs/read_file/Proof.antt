@@ -1,8 +1,6 @@
 use mathlib.Core.Path.{_∙_}
 use native.Mathlib.Omega.{arith}
-use Prim.Native.Nat.{ℕ}
-use lib.ListN.{length-replicate}
-use Rattle.checker.proofs.CheckLaws.{table-sizes, begun, read-begun, file-read}
+use Rattle.checker.proofs.CheckLaws.{table-sizes, begun, file-read}
 use borrow.Author.Needs.{needs}
 use Rattle.checker.proofs.read_file.Statement.{statement}
 use Rattle.checker.proofs.read_file.Tie as tie
@@ -30,7 +28,7 @@ clear-requires-4 c κs =
 
 read-records-requires : tie.Need-read-records-requires
 read-records-requires c κs =
-    begun (c .before .before .before .before .before .before .before .before .before .before .before .before .before .before .before .before .before .before .before .before .before .before .before .before .before .before .before .pre) (c .before .before .before .before .before .before .before .before .before .before .before .before .before .before .before .before .before .before .before .before .clear .ensures) (c .before .before .before .before .before .before .before .before .before .before .before .before .before .before .before .before .clear2 .ensures) (c .before .before .before .before .before .before .before .before .before .before .before .before .clear3 .ensures) (c .before .before .before .before .before .before .before .before .clear4 .ensures) (length-replicate {A = ℕ} 524416 0)
+    begun (c .before .before .before .before .before .before .before .before .before .before .before .before .before .before .before .before .before .before .before .before .before .before .before .before .before .before .before .pre) (c .before .before .before .before .before .before .before .before .before .before .before .before .before .before .before .before .before .before .before .before .clear .ensures) (c .before .before .before .before .before .before .before .before .before .before .before .before .before .before .before .before .clear2 .ensures) (c .before .before .before .before .before .before .before .before .before .before .before .before .clear3 .ensures) (c .before .before .before .before .before .before .before .before .clear4 .ensures)
 
 ended-answer-requires : tie.Need-ended-answer-requires
 ended-answer-requires c κs = search needs
@@ -49,8 +47,9 @@ same-length-4 : tie.Need-same-length-4
 same-length-4 c = search needs
 
 returns : tie.Need-returns
+unfolding read-records-requires begun
 returns c =
-    file-read _ _ _ _ _ (read-begun (c .before .before .before .before .before .before .before .before .before .before .before .before .before .before .before .before .before .before .before .before .before .before .before .before .before .before .before .before .before .before .before .before .before .before .before .before .before .before .pre) (c .before .before .before .before .before .before .before .before .before .before .before .before .before .before .before .before .before .before .before .before .before .before .before .before .before .before .before .before .before .before .before .clear .ensures) (c .before .before .before .before .before .before .before .before .before .before .before .before .before .before .before .before .before .before .before .before .before .before .before .before .before .before .before .clear2 .ensures) (c .before .before .before .before .before .before .before .before .before .before .before .before .before .before .before .before .before .before .before .before .before .before .before .clear3 .ensures) (c .before .before .before .before .before .before .before .before .before .before .before .before .before .before .before .before .before .before .before .clear4 .ensures) (length-replicate {A = ℕ} 524416 0) _ _ (c .before .before .before .before .before .before .before .before .before .before .read-records .ensures)) (c .ended-answer .ensures)
+    file-read _ _ _ _ _ (c .before .before .before .before .before .before .before .before .before .before .read-records .ensures .read (read-records-requires (c .before .before .before .before .before .before .before .before .before .before .before) (c .before .before .before .before .before .before .before .before .before .before .read-records .lifetimes))) (c .ended-answer .ensures)
 
 pub read-file-spec : {M : Type 1} → statement M
 read-file-spec =
