@@ -1,10 +1,11 @@
-/* The check of a resolution-proof file.
+/* The check of a resolution-proof file, and its readout.
  *
- * Link with libchecker_c.a. The function is proved to meet its contract, for
- * every file, every four tables and every answer (specs/Exported.antt). It
- * never fails, never blocks, asks for no memory and keeps nothing between
- * calls. It takes a little more than 1 MiB of stack for an ordinary file, and
- * up to 4 MiB for the deepest: call it on a thread that has that much. */
+ * Link with libchecker_c.a. Both functions are proved to meet their contracts,
+ * for every file and whatever else they are lent (specs/Exported.antt,
+ * specs/ExportedReadout.antt). They never fail, never block, ask for no memory
+ * and keep nothing between calls. They take a little more than 1 MiB of stack
+ * for an ordinary file, and up to 4 MiB for the deepest: call them on a thread
+ * that has that much. */
 #ifndef CHECKER_H
 #define CHECKER_H
 
@@ -15,12 +16,17 @@
 extern "C" {
 #endif
 
-/* The least lengths of the tables, and of the answer, in cells. */
+/* The least lengths of the tables, of the answer and of the progress, in
+ * cells. */
 #define CHECKER_SYMBOLS 4096
 #define CHECKER_ROWS 4096
 #define CHECKER_CLAUSES 20480
 #define CHECKER_BINDINGS 32768
 #define CHECKER_ANSWER 7
+#define CHECKER_PROGRESS 3
+
+/* Bytes of output that have room for every line of a readout. */
+#define CHECKER_OUTPUT 131072
 
 /* Checks a proof file, writes the answer and fills four tables.
  *
@@ -57,6 +63,46 @@ void checker_check(const uint8_t *file, size_t file_len,
                    uint16_t *clauses, size_t clauses_len,
                    uint16_t *bindings, size_t bindings_len,
                    uint16_t *answer, size_t answer_len);
+
+/* Checks a proof file and writes as many whole lines of its readout as fit,
+ * from a clause on.
+ *
+ *   file      the bytes of the file
+ *   symbols, rows, clauses, bindings
+ *             the tables, as for checker_check, which leaves them the same; what
+ *             they held before does not matter
+ *   clause    the clause whose line comes first; 0 to begin with: the line of
+ *             the verdict goes before that of clause 0, or stands alone where
+ *             there are no clauses
+ *   output    bytes for the text, of any length
+ *   progress  three numbers; at least 3 cells
+ *
+ * What is said above of lengths and pointers holds here too, and none of the
+ * seven parts may overlap another.
+ *
+ * The numbers of the progress:
+ *   progress[0]  0 all is written, 1 there is more, 2 the output is too short
+ *                for the line of the clause to begin with
+ *   progress[1]  how many bytes of output were written; none with 2
+ *   progress[2]  with 1 the clause to go on with, which is past the one that
+ *                this call began with; with 2 the clause that it is too short
+ *                for; with 0 it is 0
+ *
+ * The pieces of calls that go on so, put together, are the readout. An output
+ * of CHECKER_OUTPUT bytes is never too short. A clause past the last has no
+ * line: all is written.
+ *
+ * If progress has fewer than 3 cells, nothing at all is touched. Cells of
+ * progress past the third and bytes of output past those written are left
+ * alone. */
+void checker_readout(const uint8_t *file, size_t file_len,
+                     uint16_t *symbols, size_t symbols_len,
+                     uint16_t *rows, size_t rows_len,
+                     uint16_t *clauses, size_t clauses_len,
+                     uint16_t *bindings, size_t bindings_len,
+                     uint16_t clause,
+                     uint8_t *output, size_t output_len,
+                     uint64_t *progress, size_t progress_len);
 
 #ifdef __cplusplus
 }

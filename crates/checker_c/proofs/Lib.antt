@@ -1,1 +1,2 @@
 pub mod AnswerWritten
+pub mod ProgressWritten

@@ -5,7 +5,7 @@ use Rattle.checker_c.proofs.checker_check.Tie as tie
 use Rattle.checker_c.proofs.checker_check.Reads as reads
 use Rattle.checker_c.proofs.checker_check.Lts as lts
 use Rattle.checker.proofs.check.Reads as check-reads
-use Rattle.checker_c.proofs.put.Reads as put-reads
+use Rattle.checker_c.proofs.answer.put.Reads as put-reads
 
 returns : tie.Need-returns
 returns c =

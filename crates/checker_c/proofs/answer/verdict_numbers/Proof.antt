@@ -1,10 +1,10 @@
 use mathlib.Core.Path.{sym, ap}
 use Rattle.checker.specs.Given.{verdictGiven}
 use borrow.Author.Needs.{needs}
-use Rattle.checker_c.proofs.verdict_numbers.Statement.{statement}
-use Rattle.checker_c.proofs.verdict_numbers.Tie as tie
-use Rattle.checker_c.proofs.verdict_numbers.Reads as reads
-use Rattle.checker_c.proofs.verdict_numbers.Lts as lts
+use Rattle.checker_c.proofs.answer.verdict_numbers.Statement.{statement}
+use Rattle.checker_c.proofs.answer.verdict_numbers.Tie as tie
+use Rattle.checker_c.proofs.answer.verdict_numbers.Reads as reads
+use Rattle.checker_c.proofs.answer.verdict_numbers.Lts as lts
 
 enum-told : tie.Need-enum-told
 enum-told c = search needs

@@ -3,11 +3,11 @@ use Prim.Native.Nat.{_≤_}
 use lib.ListN.{length}
 use Rattle.checker_c.proofs.AnswerWritten.{written}
 use borrow.Author.Needs.{needs}
-use Rattle.checker_c.proofs.put.Statement.{statement}
-use Rattle.checker_c.proofs.put.Tie as tie
-use Rattle.checker_c.proofs.put.Reads as reads
-use Rattle.checker_c.proofs.put.Lts as lts
-use Rattle.checker_c.proofs.verdict_numbers.Reads as verdict-numbers-reads
+use Rattle.checker_c.proofs.answer.put.Statement.{statement}
+use Rattle.checker_c.proofs.answer.put.Tie as tie
+use Rattle.checker_c.proofs.answer.put.Reads as reads
+use Rattle.checker_c.proofs.answer.put.Lts as lts
+use Rattle.checker_c.proofs.answer.verdict_numbers.Reads as verdict-numbers-reads
 
 verdict-numbers-requires : tie.Need-verdict-numbers-requires
 verdict-numbers-requires c κs = search needs

@@ -1,0 +1,45 @@
+-- The contract of the exported readout: what `checker_readout` promises of every file, every four tables, every clause to begin with, every
+-- output and every progress slice, with no condition on the call.
+use mathlib.Core.Path.{_≡_}
+use mathlib.Core.List.{List, [], _∷_, _++_}
+use Prim.Native.Nat.{ℕ, _<_, _≤_}
+use lib.ListN.{length, drop}
+use Rattle.verdict.specs.Tables.{Tables, lengthsOf, tablesAfter}
+use Rattle.readout.specs.Pieces.{Progress, complete, goOnWith, tooShortFor, pieceBytes, progress, PiecesHold}
+
+-- The three numbers of a piece that wrote so many bytes: 0 and no clause where all is written, 1 and the clause to go on with, 2 and the
+-- clause whose line there was no room for.
+abbrev pub progressNumbers : Progress → ℕ → List ℕ
+progressNumbers complete written = 0 ∷ written ∷ 0 ∷ []
+progressNumbers (goOnWith n) written = 1 ∷ written ∷ n ∷ []
+progressNumbers (tooShortFor n) written = 2 ∷ written ∷ n ∷ []
+
+-- The same for the piece of a file from a clause on, with so much room.
+abbrev pub pieceNumbers : List ℕ → Tables → ℕ → ℕ → List ℕ
+pieceNumbers file before clause room =
+    progressNumbers (progress file (lengthsOf before) clause room) (length (pieceBytes file (lengthsOf before) clause room))
+
+-- An output with the bytes of that piece at its start, and the rest of it as it was.
+abbrev pub outputWith : List ℕ → Tables → ℕ → List ℕ → List ℕ
+outputWith file before clause output =
+    pieceBytes file (lengthsOf before) clause (length output) ++ drop (length (pieceBytes file (lengthsOf before) clause (length output))) output
+
+pub record ExportedReadout (file : List ℕ) (before : Tables) (clause : ℕ) (outputBefore progressBefore : List ℕ) (after : Tables) (outputAfter progressAfter : List ℕ) : Type 0 where
+  -- A progress slice of fewer than three cells: it, the output and every table are left as they were.
+  pub progressLeft : length progressBefore < 3 → progressAfter ≡ progressBefore
+  pub outputLeft : length progressBefore < 3 → outputAfter ≡ outputBefore
+  pub symbolsLeft : length progressBefore < 3 → after .symbols ≡ before .symbols
+  pub rowsLeft : length progressBefore < 3 → after .rows ≡ before .rows
+  pub clausesLeft : length progressBefore < 3 → after .clauses ≡ before .clauses
+  pub bindingsLeft : length progressBefore < 3 → after .bindings ≡ before .bindings
+  -- Otherwise the three numbers of the piece, and the cells past the third as they were.
+  pub numbers : 3 ≤ length progressBefore → progressAfter ≡ pieceNumbers file before clause (length outputBefore) ++ drop 3 progressBefore
+  -- Every byte of the output.
+  pub output : 3 ≤ length progressBefore → outputAfter ≡ outputWith file before clause outputBefore
+  -- And each table, cell by cell, as the check leaves it.
+  pub symbols : 3 ≤ length progressBefore → after .symbols ≡ tablesAfter file before .symbols
+  pub rows : 3 ≤ length progressBefore → after .rows ≡ tablesAfter file before .rows
+  pub clauses : 3 ≤ length progressBefore → after .clauses ≡ tablesAfter file before .clauses
+  pub bindings : 3 ≤ length progressBefore → after .bindings ≡ tablesAfter file before .bindings
+  -- Pieces put together are the readout, and each moves on or says why not.
+  pub pieces : 3 ≤ length progressBefore → PiecesHold file (lengthsOf before)
