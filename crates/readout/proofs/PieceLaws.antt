@@ -5,7 +5,7 @@ use mathlib.Core.List.{List, [], _∷_, _++_, append-assoc, append-nil}
 use Prim.Native.Nat.{ℕ, zero, suc, _+_, _-_, _<_, _≤_}
 use native.Mathlib.Omega.{arith}
 use lib.Dec.{eqb, leb}
-use lib.ListN.{length, drop}
+use lib.ListN.{length, drop, length-append}
 use borrow.Author.Tests.{eqb-true, eqb-false, leb-true, leb-false}
 use Rattle.record.specs.Record.{pick}
 use Rattle.verdict.specs.Verdict.{Lengths}
@@ -35,6 +35,18 @@ fitting-rest room (u ∷ us) = try (leb (length u) room) (fitting-rest (room - l
         → u ++ joinedLines us ≡ joinedLines (pick b (u ∷ fitting (room - length u) us) []) ++ joinedLines (drop (length (pick b (u ∷ fitting (room - length u) us) [])) (u ∷ us))
     try true ih = ap (λ (x : List ℕ). u ++ x) ih ∙ sym (append-assoc u (joinedLines (fitting (room - length u) us)) (joinedLines (drop (length (fitting (room - length u) us)) us)))
     try false ih = refl
+
+fitting-size : (room : ℕ) (us : List (List ℕ)) → length (joinedLines (fitting room us)) ≤ room
+fitting-size room [] = omega arith
+fitting-size room (u ∷ us) = try (leb (length u) room) refl (fitting-size (room - length u) us)
+  where
+    try : (b : Bool) → leb (length u) room ≡ b → length (joinedLines (fitting (room - length u) us)) ≤ room - length u → length (joinedLines (pick b (u ∷ fitting (room - length u) us) [])) ≤ room
+    try true p h = omega (arith, leb-true (length u) room p, h, length-append u (joinedLines (fitting (room - length u) us)))
+    try false p h = omega arith
+
+-- A piece is no longer than its room.
+pub piece-size : (file : List ℕ) (lengths : Lengths) (n room : ℕ) → length (pieceBytes file lengths n room) ≤ room
+piece-size file lengths n room = fitting-size room (unitsFrom file lengths n)
 
 complete-none : (us : List (List ℕ)) (n taken : ℕ) → afterPiece us n taken ≡ complete → us ≡ []
 complete-none [] n taken q = refl
