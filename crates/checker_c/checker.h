@@ -3,9 +3,9 @@
  * Link with libchecker_c.a. Both functions are proved to meet their contracts,
  * for every file and whatever else they are lent (specs/Exported.antt,
  * specs/ExportedReadout.antt). They never fail, never block, ask for no memory
- * and keep nothing between calls. They take a little more than 1 MiB of stack
- * for an ordinary file, and up to 4 MiB for the deepest: call them on a thread
- * that has that much. */
+ * and keep nothing between calls. They take less than 1.5 MiB of stack for
+ * an ordinary file, and up to 4 MiB for the deepest: call them on a thread that
+ * has that much. */
 #ifndef CHECKER_H
 #define CHECKER_H
 

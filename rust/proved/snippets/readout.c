@@ -3,16 +3,14 @@
 
 #include "checker.h"
 
-/* More than the longest line takes, so that every piece has at least one. */
-#define OUTPUT 131072
-
 /* One byte more than the longest file: what is longer is read as too long. */
-static uint8_t file[65536 + 1], output[OUTPUT];
+static uint8_t file[65536 + 1], output[CHECKER_OUTPUT];
 static uint16_t symbols[CHECKER_SYMBOLS], rows[CHECKER_ROWS];
 static uint16_t clauses[CHECKER_CLAUSES], bindings[CHECKER_BINDINGS];
 
 int main(void) {
-    uint64_t progress[3] = {1, 0, 0};
+    /* There is more, and it goes on with clause 0. */
+    uint64_t progress[CHECKER_PROGRESS] = {1, 0, 0};
     size_t length = fread(file, 1, sizeof file, stdin);
     if (ferror(stdin)) {
         perror("standard input");
@@ -21,7 +19,8 @@ int main(void) {
     while (progress[0] == 1) {
         checker_readout(file, length, symbols, CHECKER_SYMBOLS, rows, CHECKER_ROWS,
                         clauses, CHECKER_CLAUSES, bindings, CHECKER_BINDINGS,
-                        (uint16_t)progress[2], output, OUTPUT, progress, 3);
+                        (uint16_t)progress[2], output, CHECKER_OUTPUT,
+                        progress, CHECKER_PROGRESS);
         fwrite(output, 1, (size_t)progress[1], stdout);
     }
     return 0;

@@ -63,7 +63,6 @@ fn the_check_from_c() {
 }
 
 #[test]
-#[ignore = "the library does not export checker_readout yet"]
 fn the_readout_from_c() {
     let program = compiled("readout");
     for example in EXAMPLES {

@@ -1,5 +1,7 @@
-//! The deepest files through the proved check, with the file and all tables on the stack: run it under `ulimit -s 4096`.
+//! The deepest files through the proved check and readout, with the file and all tables on the stack: run it under
+//! `ulimit -s 4096`.
 
+use proved::{readout, Tables};
 use yestrwyn::examples::deep;
 use yestrwyn::limits::{BINDING_CELLS, CLAUSE_CELLS, ROW_CELLS, SYMBOL_CELLS};
 
@@ -16,5 +18,8 @@ fn main() {
         let mut bindings = [0u16; BINDING_CELLS];
         let answer = proved::check(&file[..length], &mut symbols, &mut rows, &mut clauses, &mut bindings);
         println!("{:32} {answer:?}", example.name);
+        let mut tables =
+            Tables { symbols: &mut symbols, rows: &mut rows, clauses: &mut clauses, bindings: &mut bindings };
+        println!("{:32} {} bytes of readout", "", readout(&file[..length], &mut tables).len());
     }
 }

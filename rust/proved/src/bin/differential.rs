@@ -1,15 +1,19 @@
-//! Compares the proved check with the second implementation on files from a seed on:
+//! Compares the proved check and readout with the second implementation on files from a seed on:
 //!
 //! ```text
 //! differential SEED COUNT
 //! ```
 //!
-//! Prints one line; at the first difference it prints the file in hexadecimal and ends with 1.
+//! Of each readout it takes two pieces: the first with room for every line, and one from any clause
+//! with any room. Prints one line; at the first difference it prints the file in hexadecimal and ends
+//! with 1.
 
 use std::process::ExitCode;
 
-use proved::compare::{file_of, lengths_of, Pair};
+use proved::compare::{file_of, lengths_of, Lengths, Pair};
+use proved::pieces::Second;
 use proved::proved::with_stack;
+use yestrwyn::random::SplitMix64;
 
 /// How many files gave each kind of answer, and how many had no room for one.
 #[derive(Default)]
@@ -37,7 +41,7 @@ fn run(seed: u64, count: u64) -> ExitCode {
         let own = seed.wrapping_add(place);
         let (file, lengths) = (file_of(own), lengths_of(own));
         tally.bytes += file.len() as u64;
-        match pair.compare(&file, lengths, own as u16) {
+        match both(&mut pair, &file, lengths, own) {
             Ok(Some(kind)) => tally.kinds[usize::from(kind).min(2)] += 1,
             Ok(None) => tally.untouched += 1,
             Err(difference) => {
@@ -53,4 +57,11 @@ fn run(seed: u64, count: u64) -> ExitCode {
          {untouched} with too short an answer"
     );
     ExitCode::SUCCESS
+}
+
+/// The kind of answer if neither the check nor the readout differs.
+fn both(pair: &mut Pair, file: &[u8], lengths: Lengths, own: u64) -> Result<Option<u16>, String> {
+    let kind = pair.compare(file, lengths, own as u16).map_err(|difference| difference.to_string())?;
+    Second::new(file, lengths, own as u16).two(&mut SplitMix64::new(own))?;
+    Ok(kind)
 }
