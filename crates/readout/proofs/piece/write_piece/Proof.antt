@@ -70,7 +70,7 @@ same-length-2 c = search needs
 
 returns-2 : tie.Need-returns-2 Inv-loop μ-loop
 returns-2 c =
-    written-all (c .before .loop .inv .3) (omega (arith, c .before .before .unit-count .ensures, c .loop-test .left)) _ refl refl
+    written-all (c .before .loop .inv .3) (c .before .loop .inv .0) (omega (arith, c .before .before .unit-count .ensures, c .loop-test .left)) _ refl refl
 
 pub write-piece-spec : {M : Type 1} → statement M
 write-piece-spec =
