@@ -124,10 +124,9 @@ pub fn describe(text: &mut String, name: &str, outcome: &Outcome) {
     }
     let total: u64 = outcome.works.iter().map(|step| u64::from(step.work)).sum();
     line(text, "total", &format!("{} {total}", works.len()));
-    let readout = &outcome.readout;
-    line(text, "readout", &format!("{} {:016x}", readout.len(), hash(readout.iter().copied())));
-    if readout.len() <= READOUT_IN_FULL {
-        for part in String::from_utf8_lossy(readout).lines() {
+    line(text, "readout", &readout_hash(outcome));
+    if outcome.readout.len() <= READOUT_IN_FULL {
+        for part in String::from_utf8_lossy(&outcome.readout).lines() {
             line(text, "|", &part);
         }
     }
@@ -141,7 +140,8 @@ pub fn listing(groups: &[Group]) -> String {
         for (place, example) in group.examples.iter().enumerate() {
             let outcome = outcome(&example.file);
             let answer = joined(outcome.answer.numbers());
-            line(&mut text, &place.to_string(), &format!("{answer} {}", hashes(&outcome)));
+            let rest = format!("{answer} {} {}", hashes(&outcome), readout_hash(&outcome));
+            line(&mut text, &place.to_string(), &rest);
         }
     }
     text
@@ -151,6 +151,11 @@ pub fn listing(groups: &[Group]) -> String {
 fn hashes(outcome: &Outcome) -> String {
     let hashes = outcome.tables().map(|cells| hash(cells.iter().flat_map(|cell| cell.to_le_bytes())));
     hashes.map(|hash| format!("{hash:016x}")).join(" ")
+}
+
+/// The length of the readout in bytes, and its hash in hexadecimal digits.
+fn readout_hash(outcome: &Outcome) -> String {
+    format!("{} {:016x}", outcome.readout.len(), hash(outcome.readout.iter().copied()))
 }
 
 /// A line: a word, and what follows it if anything does.

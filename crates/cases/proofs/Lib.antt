@@ -1,3 +1,4 @@
 pub mod HashLaws
 pub mod PackLaws
+pub mod DigestLaws
 pub mod OutcomeLaws

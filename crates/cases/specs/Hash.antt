@@ -19,3 +19,8 @@ hashCell h c = hashByte (hashByte h (c % 256)) (c / 256)
 unfoldable pub hashCells : ℕ → List ℕ → ℕ
 hashCells h [] = h
 hashCells h (c ∷ cs) = hashCells (hashCell h c) cs
+
+-- Bytes in order, taken into a hash.
+unfoldable pub hashBytes : ℕ → List ℕ → ℕ
+hashBytes h [] = h
+hashBytes h (b ∷ bs) = hashBytes (hashByte h b) bs

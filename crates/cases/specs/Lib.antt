@@ -1,3 +1,4 @@
 pub mod Hash
 pub mod Pack
+pub mod Digest
 pub mod Outcome

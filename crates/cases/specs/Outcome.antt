@@ -1,4 +1,4 @@
--- What the program gives for a file: the answer, and a hash of each table as the check leaves it.
+-- What the program gives for a file: the answer, a hash of each table as the check leaves it, and the length and the hash of the readout.
 use mathlib.Core.Path.{_≡_}
 use mathlib.Core.List.{List}
 use Prim.Native.Nat.{ℕ}
@@ -6,6 +6,7 @@ use lib.ListN.{replicate}
 use Rattle.checker.specs.Given.{answerGiven}
 use Rattle.verdict.specs.Tables.{Tables, lengthsOf, tablesAfter}
 use Rattle.verdict.specs.Verdict.{check, answerNumbers, named}
+use Rattle.cases.specs.Digest.{DigestOf}
 use Rattle.cases.specs.Hash.{start, hashCells}
 use Rattle.cases.specs.declared.outcome.Outcome.{Outcome}
 
@@ -13,10 +14,12 @@ use Rattle.cases.specs.declared.outcome.Outcome.{Outcome}
 abbrev pub zeroTables : Tables
 zeroTables = record { symbols = replicate (named .symbols) 0; rows = replicate (named .rows) 0; clauses = replicate (named .clauses) 0; bindings = replicate (named .bindings) 0 }
 
--- The seven numbers of the answer, and the hash of each table, for a file that is checked with some tables.
+-- The seven numbers of the answer, the hash of each table, and the length and the hash of the readout, for a file that is checked with
+-- some tables.
 pub record OutcomeOf (file : List ℕ) (before : Tables) (o : Outcome) : Type 0 where
   pub answer : answerGiven (o .answer) ≡ answerNumbers (check file (lengthsOf before))
   pub symbols : o .hashes .symbols ≡ hashCells start (tablesAfter file before .symbols)
   pub rows : o .hashes .rows ≡ hashCells start (tablesAfter file before .rows)
   pub clauses : o .hashes .clauses ≡ hashCells start (tablesAfter file before .clauses)
   pub bindings : o .hashes .bindings ≡ hashCells start (tablesAfter file before .bindings)
+  pub readout : DigestOf file (lengthsOf before) (o .readout)

@@ -1,7 +1,7 @@
-// FNV-1a with 64 bits over the cells of a table.
+// FNV-1a with 64 bits over the cells of a table, and over bytes.
 ghost use mathlib.Core.Path.{_≡_};
 ghost use Prim.Native.Nat.{_*_, _%_, _^_};
-ghost use Rattle.cases.specs.Hash.{hashByte, hashCell, hashCells, start};
+ghost use Rattle.cases.specs.Hash.{hashByte, hashBytes, hashCell, hashCells, start};
 
 // The product with the prime 256 * 2^32 + 435, modulo 2^64, by halves of 32 bits: no part of it wraps.
 fn times_prime(h: u64) -> u64
@@ -37,6 +37,26 @@ pub fn hash_of(cells: &[u16]) -> u64
     let mut i = 0;
     while i < cells.len() {
         h = with_cell(h, cells[i]);
+        i += 1;
+    }
+    h
+}
+
+// A byte as a number.
+fn wide(b: u8) -> u64
+    ensures { λ r. ⌜ r ≡ b ⌝ }
+{
+    b as u64
+}
+
+// Bytes taken into a hash, in order.
+pub fn with_bytes(before: u64, bytes: &[u8]) -> u64
+    ensures { λ r. ⌜ r ≡ hashBytes before (now (bytes .entry)) ⌝ }
+{
+    let mut h = before;
+    let mut i = 0;
+    while i < bytes.len() {
+        h = with_byte(h, wide(bytes[i]));
         i += 1;
     }
     h

@@ -1,8 +1,10 @@
-// What the check gives for one file: its answer in numbers, and a hash of each table.
+// What the check and the readout give for one file: the answer in numbers, a hash of each table, and the readout's length and hash.
+use crate::digest::Digest;
+use crate::digest::digest_of;
 use crate::hash::hash_of;
 use checker::answer::Answer;
 use checker::answer::Verdict;
-use checker::check;
+use checker::check_with;
 ghost use mathlib.Core.Path.{_≡_};
 ghost use mathlib.Core.List.{[], _∷_};
 ghost use Rattle.checker.specs.Given.{verdictGiven};
@@ -23,10 +25,11 @@ pub struct Hashes {
     pub bindings: u64,
 }
 
-// The answer to a file, and the hashes of the tables as the check leaves them.
+// The answer to a file, the hashes of the tables as the check leaves them, and the length and the hash of the readout.
 pub struct Outcome {
     pub answer: Answer,
     pub hashes: Hashes,
+    pub readout: Digest,
 }
 
 // The numbers of a verdict.
@@ -52,7 +55,7 @@ pub fn numbers_of(v: Verdict) -> Numbers
     }
 }
 
-// Checks a file with tables that are just long enough and zero before.
+// Checks a file with tables that are just long enough and zero before, and goes on to the readout by what the check left.
 pub fn outcome_of(file: &[u8]) -> Outcome
     ensures { λ o. ⌜ OutcomeOf (now (file .entry)) zeroTables o ⌝ }
 {
@@ -60,12 +63,27 @@ pub fn outcome_of(file: &[u8]) -> Outcome
     let mut rows = [0u16; 4096];
     let mut clauses = [0u16; 20480];
     let mut bindings = [0u16; 32768];
-    let answer = check(file, &mut symbols, &mut rows, &mut clauses, &mut bindings);
+    let mut nodes = [0u16; 32768];
+    let mut values = [0u16; 524416];
+    let answer = check_with(
+        file,
+        &mut symbols,
+        &mut rows,
+        &mut clauses,
+        &mut bindings,
+        &mut nodes,
+        &mut values,
+    );
     let hashes = Hashes {
         symbols: hash_of(&symbols),
         rows: hash_of(&rows),
         clauses: hash_of(&clauses),
         bindings: hash_of(&bindings),
     };
-    Outcome { answer, hashes }
+    let readout = digest_of(file, &clauses, &bindings, &nodes, &mut values, answer);
+    Outcome {
+        answer,
+        hashes,
+        readout,
+    }
 }

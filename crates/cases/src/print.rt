@@ -1,4 +1,5 @@
 // Lines on standard output.
+use crate::digest::Digest;
 use crate::outcome::Hashes;
 use crate::outcome::Outcome;
 use crate::outcome::numbers_of;
@@ -34,7 +35,14 @@ fn hashes(h: Hashes) {
     hash(h.bindings);
 }
 
-// The line of a file: its place in the pack, the seven numbers of the answer, and the hashes.
+// The length and the hash of a readout, each after a blank.
+fn digest(d: Digest) {
+    text(b" ");
+    count(d.length);
+    hash(d.hash);
+}
+
+// The line of a file: its place in the pack, the seven numbers of the answer, the hashes, and the length and the hash of the readout.
 pub fn line(place: usize, o: Outcome) {
     let a = o.answer;
     let v = a.verdict;
@@ -49,5 +57,7 @@ pub fn line(place: usize, o: Outcome) {
     number(a.bindings);
     let h = o.hashes;
     hashes(h);
+    let d = o.readout;
+    digest(d);
     text(b"\n");
 }

@@ -15,7 +15,7 @@ use Rattle.readout.proofs.PieceLaws.{piece-size}
 use Rattle.readout.proofs.PieceWriting.{pieces-always}
 use Rattle.proofread.specs.Printing.{Onward}
 
-module _ {F C B N A : List ℕ} {a : Answer} {clause : ℕ} {out out′ : List ℕ} {p : Piece} (R : AfterCheck F C B N A a) (P : PieceOf F C B N A a clause out out′ p) where
+module _ {F C B N A A′ : List ℕ} {a : Answer} {clause : ℕ} {out out′ : List ℕ} {p : Piece} (R : AfterCheck F C B N A a) (P : PieceOf F C B N A A′ a clause out out′ p) where
   pub written-inside : p .written ≤ length out
   written-inside = subst (λ (k : ℕ). k ≤ length out) (sym (P .piece R .written)) (piece-size F (lengthsOf (R .before)) clause (length out))
 

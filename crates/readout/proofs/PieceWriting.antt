@@ -111,15 +111,19 @@ module _ {F C B N A : List ℕ} {a : Answer} {begin : ℕ} {out₀ : List ℕ} w
   written-none R = so-far-none F (lengthsOf (R .before)) begin out₀
 
   module _ {out : List ℕ} {n written : ℕ} (X : Written F C B N A a begin out₀ out n written) where
-    pub written-all : unitsWithin (a .clauses) ≤ n → (p : Piece) → p .written ≡ written → p .rest ≡ Complete → PieceOf F C B N A a begin out₀ out p
-    written-all h p pw pr = record { piece = λ R. so-far-all F (lengthsOf (R .before)) begin out₀ (X R) (subst (λ (k : ℕ). k ≤ n) (number R) h) p pw pr }
+    pub written-all : {A₁ : List ℕ} → length A₁ ≡ 524416 → unitsWithin (a .clauses) ≤ n → (p : Piece) → p .written ≡ written → p .rest ≡ Complete → PieceOf F C B N A A₁ a begin out₀ out p
+    written-all v h p pw pr = record {
+      piece = λ R. so-far-all F (lengthsOf (R .before)) begin out₀ (X R) (subst (λ (k : ℕ). k ≤ n) (number R) h) p pw pr;
+      values = v;
+    }
 
     module _ {A₁ A₂ T₀ T : List ℕ} {end : ℕ} (values : length A₁ ≡ 524416) (room : length T₀ ≡ 131072) (l : n < unitsWithin (a .clauses)) (W : UnitWritten F C B N A₁ A₂ T₀ T 0 a n end) where
-      pub written-stopped : length out₀ - written < end → (p : Piece) → p .written ≡ written → restGiven (p .rest) ≡ stoppedAt begin n → PieceOf F C B N A a begin out₀ out p
+      pub written-stopped : length out₀ - written < end → (p : Piece) → p .written ≡ written → restGiven (p .rest) ≡ stoppedAt begin n → PieceOf F C B N A A₂ a begin out₀ out p
       written-stopped h p pw pr = record {
         piece = λ R.
             let s = at-start R values room l W in
             so-far-stopped F (lengthsOf (R .before)) begin out₀ (X R) (s .inside) (subst (λ (k : ℕ). length out₀ - written < k) (s .size) h) p pw pr;
+        values = W .sized .values;
       }
 
       pub written-more : end ≤ length out₀ - written → {out′ : List ℕ} → out′ ≡ paste out written T end → Written F C B N A a begin out₀ out′ (n + 1) (written + end)
@@ -128,8 +132,8 @@ module _ {F C B N A : List ℕ} {a : Answer} {begin : ℕ} {out₀ : List ℕ} w
           so-far-more F (lengthsOf (R .before)) begin out₀ (X R) (s .inside) T end (s .size) (s .bytes) h q
 
 -- The contract of a piece.
-pub piece-written : (F : List ℕ) (t : Tables) (clause : ℕ) (out out′ : List ℕ) (p : Piece) (a : Answer) (s r C B N A : List ℕ) → CheckedWith F t a (tablesWith s r C B) N A → PieceOf F C B N A a clause out out′ p → PieceWritten F t clause out p (tablesWith s r C B) out′
-piece-written F t clause out out′ p a s r C B N A X P = record {
+pub piece-written : (F : List ℕ) (t : Tables) (clause : ℕ) (out out′ : List ℕ) (p : Piece) (a : Answer) (s r C B N A A′ : List ℕ) → CheckedWith F t a (tablesWith s r C B) N A → PieceOf F C B N A A′ a clause out out′ p → PieceWritten F t clause out p (tablesWith s r C B) out′
+piece-written F t clause out out′ p a s r C B N A A′ X P = record {
   piece = P .piece (record { before = t; symbols = s; rows = r; checked = X });
   symbols = X .checked .symbols;
   rows = X .checked .rows;

@@ -57,6 +57,7 @@ pub record PieceAt (file : List ℕ) (lengths : Lengths) (begin : ℕ) (output o
   pub rest : restGiven (p .rest) ≡ progress file lengths begin (length output)
   pub bytes : output′ ≡ pieceBytes file lengths begin (length output) ++ drop (length (pieceBytes file lengths begin (length output))) output
 
--- What writing a piece says, whichever tables there were before the check.
-pub record PieceOf (F C B N A : List ℕ) (a : Answer) (begin : ℕ) (output output′ : List ℕ) (p : Piece) : Type 0 where
+-- What writing a piece says, whichever tables there were before the check. The array keeps its length, so that the next piece can be written.
+pub record PieceOf (F C B N A A′ : List ℕ) (a : Answer) (begin : ℕ) (output output′ : List ℕ) (p : Piece) : Type 0 where
   pub piece : (R : AfterCheck F C B N A a) → PieceAt F (lengthsOf (R .before)) begin output output′ p
+  pub values : length A′ ≡ 524416

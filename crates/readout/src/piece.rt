@@ -58,8 +58,7 @@ pub fn write_piece(
     output: &mut [u8],
 ) -> Piece
     requires { ⌜ AfterCheck (now file) (now clauses) (now bindings) (now nodes) (now values) a ⌝ }
-    ensures { λ p. ⌜ PieceOf (now (file .entry)) (now (clauses .entry)) (now (bindings .entry)) (now (nodes .entry)) (now (values .entry)) a begin (now (output .entry)) (now (output .exit)) p ⌝ }
-    ensures { λ _. ⌜ length (now (values .exit)) ≡ 524416 ⌝ }
+    ensures { λ p. ⌜ PieceOf (now (file .entry)) (now (clauses .entry)) (now (bindings .entry)) (now (nodes .entry)) (now (values .entry)) (now (values .exit)) a begin (now (output .entry)) (now (output .exit)) p ⌝ }
 {
     let mut text = [0u8; 131072];
     let count = unit_count(a.clauses);

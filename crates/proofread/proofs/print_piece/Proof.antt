@@ -20,22 +20,22 @@ write-piece-requires c κs =
 
 array-share-prefix-output : tie.Need-array-share-prefix-output
 array-share-prefix-output c =
-    omega (arith, written-inside (c .before .before .before .before .before .before .before .pre) (c .before .write-piece .ensures .0), length-replicate {A = ℕ} 131072 0)
+    omega (arith, written-inside (c .before .before .before .before .before .before .before .pre) (c .before .write-piece .ensures), length-replicate {A = ℕ} 131072 0)
 
 slice-aggregate-write-all : tie.Need-slice-aggregate-write-all
 slice-aggregate-write-all c =
-    written-there (c .before .before .before .before .before .before .before .before .pre) (c .before .before .write-piece .ensures .0)
+    written-there (c .before .before .before .before .before .before .before .before .pre) (c .before .before .write-piece .ensures)
 
 write-all-requires : tie.Need-write-all-requires
 write-all-requires c κs = search needs
 
 returns : tie.Need-returns
 returns c =
-    (goes-on (c .before .before .before .before .before .before .before .before .before .before .pre) (c .before .before .before .before .write-piece .ensures .0), c .before .before .before .before .write-piece .ensures .1)
+    (goes-on (c .before .before .before .before .before .before .before .before .before .before .pre) (c .before .before .before .before .write-piece .ensures), c .before .before .before .before .write-piece .ensures .values)
 
 returns-2 : tie.Need-returns-2
 returns-2 c =
-    (tt, c .before .before .before .before .write-piece .ensures .1)
+    (tt, c .before .before .before .before .write-piece .ensures .values)
 
 pub print-piece-spec : {M : Type 1} → statement M
 print-piece-spec =

@@ -34,7 +34,7 @@ same-length-5 c = search needs
 
 returns : tie.Need-returns
 returns c =
-    piece-written _ _ _ _ _ _ _ _ _ _ _ _ _ (c .before .before .before .before .before .before .before .before .before .before .before .before .before .before .before .before .check-with .ensures) (c .before .before .write-piece .ensures .0)
+    piece-written _ _ _ _ _ _ _ _ _ _ _ _ _ _ (c .before .before .before .before .before .before .before .before .before .before .before .before .before .before .before .before .check-with .ensures) (c .before .before .write-piece .ensures)
 
 pub readout-piece-spec : {M : Type 1} → statement M
 readout-piece-spec =

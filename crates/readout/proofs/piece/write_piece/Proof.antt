@@ -45,7 +45,7 @@ same-length c = search needs
 
 returns : tie.Need-returns Inv-loop μ-loop
 returns c =
-    (written-stopped (c .before .before .before .before .before .before .loop .inv .3) (c .before .before .before .before .before .before .loop .inv .0) (c .before .before .before .before .before .before .loop .inv .1) (subst (λ (k : ℕ). c .before .before .before .before .before .before .loop .n < k) (c .before .before .before .before .before .before .before .unit-count .ensures) (c .before .before .before .before .before .loop-test .taken)) (c .before .before .write-unit .ensures) (omega (arith, c .before .if1 .taken, c .before .before .before .before .before .before .loop .inv .2)) _ refl (c .stopped .ensures), c .before .before .write-unit .ensures .sized .values)
+    written-stopped (c .before .before .before .before .before .before .loop .inv .3) (c .before .before .before .before .before .before .loop .inv .0) (c .before .before .before .before .before .before .loop .inv .1) (subst (λ (k : ℕ). c .before .before .before .before .before .before .loop .n < k) (c .before .before .before .before .before .before .before .unit-count .ensures) (c .before .before .before .before .before .loop-test .taken)) (c .before .before .write-unit .ensures) (omega (arith, c .before .if1 .taken, c .before .before .before .before .before .before .loop .inv .2)) _ refl (c .stopped .ensures)
 
 copy-text-requires : tie.Need-copy-text-requires Inv-loop μ-loop
 copy-text-requires c κs =
@@ -70,7 +70,7 @@ same-length-2 c = search needs
 
 returns-2 : tie.Need-returns-2 Inv-loop μ-loop
 returns-2 c =
-    (written-all (c .before .loop .inv .3) (omega (arith, c .before .before .unit-count .ensures, c .loop-test .left)) _ refl refl, c .before .loop .inv .0)
+    written-all (c .before .loop .inv .3) (c .before .loop .inv .0) (omega (arith, c .before .before .unit-count .ensures, c .loop-test .left)) _ refl refl
 
 pub write-piece-spec : {M : Type 1} → statement M
 write-piece-spec =
