@@ -1,5 +1,5 @@
 -- Rows of the node table, written and compared cell by cell.
-use mathlib.Core.Path.{_≡_, _∙_}
+use mathlib.Core.Path.{_≡_, sym, ap, ap₂, _∙_}
 use mathlib.Core.Bool.{Bool, true, false}
 use mathlib.Core.List.{List, [], _∷_, append-assoc}
 use Prim.Native.Nat.{ℕ, zero, suc, _+_, _-_, _*_, _≤_, _<_}
@@ -15,19 +15,25 @@ use native.Mathlib.Nat.{not-suc-le-zero}
 use lib.ListN.{drop-of-length-le}
 use lib.Seq.{drop-cons, sets-eq}
 
-pub node-written : (N : List ℕ) (r code : ℕ) (p : List ℕ) {a b d e f g h : ℕ} → 8 * r + 8 ≤ length N
-    → a ≡ fieldOf p 0 → b ≡ fieldOf p 1 → d ≡ fieldOf p 2 → e ≡ fieldOf p 3 → f ≡ fieldOf p 4 → g ≡ fieldOf p 5 → h ≡ fieldOf p 6
-    → set (set (set (set (set (set (set (set N (8 * r) code) (8 * r + 1) a) (8 * r + 2) b) (8 * r + 3) d) (8 * r + 4) e) (8 * r + 5) f) (8 * r + 6) g) (8 * r + 7) h
-    ≡ withNode N r (nodeCells code p)
-node-written N r code p room a b d e f g h =
-    let e1 : 8 * r + 1 ≡ suc (8 * r) = omega arith in
-    let e2 : 8 * r + 2 ≡ suc (suc (8 * r)) = omega arith in
-    let e3 : 8 * r + 3 ≡ suc (suc (suc (8 * r))) = omega arith in
-    let e4 : 8 * r + 4 ≡ suc (suc (suc (suc (8 * r)))) = omega arith in
-    let e5 : 8 * r + 5 ≡ suc (suc (suc (suc (suc (8 * r))))) = omega arith in
-    let e6 : 8 * r + 6 ≡ suc (suc (suc (suc (suc (suc (8 * r)))))) = omega arith in
-    let e7 : 8 * r + 7 ≡ suc (suc (suc (suc (suc (suc (suc (8 * r))))))) = omega arith in
-    rw (e1, e2, e3, e4, e5, e6, e7, a, b, d, e, f, g, h) (sets-eq (nodeCells code p) N (8 * r) room ∙ append-assoc (take (8 * r) N) (nodeCells code p) (drop (8 * r + 8) N))
+-- The first i fields of a record stored after the code of a row whose cells start at `at`.
+abbrev pub fieldsStored : List ℕ → ℕ → List ℕ → ℕ → List ℕ
+fieldsStored N at p zero = N
+fieldsStored N at p (suc i) = set (fieldsStored N at p i) (at + 1 + i) (fieldOf p i)
+
+pub field-stored : (N : List ℕ) (at : ℕ) (p : List ℕ) (i : ℕ) {M : List ℕ} {x : ℕ} → M ≡ fieldsStored N at p i → x ≡ fieldOf p i → set M (at + 1 + i) x ≡ fieldsStored N at p (i + 1)
+field-stored N at p i q e =
+    ap₂ (λ (m : List ℕ) (x : ℕ). set m (at + 1 + i) x) q e ∙ ap (fieldsStored N at p) (sym (add-one i))
+
+pub node-written : (N : List ℕ) (r code : ℕ) (p : List ℕ) → 8 * r + 8 ≤ length N → fieldsStored (set N (8 * r) code) (8 * r) p 7 ≡ withNode N r (nodeCells code p)
+node-written N r code p room =
+    let e1 : 8 * r + 1 + 0 ≡ suc (8 * r) = omega arith in
+    let e2 : 8 * r + 1 + 1 ≡ suc (suc (8 * r)) = omega arith in
+    let e3 : 8 * r + 1 + 2 ≡ suc (suc (suc (8 * r))) = omega arith in
+    let e4 : 8 * r + 1 + 3 ≡ suc (suc (suc (suc (8 * r)))) = omega arith in
+    let e5 : 8 * r + 1 + 4 ≡ suc (suc (suc (suc (suc (8 * r))))) = omega arith in
+    let e6 : 8 * r + 1 + 5 ≡ suc (suc (suc (suc (suc (suc (8 * r)))))) = omega arith in
+    let e7 : 8 * r + 1 + 6 ≡ suc (suc (suc (suc (suc (suc (suc (8 * r))))))) = omega arith in
+    rw (e1, e2, e3, e4, e5, e6, e7) (sets-eq (nodeCells code p) N (8 * r) room ∙ append-assoc (take (8 * r) N) (nodeCells code p) (drop (8 * r + 8) N))
 
 -- The seven numbers of a row whose cells start at `at`, from number i on.
 abbrev pub numbersFrom : List ℕ → ℕ → ℕ → List ℕ

@@ -35,13 +35,11 @@ pub fn put_node(nodes: &mut [u16; 32768], r: u16, code: u16, part: &[u8])
 {
     let at = 8 * (r as usize);
     nodes[at] = code;
-    nodes[at + 1] = field(part, 0);
-    nodes[at + 2] = field(part, 1);
-    nodes[at + 3] = field(part, 2);
-    nodes[at + 4] = field(part, 3);
-    nodes[at + 5] = field(part, 4);
-    nodes[at + 6] = field(part, 5);
-    nodes[at + 7] = field(part, 6);
+    let mut i: u8 = 0;
+    while i < 7 {
+        nodes[at + 1 + (i as usize)] = field(part, i);
+        i += 1;
+    }
 }
 
 // Whether row r has this code and these fields. Most rows differ in one of the first cells, so it stops at the first difference.
