@@ -63,16 +63,21 @@ module _ (size : ℕ) (cells t : List ℕ) (l : length cells ≤ size) where
       ∙ List·getD-append (replicate (size - length cells) 0) (drop size t) 0 (i - length cells) (rw (length-replicate {A = ℕ} (size - length cells) 0) (omega arith))
       ∙ zeros-read (size - length cells) (i - length cells)
 
+  past-zeros : (j : ℕ) → getD (filled size cells t) (length cells + (length {A = ℕ} (replicate (size - length cells) 0) + j)) 0 ≡ getD t (size + j) 0
+  past-zeros j =
+      getD-append-add cells (replicate (size - length cells) 0 ++ drop size t) (length {A = ℕ} (replicate (size - length cells) 0) + j) 0
+      ∙ getD-append-add (replicate (size - length cells) 0) (drop size t) j 0
+      ∙ getD-drop size t j 0
+
+  place : (i n : ℕ) → n ≡ size - length cells → size ≤ i → i ≡ length cells + (n + (i - size))
+  place i n e h = omega arith
+
   pub filled-high : (i : ℕ) → size ≤ i → getD (filled size cells t) i 0 ≡ getD t i 0
   filled-high i h =
-      let z : i ≡ length cells + ((size - length cells) + (i - size)) = omega arith in
-      let y : (size - length cells) + (i - size) ≡ length {A = ℕ} (replicate (size - length cells) 0) + (i - size) = ap (λ (n : ℕ). n + (i - size)) (sym (length-replicate {A = ℕ} (size - length cells) 0)) in
       let x : size + (i - size) ≡ i = omega arith in
-      ap (λ (n : ℕ). getD (filled size cells t) n 0) z
-      ∙ getD-append-add cells (replicate (size - length cells) 0 ++ drop size t) ((size - length cells) + (i - size)) 0
-      ∙ ap (λ (n : ℕ). getD (replicate (size - length cells) 0 ++ drop size t) n 0) y
-      ∙ getD-append-add (replicate (size - length cells) 0) (drop size t) (i - size) 0
-      ∙ getD-drop size t (i - size) 0 ∙ ap (λ (n : ℕ). getD t n 0) x
+      ap (λ (n : ℕ). getD (filled size cells t) n 0) (place i (length {A = ℕ} (replicate (size - length cells) 0)) (length-replicate {A = ℕ} (size - length cells) 0) h)
+      ∙ past-zeros (i - size)
+      ∙ ap (λ (n : ℕ). getD t n 0) x
 
 pub bindings-count : (B : List ℕ) (first n : ℕ) → length (bindingsFrom B first n) ≡ n
 bindings-count B first zero = refl
