@@ -1,19 +1,19 @@
 -- The literals of a clause, collected from those of its parents, in the numbers of the code.
-use mathlib.Core.Path.{_≡_, refl, sym, ap, ap₂, _∙_, subst}
+use mathlib.Core.Path.{_≡_, refl, sym, ap, _∙_, subst}
 use mathlib.Core.Bool.{Bool, true, false}
-use mathlib.Core.Option.{Option, some}
+use mathlib.Core.Option.{some}
 use mathlib.Core.List.{List, _++_, map}
-use Prim.Native.Nat.{ℕ, _+_, _-_, _*_, _≤_, _<_}
+use Prim.Native.Nat.{ℕ, _+_, _-_, _≤_, _<_}
 use native.Mathlib.Omega.{arith}
 use lib.Dec.{eqb, leb}
 use lib.ListN.{length, length-append, length-map}
 use borrow.Author.Tests.{eqb-true, eqb-false, leb-true, leb-false}
 use Rattle.record.specs.Record.{pick, recordPart, kindOf, fieldOf, fieldA, fieldB, fieldC, fieldD}
-use Rattle.derivation.specs.Derivation.{literals, input, Literal, RowLiteral, literalOf, inputLiterals, Derivation, resolve, factor, numbered, without, raiseLiteral, placed, maximumIndex}
+use Rattle.derivation.specs.Derivation.{literals, input, Literal, RowLiteral, inputLiterals, Derivation, numbered, without, raiseLiteral, placed, maximumIndex}
 use Rattle.derivation.specs.Named.{leftOver, passed, raiseNamed}
 use Rattle.derivation.specs.Stored.{recordCell, literalsCell, indexCell, recordOf, Stored, storedInput, storedResolve, storedFactor}
 use Rattle.derivation.proofs.Numbers.{length-without, numbered-without, passed-in, numbered-left, numbered-right, numbered-raised, raise-named-twice, input-few, input-numbered}
-use Rattle.derivation.proofs.Origins.{stored-cells, maximum-low}
+use Rattle.derivation.proofs.Origins.{stored-cells}
 use Rattle.readout.specs.Literals.{literalWith, listed, Holds, Placed, Deleted, Collectable, Collected}
 
 -- The first n fields of an input clause's record w are in the list.
@@ -39,7 +39,7 @@ fields-more {L} {L₁} {L₂} {w} {base} {o} {n} {code} X p P =
             ap (λ (j : ℕ). listed L₂ (base + j)) e ∙ P .here ∙ ap (λ (x : ℕ). literalWith x (o + 1)) (p ∙ ap (fieldOf w) y)
         try false q = let e = eqb-false k (n + 1) q in P .others (base + k) (λ z. e (omega arith)) ∙ X .fields k l (omega arith)
 
--- Nothing more is left of a list than there was, and at most one less.
+-- At most one literal less is left.
 one-less : (ls : List Literal) (a : ℕ) → length ls ≤ length (without ls a) + 1
 unfolding leftOver
 one-less ls a = subst (λ (k : ℕ). length ls ≤ k + 1) (sym (length-without ls a)) (try (eqb a 0) (leb a (length ls)))
