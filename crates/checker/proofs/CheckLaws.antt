@@ -59,7 +59,7 @@ module _ {F : List ℕ} {s r C B : List ℕ} (R : Readable F (tablesWith s r C B
   table-sizes = sizes (tablesWith s r C B) (R .long)
 
   module _ {s′ r′ C′ B′ A : List ℕ} (ps : s′ ≡ clearedPart 0 4096 s) (pr : r′ ≡ clearedPart 0 4096 r) (pc : C′ ≡ clearedPart 0 20480 C) (pb : B′ ≡ clearedPart 0 32768 B) (pa : length A ≡ 524416) where
-    pub begun : (N : List ℕ) → N ≡ nodeTableOf [] → Begun F (tablesWith s′ r′ C′ B′) N A
+    unfoldable pub begun : (N : List ℕ) → N ≡ nodeTableOf [] → Begun F (tablesWith s′ r′ C′ B′) N A
     begun N isEmpty = record {
       tablesBefore = tablesWith s r C B;
       fit = R .fit;
@@ -68,10 +68,6 @@ module _ {F : List ℕ} {s r C B : List ℕ} (R : Readable F (tablesWith s r C B
       nodes = isEmpty;
       values = pa;
     }
-
-    pub read-begun : (N : List ℕ) → N ≡ nodeTableOf [] → (e : Ended) (here : Tables) (N′ A′ : List ℕ) → RecordsRead F (tablesWith s′ r′ C′ B′) N A e here N′ A′ → EndedWith F (tablesWith s r C B) e here N′ A′
-    unfolding begun
-    read-begun N isEmpty e here N′ A′ X = X .read (begun N isEmpty)
 
 -- The first clause without literals, by the table's cells.
 empty-length : {A : Type 0} (xs : List A) → eqb (length xs) 0 ≡ isEmpty xs

@@ -3,6 +3,8 @@ pub mod Decimals
 pub mod TermTexts
 pub mod ArgumentTexts
 pub mod LiteralTexts
+pub mod ListedLiterals
+pub mod CollectedLiterals
 pub mod LineTexts
 pub mod VerdictTexts
 pub mod CasesProved

@@ -1,6 +1,7 @@
 pub mod Text
 pub mod Readout
 pub mod Writing
+pub mod Literals
 pub mod Lines
 pub mod Cases
 pub mod Pieces

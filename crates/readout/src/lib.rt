@@ -1,8 +1,9 @@
 // The readout of a proof file. The definitions are in specs/: `Text` and `Readout` have what it is, `Pieces` what a piece of it is, and
-// `Contract` what this crate promises. `Writing`, `Lines` and `Units` say how the parts of this program go about it.
+// `Contract` what this crate promises. `Writing`, `Literals`, `Lines` and `Units` say how the parts of this program go about it.
 pub mod heading;
 pub mod line;
 pub mod literal;
+pub mod literals;
 pub mod piece;
 pub mod term;
 pub mod text;

@@ -1,49 +1,38 @@
 // A line of the readout: a clause written out, with its number, its maximum index and its literals.
 use super::literal::write_literal;
+use super::literals::collect;
 use super::text::put_byte;
 use super::text::put_decimal;
 use derivation::index_cell;
-use derivation::literal::NamedLiteral;
-use derivation::literal::literal;
-use derivation::literals_cell;
 use derivation::load::load;
 use unify::values::clear;
 ghost use mathlib.Core.Path.{_≡_};
-ghost use Rattle.derivation.specs.Named.{StoredClause};
-ghost use Rattle.readout.specs.Lines.{WritesNumbered, WritesLiterals, LineReady, LineWritten};
-ghost use Rattle.readout.specs.Writing.{Sized};
+ghost use Prim.Native.Nat.{_<_};
+ghost use lib.ListN.{length};
+ghost use Rattle.readout.specs.Lines.{WritesLiterals, LineReady, LineWritten};
+ghost use Rattle.readout.specs.Literals.{listed, Collectable};
+ghost use Rattle.readout.specs.Writing.{Sized, WritesLiteral};
 
-// Literal n of clause c, from 1, after a blank. The array holds the clause.
-fn write_numbered(
-    file: &[u8],
-    clauses: &[u16],
+// Literal n of the list, after a blank.
+fn write_listed(
     nodes: &[u16; 32768],
     values: &mut [u16; 524416],
     text: &mut [u8; 131072],
     at: usize,
-    c: u16,
-    n: u16,
+    list: &[u16; 8704],
+    n: usize,
 ) -> usize
-    requires { ⌜ StoredClause (now file) (now clauses) c ⌝ }
     requires { ⌜ Sized (now nodes) (now values) (now text) ⌝ }
-    ensures { λ end. ⌜ WritesNumbered (now (file .entry)) (now (clauses .entry)) (now (nodes .entry)) (now (values .entry)) (now (values .exit)) (now (text .entry)) (now (text .exit)) at c n end × Sized (now (nodes .entry)) (now (values .exit)) (now (text .exit)) ⌝ }
+    requires { ⌜ length (now list) ≡ 8704 ⌝ }
+    requires { ⌜ n < 4352 ⌝ }
+    ensures { λ end. ⌜ WritesLiteral (now (nodes .entry)) (now (values .entry)) (now (values .exit)) (now (text .entry)) (now (text .exit)) at (listed (now (list .entry)) n .0) (listed (now (list .entry)) n .1) end × Sized (now (nodes .entry)) (now (values .exit)) (now (text .exit)) ⌝ }
 {
-    let l = literal(file, clauses, c, n);
-    match l {
-        NamedLiteral::Found(positive, row, index) => write_literal(
-            nodes,
-            values,
-            text,
-            at,
-            positive,
-            row,
-            index,
-        ),
-        NamedLiteral::Absent => at,
-    }
+    let code = list[2 * n];
+    let index = list[2 * n + 1];
+    write_literal(nodes, values, text, at, code % 2 == 1, code / 2, index)
 }
 
-// All literals of clause c, each after a blank.
+// All literals of clause c, each after a blank. The array holds the clause.
 fn write_literals(
     file: &[u8],
     clauses: &[u16],
@@ -53,16 +42,17 @@ fn write_literals(
     at: usize,
     c: u16,
 ) -> usize
-    requires { ⌜ StoredClause (now file) (now clauses) c ⌝ }
+    requires { ⌜ Collectable (now file) (now clauses) 0 c 0 ⌝ }
     requires { ⌜ Sized (now nodes) (now values) (now text) ⌝ }
     ensures { λ end. ⌜ WritesLiterals (now (file .entry)) (now (clauses .entry)) (now (nodes .entry)) (now (values .entry)) (now (values .exit)) (now (text .entry)) (now (text .exit)) at c end × Sized (now (nodes .entry)) (now (values .exit)) (now (text .exit)) ⌝ }
 {
-    let count = literals_cell(clauses, c);
+    let mut list = [0u16; 8704];
+    let count = collect(file, clauses, &mut list, 0, c, 0);
     let mut end = at;
-    let mut n: u16 = 0;
+    let mut n: usize = 0;
     while n < count {
         n += 1;
-        end = write_numbered(file, clauses, nodes, values, text, end, c, n);
+        end = write_listed(nodes, values, text, end, &list, n);
     }
     end
 }

@@ -1,7 +1,7 @@
 -- The cleared parts are those of the empty state, and reading goes on from there.
 use mathlib.Core.Path.{_∙_}
 use native.Mathlib.Omega.{arith}
-use Rattle.checker.proofs.CheckLaws.{table-sizes, begun, read-begun, file-read-with}
+use Rattle.checker.proofs.CheckLaws.{table-sizes, begun, file-read-with}
 use borrow.Author.Needs.{needs}
 use Rattle.checker.proofs.read_tables.Statement.{statement}
 use Rattle.checker.proofs.read_tables.Tie as tie
@@ -46,8 +46,9 @@ same-length-4 : tie.Need-same-length-4
 same-length-4 c = search needs
 
 returns : tie.Need-returns
+unfolding read-records-requires begun
 returns c =
-    file-read-with _ _ _ _ _ _ _ (read-begun (c .before .before .before .before .before .before .before .before .before .before .before .before .before .before .before .before .before .before .before .before .before .before .before .before .before .before .before .before .before .before .before .before .before .before .before .before .before .before .pre .readable) (c .before .before .before .before .before .before .before .before .before .before .before .before .before .before .before .before .before .before .before .before .before .before .before .before .before .before .before .before .before .before .before .clear .ensures) (c .before .before .before .before .before .before .before .before .before .before .before .before .before .before .before .before .before .before .before .before .before .before .before .before .before .before .before .clear2 .ensures) (c .before .before .before .before .before .before .before .before .before .before .before .before .before .before .before .before .before .before .before .before .before .before .before .clear3 .ensures) (c .before .before .before .before .before .before .before .before .before .before .before .before .before .before .before .before .before .before .before .clear4 .ensures) (c .before .before .before .before .before .before .before .before .before .before .before .before .before .before .before .before .before .before .before .before .before .before .before .before .before .before .before .before .before .before .before .before .before .before .before .before .before .before .pre .empty .values) _ (c .before .before .before .before .before .before .before .before .before .before .before .before .before .before .before .before .before .before .before .before .before .before .before .before .before .before .before .before .before .before .before .before .before .before .before .before .before .before .pre .empty .nodes) _ _ _ _ (c .before .before .before .before .before .before .before .before .before .before .read-records .ensures)) (c .ended-answer .ensures)
+    file-read-with _ _ _ _ _ _ _ (c .before .before .before .before .before .before .before .before .before .before .read-records .ensures .read (read-records-requires (c .before .before .before .before .before .before .before .before .before .before .before) (c .before .before .before .before .before .before .before .before .before .before .read-records .lifetimes))) (c .ended-answer .ensures)
 
 pub read-tables-spec : {M : Type 1} → statement M
 read-tables-spec =

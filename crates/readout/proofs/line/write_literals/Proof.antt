@@ -1,53 +1,51 @@
-use Prim.Native.Nat.{_-_, _≤_}
+use Prim.Native.Nat.{ℕ, _-_, _≤_}
 use native.Mathlib.Omega.{arith}
-use borrow.Author.Needs.{needs}
+use lib.ListN.{length-replicate}
 use Rattle.readout.specs.Writing.{Sized}
-use Rattle.readout.proofs.LineTexts.{WritesSoFar, literals-start, literals-end, literals-next}
+use Rattle.readout.proofs.LineTexts.{WritesSoFar, literals-start, literals-end, literals-next, collected-few}
 use borrow.Author.Needs.{needs}
 use Rattle.readout.proofs.line.write_literals.Statement.{statement}
 use Rattle.readout.proofs.line.write_literals.Tie as tie
 use Rattle.readout.proofs.line.write_literals.Reads as reads
 use Rattle.readout.proofs.line.write_literals.Lts as lts
-use Rattle.derivation.proofs.literals_cell.Reads as literals-cell-reads
-use Rattle.readout.proofs.line.write_numbered.Reads as write-numbered-reads
+use Rattle.readout.proofs.line.write_listed.Reads as write-listed-reads
+use Rattle.readout.proofs.literals.collect.Reads as collect-reads
 
 abbrev Inv-loop : tie.InvT-loop
-Inv-loop file clauses nodes values₀ text₀ at c count end₀ n₀ values text end n =
+Inv-loop file clauses nodes values₀ text₀ at c list count end₀ n₀ values text end n =
     Sized nodes values text × (n ≤ count) × WritesSoFar file clauses nodes values₀ values text₀ text at c end n
 
 abbrev μ-loop : tie.MeasureT-loop
-μ-loop file clauses nodes values₀ text₀ at c count end₀ n₀ values text end n =
+μ-loop file clauses nodes values₀ text₀ at c list count end₀ n₀ values text end n =
     count - n
 
-literals-cell-requires : tie.Need-literals-cell-requires Inv-loop μ-loop
-literals-cell-requires c κs =
-    search needs
+collect-requires : tie.Need-collect-requires Inv-loop μ-loop
+collect-requires c κs =
+    (length-replicate {A = ℕ} 8704 0, c .before .before .before .pre .0)
 
 loop-holds : tie.Need-loop-holds Inv-loop μ-loop
 loop-holds c =
-    (c .before .before .before .pre .1, omega arith, literals-start _ _ _ _ _ _ _)
+    (c .before .before .before .before .pre .1, omega arith, literals-start _ _ _ _ _ _ _)
 
 add-n : tie.Need-add-n Inv-loop μ-loop
 add-n c =
-    omega arith
+    omega (arith, c .loop-test .taken, collected-few (c .before .before .before .before .before .before .pre .0) (c .before .before .collect .ensures))
 
-write-numbered-requires : tie.Need-write-numbered-requires Inv-loop μ-loop
-write-numbered-requires c κs =
-    (c .before .before .before .before .before .before .before .pre .0, c .before .before .before .loop .inv .0)
+write-listed-requires : tie.Need-write-listed-requires Inv-loop μ-loop
+write-listed-requires c κs =
+    (c .before .before .before .before .loop .inv .0, (c .before .before .before .before .before .collect .ensures .room, omega (arith, c .before .before .before .loop-test .taken, collected-few (c .before .before .before .before .before .before .before .before .before .pre .0) (c .before .before .before .before .before .collect .ensures))))
 
 loop-less : tie.Need-loop-less Inv-loop μ-loop
 loop-less c =
-    omega arith
+    omega (arith, c .before .before .before .before .loop-test .taken)
 
 loop-again : tie.Need-loop-again Inv-loop μ-loop
 loop-again c =
-    let l = c .before .before .before .before .loop in
-    (c .write-numbered .ensures .1, omega arith, literals-next _ _ _ _ _ _ _ _ _ (l .end) (l .n) _ (l .inv .2) (c .before .before .before .before .before .literals-cell .ensures) (c .before .before .before .loop-test .taken) _ _ _ (c .write-numbered .ensures .0))
+    (c .write-listed .ensures .1, omega (arith, c .before .before .before .before .loop-test .taken), literals-next _ _ _ _ _ _ _ _ _ (c .before .before .before .before .before .loop .end) (c .before .before .before .before .before .loop .n) _ (c .before .before .before .before .before .loop .inv .2) (c .before .before .before .before .before .before .collect .ensures) (c .before .before .before .before .loop-test .taken) _ _ _ (c .write-listed .ensures .0))
 
 returns : tie.Need-returns Inv-loop μ-loop
 returns c =
-    let l = c .before .loop in
-    (literals-end _ _ _ _ _ _ _ _ _ (l .end) (l .n) _ (l .inv .2) (c .before .before .literals-cell .ensures) (omega arith), l .inv .0)
+    (literals-end _ _ _ _ _ _ _ _ _ (c .before .loop .end) (c .before .loop .n) _ (c .before .loop .inv .2) (c .before .before .collect .ensures) (omega (arith, c .loop-test .left)), c .before .loop .inv .0)
 
 pub write-literals-spec : {M : Type 1} → statement M
 write-literals-spec =
@@ -55,10 +53,10 @@ write-literals-spec =
     (tie.spec
     Inv-loop
     μ-loop
-    literals-cell-requires
+    collect-requires
     loop-holds
     add-n
-    write-numbered-requires
+    write-listed-requires
     loop-less
     loop-again
     returns)
