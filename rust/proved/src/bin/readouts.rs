@@ -25,7 +25,10 @@ fn main() {
     let build = std::thread::Builder::new().stack_size(256 << 20).spawn(files);
     let files = build.expect("a thread").join().expect("the files are built");
     fs::create_dir_all(folder).expect("the folder");
-    println!("{:36} {:>12} {:>12} {:>6} {:>12} {:>8}", "files", "proofread", "second", "ratio", "bytes", "MB/s");
+    println!(
+        "{:36} {:>12} {:>12} {:>6} {:>12} {:>8}",
+        "files", "proofread", "second", "ratio", "bytes", "MB/s"
+    );
     for (name, examples) in files {
         let paths: Vec<String> = examples.iter().map(|example| write(folder, example)).collect();
         let rounds = if paths.len() == 1 { 3 } else { 1 };
@@ -52,7 +55,8 @@ fn files() -> Vec<(String, Vec<Example>)> {
 }
 
 fn write(folder: &str, example: &Example) -> String {
-    let name: String = example.name.chars().map(|c| if c.is_ascii_alphanumeric() { c } else { '-' }).collect();
+    let name: String =
+        example.name.chars().map(|c| if c.is_ascii_alphanumeric() { c } else { '-' }).collect();
     let path = Path::new(folder).join(name);
     fs::write(&path, &example.file).expect("a file is written");
     path.to_string_lossy().into_owned()
