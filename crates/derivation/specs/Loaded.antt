@@ -1,11 +1,11 @@
 -- Document 01, "Indices and bindings", by document 000's array of values: every binding that looking up in a clause can find is put
--- into the array once, the parents' first, with indices raised as on the way back from a right parent.
+-- into the array, a clause's own before those of its parents, with indices raised as on the way back from a right parent.
 use mathlib.Core.Path.{_≡_}
 use mathlib.Core.Bool.{true}
 use mathlib.Core.Option.{Option, none, some}
 use mathlib.Core.List.{List, [], _∷_}
 use Prim.Native.Nat.{ℕ, zero, suc, _+_, _-_, _≤_, _<_}
-use lib.Dec.{leb}
+use lib.Dec.{eqb, leb}
 use lib.ListN.{length, getD}
 use Rattle.record.specs.Record.{pick}
 use Rattle.unify.specs.Bindings.{bindingsFrom}
@@ -37,19 +37,22 @@ above o ρ x = pick (leb (x .1) o) none (raiseAnswer o (ρ (x .0, x .1 - o)))
 abbrev pub within : ℕ → ℕ → Environment → Environment
 within o m ρ x = pick (leb (x .1) (o + m)) (above o ρ x) none
 
--- A binding put into the array, its indices raised by o; and several, the oldest first.
+-- A binding put into the array, its indices raised by o, where its variable has no value yet; and several, the newest first.
 abbrev pub putBinding : List ℕ → ℕ → Binding → List ℕ → List ℕ
-putBinding N o b A = put A (slot N (b .0 .0) (o + b .0 .1)) (b .1 .0 + 1) (o + b .1 .1)
+putBinding N o b A =
+    pick (eqb (getD A (slot N (b .0 .0) (o + b .0 .1)) 0) 0)
+    (put A (slot N (b .0 .0) (o + b .0 .1)) (b .1 .0 + 1) (o + b .1 .1))
+    A
 
 abbrev pub putBindings : List ℕ → ℕ → List Binding → List ℕ → List ℕ
 putBindings N o [] A = A
-putBindings N o (b ∷ bs) A = putBinding N o b (putBindings N o bs A)
+putBindings N o (b ∷ bs) A = putBindings N o bs (putBinding N o b A)
 
--- All bindings of a derivation put into the array: those of its parents, the right one's raised by the left maximum index, then its own.
+-- All bindings of a derivation put into the array: its own, then those of its parents, the right one's raised by the left maximum index.
 abbrev pub putClause : List ℕ → ℕ → Derivation → List ℕ → List ℕ
 putClause N o (input ls) A = A
-putClause N o (resolve l a r b bs) A = putBindings N o bs (putClause N (o + maximumIndex l) r (putClause N o l A))
-putClause N o (factor d a b bs) A = putBindings N o bs (putClause N o d A)
+putClause N o (resolve l a r b bs) A = putClause N (o + maximumIndex l) r (putClause N o l (putBindings N o bs A))
+putClause N o (factor d a b bs) A = putClause N o d (putBindings N o bs A)
 
 abbrev pub putParents : List ℕ → ℕ → Derivation → List ℕ → List ℕ
 putParents N o (input ls) A = A
@@ -83,18 +86,20 @@ pub record Loadable (F C B N A : List ℕ) (c o : ℕ) : Type 0 where
   pub bindings : BindingsIn N derivation
   pub fits : o + maximumIndex derivation ≤ 4096
 
--- What it says of the array A′ left: every cell, by its definition; and what a variable reads: what is looked up in the clause, and else
--- what was read before.
+-- What it says of the array A′ left: every cell, by its definition; and what a variable reads: what was read before, and else what is
+-- looked up in the clause.
 pub record Loaded (F C B N A A′ : List ℕ) (c o : ℕ) : Type 0 where
   pub room : length A′ ≡ 524416
   pub cells : (d : Derivation) → Stored F C B c d → A′ ≡ putClause N o d A
   pub reads : (d : Derivation) → Stored F C B c d → (x : Variable) → InStep N 4096 x → isVariable N (x .0) ≡ true
-      → readCell N A′ x ≡ orElse (within o (maximumIndex d) (lookup d) x) (readCell N A x)
+      → readCell N A′ x ≡ orElse (readCell N A x) (within o (maximumIndex d) (lookup d) x)
 
--- The same for the parents alone.
-pub record LoadedParents (F C B N A A′ : List ℕ) (c o : ℕ) : Type 0 where
-  pub room : length A′ ≡ 524416
-  pub cells : (d : Derivation) → Stored F C B c d → A′ ≡ putParents N o d A
+-- Clause c has a parent p, to be loaded last, at offset q: the array A′ left is one in which all that is to be put for the parents of c has been
+-- put, but for p.
+pub record LastParent (F C B N A A′ : List ℕ) (c o p q : ℕ) : Type 0 where
+  pub smaller : p < c
+  pub ready : Loadable F C B N A′ p q
+  pub rest : (d e : Derivation) → Stored F C B c d → Stored F C B p e → putParents N o d A ≡ putClause N q e A′
 
 -- What putting n bindings of the table into the array asks, from the first on at offset o: they are in range; and what it says.
 pub record Puttable (B N A : List ℕ) (first n o : ℕ) : Type 0 where
@@ -121,4 +126,7 @@ pub record BindingThere (B N A : List ℕ) (at o : ℕ) : Type 0 where
   pub value : o + getD B (at + 3) 0 ≤ 4096
 
 unfoldable pub putCells : List ℕ → List ℕ → List ℕ → ℕ → ℕ → List ℕ
-putCells B N A at o = put A (slot N (getD B at 0) (o + getD B (at + 1) 0)) (getD B (at + 2) 0 + 1) (o + getD B (at + 3) 0)
+putCells B N A at o =
+    pick (eqb (getD A (slot N (getD B at 0) (o + getD B (at + 1) 0)) 0) 0)
+    (put A (slot N (getD B at 0) (o + getD B (at + 1) 0)) (getD B (at + 2) 0 + 1) (o + getD B (at + 3) 0))
+    A
