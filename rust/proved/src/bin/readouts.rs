@@ -15,6 +15,9 @@ use std::time::Duration;
 use yestrwyn::examples::{deep, heavy, Example};
 use yestrwyn::vectors::groups;
 
+/// How often each file is run; the least time counts.
+const ROUNDS: usize = 3;
+
 fn main() {
     let arguments: Vec<String> = std::env::args().skip(1).collect();
     let [proofread, second, folder] = arguments.as_slice() else {
@@ -31,9 +34,8 @@ fn main() {
     );
     for (name, examples) in files {
         let paths: Vec<String> = examples.iter().map(|example| write(folder, example)).collect();
-        let rounds = if paths.len() == 1 { 3 } else { 1 };
         let (mut ours, mut theirs) = (Duration::MAX, Duration::MAX);
-        for _ in 0..rounds {
+        for _ in 0..ROUNDS {
             ours = ours.min(run(proofread, &paths));
             theirs = theirs.min(run(second, &paths));
         }
