@@ -60,18 +60,22 @@ raise-zero : (q : Option Expression) → raiseAnswer 0 q ≡ q
 raise-zero none = refl
 raise-zero (some e) = let z : 0 + e .1 ≡ e .1 = omega arith in ap (λ (k : ℕ). some (e .0, k)) z
 
+else-none : (q : Option Expression) → orElse q none ≡ q
+else-none none = refl
+else-none (some e) = refl
+
 -- At offset 0 and up to the maximum index nothing is moved.
-within-zero : (m : ℕ) (ρ : Environment) (x : Variable) → 1 ≤ x .1 → x .1 ≤ m → within 0 m ρ x ≡ ρ x
+within-zero : (m : ℕ) (ρ : Environment) (x : Variable) → 1 ≤ x .1 → x .1 ≤ m → orElse (within 0 m ρ x) none ≡ ρ x
 within-zero m ρ x l h =
     let z : x .1 - 0 ≡ x .1 = omega arith in
-    rw (le-leb (x .1) (0 + m) (omega arith), lt-leb (x .1) 0 (omega arith)) (raise-zero (ρ (x .0, x .1 - 0)) ∙ ap (λ (k : ℕ). ρ (x .0, k)) z)
+    rw (le-leb (x .1) (0 + m) (omega arith), lt-leb (x .1) 0 (omega arith)) (else-none (raiseAnswer 0 (ρ (x .0, x .1 - 0))) ∙ raise-zero (ρ (x .0, x .1 - 0)) ∙ ap (λ (k : ℕ). ρ (x .0, k)) z)
 
 -- A factor's parent, loaded into an array that reads free.
 pub factor-reads : {F C B N A A₁ : List ℕ} {c top : ℕ} {d : Derivation} → Stored F C B c d → maximumIndex d ≡ top → top ≤ 4096
     → ReadsFree N top A → Loaded F C B N A A₁ c 0 → ReadsExactly N top A₁ (lookup d)
 factor-reads {N = N} {A = A} {d = d} s q fits free L x g v =
     let high = g .high in
-    L .reads d s x (in-larger fits g) v ∙ ap (λ (u : Option Expression). orElse u (within 0 (maximumIndex d) (lookup d) x)) (free x g v) ∙ within-zero (maximumIndex d) (lookup d) x (g .low) (omega arith)
+    L .reads d s x (in-larger fits g) v ∙ ap (orElse (within 0 (maximumIndex d) (lookup d) x)) (free x g v) ∙ within-zero (maximumIndex d) (lookup d) x (g .low) (omega arith)
 
 -- A resolvent's parents, loaded one after the other, the right one above the left maximum index.
 pub resolve-reads : {F C B N A A₁ A₂ : List ℕ} {c e o top : ℕ} {l r : Derivation} → Stored F C B c l → Stored F C B e r → o ≡ maximumIndex l → maximumIndex l + maximumIndex r ≡ top → top ≤ 4096
@@ -80,9 +84,9 @@ resolve-reads {N = N} {A = A} {A₁ = A₁} {l = l} {r = r} sl sr po q fits free
     let high = g .high in
     let z : maximumIndex l ≡ 0 + maximumIndex l = omega arith in
     L′ .reads r sr x (in-larger fits g) v
-    ∙ ap₂ (λ (k : ℕ) (u : Option Expression). orElse u (within k (maximumIndex r) (lookup r) x)) (po ∙ z)
-    (L .reads l sl x (in-larger fits g) v ∙ ap (λ (u : Option Expression). orElse u (within 0 (maximumIndex l) (lookup l) x)) (free x g v))
-    ∙ within-joined 0 (maximumIndex l) (maximumIndex r) (lookup l) (lookup r) x
+    ∙ ap₂ (λ (k : ℕ) (u : Option Expression). orElse (within k (maximumIndex r) (lookup r) x) u) (po ∙ z) (L .reads l sl x (in-larger fits g) v)
+    ∙ within-joined 0 (maximumIndex l) (maximumIndex r) (lookup l) (lookup r) x (readCell N A x)
+    ∙ ap (orElse (within 0 (maximumIndex l + maximumIndex r) (joined (maximumIndex l) (lookup l) (lookup r)) x)) (free x g v)
     ∙ within-zero (maximumIndex l + maximumIndex r) (joined (maximumIndex l) (lookup l) (lookup r)) x (g .low) (omega arith)
 
 -- An array that reads exactly what ρ has stands for ρ.

@@ -1,31 +1,27 @@
--- What the array holds after bindings are put into it: what it held before, and else the environment of the clause, moved up by the offset.
+-- What the array holds after bindings are put into it: the environment of the clause, moved up by the offset, over what it held before.
 use mathlib.Core.Path.{_≡_, refl, sym, ap, ap₂, _∙_}
 use mathlib.Core.Bool.{Bool, true, false, _&&_}
 use mathlib.Core.Option.{Option, none, some}
 use mathlib.Core.List.{List, [], _∷_}
-use Prim.Native.Nat.{ℕ, zero, suc, _+_, _-_, _≤_, _<_}
+use Prim.Native.Nat.{ℕ, suc, _+_, _-_, _≤_, _<_}
 use native.Mathlib.Omega.{arith}
 use lib.Dec.{eqb, leb, T}
-use lib.ListN.{length, getD}
+use lib.ListN.{length}
 use Rattle.record.specs.Record.{pick}
 use Rattle.unify.specs.Environment.{Binding, Environment, extend}
 use Rattle.unify.specs.Nodes.{isVariable, NodesOk}
 use Rattle.unify.specs.Row.{Expression, Variable, same}
-use Rattle.unify.specs.Values.{slot, put, cellOf, indexOf, InStep}
-use Rattle.unify.proofs.Tests.{same-eq, same-refl}
+use Rattle.unify.specs.Values.{slot, put, InStep}
+use Rattle.unify.proofs.Tests.{same-eq, same-refl, some-not-none}
 use Rattle.unify.proofs.Writing.{slot-eq, put-cell, put-index, put-cell-other, put-index-other, length-put}
 use Rattle.derivation.specs.Derivation.{input, Derivation, resolve, factor, maximumIndex, raiseAnswer, joined, lookup}
-use Rattle.derivation.specs.Loaded.{heldValue, readCell, orElse, above, within, putBinding, putBindings, putClause, BindingIn, AllIn, BindingsIn}
+use Rattle.derivation.specs.Loaded.{heldValue, readCell, orElse, above, within, putBindings, putClause, BindingIn, AllIn, AllFree, BindingsIn}
 use native.Mathlib.Numerals.{add-one}
 use borrow.Author.Tests.{le-leb, lt-leb, leb-true, leb-false, eqb-true, eqb-false, eq-eqb, ne-eqb}
 
 else-assoc : (p q r : Option Expression) → orElse (orElse p q) r ≡ orElse p (orElse q r)
 else-assoc none q r = refl
 else-assoc (some e) q r = refl
-
-pub else-none : (p : Option Expression) → orElse p none ≡ p
-else-none none = refl
-else-none (some e) = refl
 
 raise-else : (o : ℕ) (p q : Option Expression) → raiseAnswer o (orElse p q) ≡ orElse (raiseAnswer o p) (raiseAnswer o q)
 raise-else o none q = refl
@@ -94,49 +90,9 @@ module _ (N : List ℕ) (T : NodesOk N) where
           ap₂ heldValue (put-cell-other N 4096 T (omega arith) p gp vp A (suc t) j x d) (put-index-other N 4096 T (omega arith) p gp vp A (suc t) j x d)
           ∙ sym (rw (same-apart x p (λ e. d (ap (λ (u : Variable). slot N (u .0) (u .1)) e))))
 
-  -- A full cell is kept.
-  full-kept : (c i : ℕ) (q : Option Expression) → (c ≡ 0 → ⊥) → heldValue c i ≡ orElse (heldValue c i) q
-  full-kept zero i q n = absurd (n refl)
-  full-kept (suc c) i q n = refl
-
-  -- A value put where the variable p has none.
-  value-read : (p : Variable) (t j : ℕ) (A : List ℕ) → length A ≡ 524416 → InStep N 4096 p → isVariable N (p .0) ≡ true
-      → (x : Variable) → InStep N 4096 x → isVariable N (x .0) ≡ true
-      → readCell N (pick (eqb (cellOf N A p) 0) (put A (slot N (p .0) (p .1)) (suc t) j) A) x ≡ orElse (readCell N A x) (pick (same x p) (some (t, j)) none)
-  value-read p t j A room gp vp x g v = try (eqb (cellOf N A p) 0) refl
-    where
-      free : cellOf N A p ≡ 0 → (s : Bool) → same x p ≡ s → pick s (some (t, j)) (readCell N A x) ≡ orElse (readCell N A x) (pick s (some (t, j)) none)
-      free z true q = sym (ap (λ (c : ℕ). orElse (heldValue c (indexOf N A x)) (some (t, j))) (ap (cellOf N A) (same-eq x p q) ∙ z))
-      free z false q = sym (else-none (readCell N A x))
-
-      full : (cellOf N A p ≡ 0 → ⊥) → (s : Bool) → same x p ≡ s → readCell N A x ≡ orElse (readCell N A x) (pick s (some (t, j)) none)
-      full n true q = full-kept (cellOf N A x) (indexOf N A x) (some (t, j)) (λ z. n (sym (ap (cellOf N A) (same-eq x p q)) ∙ z))
-      full n false q = sym (else-none (readCell N A x))
-
-      try : (s : Bool) → eqb (cellOf N A p) 0 ≡ s
-          → readCell N (pick s (put A (slot N (p .0) (p .1)) (suc t) j) A) x ≡ orElse (readCell N A x) (pick (same x p) (some (t, j)) none)
-      try true q = read-put A room p gp vp t j x g v ∙ free (eqb-true (cellOf N A p) 0 q) (same x p) refl
-      try false q = full (eqb-false (cellOf N A p) 0 q) (same x p) refl
-
-  -- One binding put.
-  put-read : (o : ℕ) (b : Binding) (A : List ℕ) → length A ≡ 524416 → InStep N 4096 (b .0 .0, o + b .0 .1) → isVariable N (b .0 .0) ≡ true
-      → (x : Variable) → InStep N 4096 x → isVariable N (x .0) ≡ true
-      → readCell N (putBinding N o b A) x ≡ orElse (readCell N A x) (pick (same x (b .0 .0, o + b .0 .1)) (some (b .1 .0, o + b .1 .1)) none)
-  put-read o b A room gp vp x g v =
-      let z : b .1 .0 + 1 ≡ suc (b .1 .0) = add-one (b .1 .0) in
-      ap (λ (t : ℕ). readCell N (pick (eqb (cellOf N A (b .0 .0, o + b .0 .1)) 0) (put A (slot N (b .0 .0) (o + b .0 .1)) t (o + b .1 .1)) A) x) z
-      ∙ value-read (b .0 .0, o + b .0 .1) (b .1 .0) (o + b .1 .1) A room gp vp x g v
-
-  length-binding : (o : ℕ) (b : Binding) (A : List ℕ) → length (putBinding N o b A) ≡ length A
-  length-binding o b A = try (eqb (getD A (slot N (b .0 .0) (o + b .0 .1)) 0) 0)
-    where
-      try : (s : Bool) → length (pick s (put A (slot N (b .0 .0) (o + b .0 .1)) (b .1 .0 + 1) (o + b .1 .1)) A) ≡ length A
-      try true = length-put A (slot N (b .0 .0) (o + b .0 .1)) (b .1 .0 + 1) (o + b .1 .1)
-      try false = refl
-
   pub length-bindings : (o : ℕ) (bs : List Binding) (A : List ℕ) → length (putBindings N o bs A) ≡ length A
   length-bindings o [] A = refl
-  length-bindings o (b ∷ bs) A = length-bindings o bs (putBinding N o b A) ∙ length-binding o b A
+  length-bindings o (b ∷ bs) A = length-put (putBindings N o bs A) (slot N (b .0 .0) (o + b .0 .1)) (b .1 .0 + 1) (o + b .1 .1) ∙ length-bindings o bs A
 
   pub length-clause : (d : Derivation) (o : ℕ) (A : List ℕ) → length (putClause N o d A) ≡ length A
   length-clause (input ls) o A = refl
@@ -144,33 +100,33 @@ module _ (N : List ℕ) (T : NodesOk N) where
       length-clause r (o + maximumIndex l) (putClause N o l (putBindings N o bs A)) ∙ length-clause l o (putBindings N o bs A) ∙ length-bindings o bs A
   length-clause (factor d a b bs) o A = length-clause d o (putBindings N o bs A) ∙ length-bindings o bs A
 
-  -- One binding before the others of its clause.
-  one-read : (o m : ℕ) (b : Binding) → BindingIn N m b → (bs : List Binding) (x : Variable) (c : Bool) → leb (x .1) o ≡ c
-      → orElse (pick (same x (b .0 .0, o + b .0 .1)) (some (b .1 .0, o + b .1 .1)) none) (pick c none (raiseAnswer o (extend nothing bs (x .0, x .1 - o))))
-      ≡ pick c none (raiseAnswer o (extend nothing (b ∷ bs) (x .0, x .1 - o)))
-  one-read o m b K bs x true h =
+  -- One binding more.
+  one-read : (o m : ℕ) (b : Binding) → BindingIn N m b → (bs : List Binding) (x : Variable) (p q : Option Expression) → (c : Bool) → leb (x .1) o ≡ c
+      → p ≡ orElse (pick c none (raiseAnswer o (extend nothing bs (x .0, x .1 - o)))) q
+      → pick (same x (b .0 .0, o + b .0 .1)) (some (b .1 .0, o + b .1 .1)) p ≡ orElse (pick c none (raiseAnswer o (extend nothing (b ∷ bs) (x .0, x .1 - o)))) q
+  one-read o m b K bs x p q true h e =
       let l = leb-true (x .1) o h in
       let n = K .bound .low in
-      rw (same-apart x (b .0 .0, o + b .0 .1) (λ z. let y = ap (λ (u : Variable). u .1) z in omega arith))
-  one-read o m b K bs x false h = rw (shift-same o x (b .0) (leb-false (x .1) o h)) (try (same (x .0, x .1 - o) (b .0)))
+      rw (same-apart x (b .0 .0, o + b .0 .1) (λ z. let y = ap (λ (u : Variable). u .1) z in omega arith)) e
+  one-read o m b K bs x p q false h e = rw (shift-same o x (b .0) (leb-false (x .1) o h)) (try (same (x .0, x .1 - o) (b .0)) e)
     where
-      try : (s : Bool) → orElse (pick s (some (b .1 .0, o + b .1 .1)) none) (raiseAnswer o (extend nothing bs (x .0, x .1 - o))) ≡ raiseAnswer o (pick s (some (b .1)) (extend nothing bs (x .0, x .1 - o)))
-      try true = refl
-      try false = refl
+      try : (s : Bool) → p ≡ orElse (raiseAnswer o (extend nothing bs (x .0, x .1 - o))) q
+          → pick s (some (b .1 .0, o + b .1 .1)) p ≡ orElse (raiseAnswer o (pick s (some (b .1)) (extend nothing bs (x .0, x .1 - o)))) q
+      try true e = refl
+      try false e = e
 
   -- A clause's own bindings.
   bindings-read : (o m : ℕ) → o + m ≤ 4096 → (bs : List Binding) → AllIn N m bs → (A : List ℕ) → length A ≡ 524416 → (x : Variable) → InStep N 4096 x → isVariable N (x .0) ≡ true
-      → readCell N (putBindings N o bs A) x ≡ orElse (readCell N A x) (above o (extend nothing bs) x)
-  bindings-read o m fits [] K A room x g v = sym (ap (orElse (readCell N A x)) (above-nothing o x) ∙ else-none (readCell N A x))
+      → readCell N (putBindings N o bs A) x ≡ orElse (above o (extend nothing bs) x) (readCell N A x)
+  bindings-read o m fits [] K A room x g v = sym (ap (λ (q : Option Expression). orElse q (readCell N A x)) (above-nothing o x))
   bindings-read o m fits (b ∷ bs) K A room x g v =
       let B = K .0 in
       let low = B .bound .low in
       let high = B .bound .high in
-      bindings-read o m fits bs (K .1) (putBinding N o b A) (length-binding o b A ∙ room) x g v
-      ∙ ap (λ (u : Option Expression). orElse u (above o (extend nothing bs) x))
-      (put-read o b A room (record { row = B .bound .row; low = omega arith; high = omega arith }) (B .ofVariable) x g v)
-      ∙ else-assoc (readCell N A x) (pick (same x (b .0 .0, o + b .0 .1)) (some (b .1 .0, o + b .1 .1)) none) (above o (extend nothing bs) x)
-      ∙ ap (orElse (readCell N A x)) (one-read o m b B bs x (leb (x .1) o) refl)
+      let z : b .1 .0 + 1 ≡ suc (b .1 .0) = add-one (b .1 .0) in
+      ap (λ (t : ℕ). readCell N (put (putBindings N o bs A) (slot N (b .0 .0) (o + b .0 .1)) t (o + b .1 .1)) x) z
+      ∙ read-put (putBindings N o bs A) (length-bindings o bs A ∙ room) (b .0 .0, o + b .0 .1) (record { row = B .bound .row; low = omega arith; high = omega arith }) (B .ofVariable) (b .1 .0) (o + b .1 .1) x g v
+      ∙ one-read o m b B bs x (readCell N (putBindings N o bs A) x) (readCell N A x) (leb (x .1) o) refl (bindings-read o m fits bs (K .1) A room x g v)
 
 -- Own bindings do not go past the maximum index.
 own-in : (N : List ℕ) (m : ℕ) (r i : ℕ) → m < i → (bs : List Binding) → AllIn N m bs → extend nothing bs (r, i) ≡ none
@@ -179,27 +135,51 @@ own-in N m r i l (b ∷ bs) K =
     let h = K .0 .bound .high in
     rw (same-apart (r, i) (b .0) (λ z. let y = ap (λ (u : Variable). u .1) z in omega arith)) (own-in N m r i l bs (K .1))
 
--- Own bindings before the parents' are the clause's.
-combine : (o m : ℕ) (ρ : Environment) (own : List Binding) (x : Variable) → (o + m < x .1 → extend nothing own (x .0, x .1 - o) ≡ none)
-    → orElse (above o (extend nothing own) x) (within o m ρ x) ≡ within o m (extend ρ own) x
-combine o m ρ own x out = try (leb (x .1) (o + m)) refl (leb (x .1) o)
+-- Own bindings over the parents' are the clause's.
+combine : (o m : ℕ) (ρ : Environment) (own : List Binding) (x : Variable) (R : Option Expression) → (o + m < x .1 → extend nothing own (x .0, x .1 - o) ≡ none)
+    → orElse (above o (extend nothing own) x) (orElse (within o m ρ x) R) ≡ orElse (within o m (extend ρ own) x) R
+combine o m ρ own x R out = try (leb (x .1) (o + m)) refl (leb (x .1) o)
   where
     try : (a : Bool) → leb (x .1) (o + m) ≡ a → (b : Bool)
-        → orElse (pick b none (raiseAnswer o (extend nothing own (x .0, x .1 - o)))) (pick a (pick b none (raiseAnswer o (ρ (x .0, x .1 - o)))) none)
-        ≡ pick a (pick b none (raiseAnswer o (extend ρ own (x .0, x .1 - o)))) none
+        → orElse (pick b none (raiseAnswer o (extend nothing own (x .0, x .1 - o)))) (orElse (pick a (pick b none (raiseAnswer o (ρ (x .0, x .1 - o)))) none) R)
+        ≡ orElse (pick a (pick b none (raiseAnswer o (extend ρ own (x .0, x .1 - o)))) none) R
     try true q true = refl
     try true q false =
-        sym (raise-else o (extend nothing own (x .0, x .1 - o)) (ρ (x .0, x .1 - o))) ∙ ap (raiseAnswer o) (sym (extend-else ρ own (x .0, x .1 - o)))
+        sym (else-assoc (raiseAnswer o (extend nothing own (x .0, x .1 - o))) (raiseAnswer o (ρ (x .0, x .1 - o))) R)
+        ∙ ap (λ (p : Option Expression). orElse p R) (sym (raise-else o (extend nothing own (x .0, x .1 - o)) (ρ (x .0, x .1 - o))) ∙ ap (raiseAnswer o) (sym (extend-else ρ own (x .0, x .1 - o))))
     try false q true = refl
     try false q false = rw (out (leb-false (x .1) (o + m) q))
 
--- A left parent and a right one are both as one.
-pub within-joined : (o m n : ℕ) (ρ ρ′ : Environment) (x : Variable)
-    → orElse (within o m ρ x) (within (o + m) n ρ′ x) ≡ within o (m + n) (joined m ρ ρ′) x
-within-joined o m n ρ ρ′ x = try (leb (x .1) o) refl (leb (x .1) (o + m)) refl (leb (x .1) (o + (m + n))) refl
+-- A variable that the clause binds is free in its parents.
+own-free : (ρ : Environment) (bs : List Binding) → AllFree ρ bs → (y : Variable) (e : Expression) → extend nothing bs y ≡ some e → ρ y ≡ none
+own-free ρ [] K y e p = absurd (some-not-none refl p)
+own-free ρ (b ∷ bs) K y e p = try (same y (b .0)) refl (λ r. own-free ρ bs (K .1) y e r) p
+  where
+    try : (s : Bool) → same y (b .0) ≡ s → (extend nothing bs y ≡ some e → ρ y ≡ none) → pick s (some (b .1)) (extend nothing bs y) ≡ some e → ρ y ≡ none
+    try true q more r = ap ρ (same-eq y (b .0) q) ∙ K .0
+    try false q more r = more r
+
+-- So it does not matter which is put first.
+own-first : (o m : ℕ) (ρ : Environment) (own : List Binding) → AllFree ρ own → (x : Variable) (R : Option Expression)
+    → orElse (within o m ρ x) (orElse (above o (extend nothing own) x) R) ≡ orElse (above o (extend nothing own) x) (orElse (within o m ρ x) R)
+own-first o m ρ own K x R = try (leb (x .1) (o + m)) (leb (x .1) o) (extend nothing own (x .0, x .1 - o)) refl
+  where
+    try : (a b : Bool) (q : Option Expression) → extend nothing own (x .0, x .1 - o) ≡ q
+        → orElse (pick a (pick b none (raiseAnswer o (ρ (x .0, x .1 - o)))) none) (orElse (pick b none (raiseAnswer o q)) R)
+        ≡ orElse (pick b none (raiseAnswer o q)) (orElse (pick a (pick b none (raiseAnswer o (ρ (x .0, x .1 - o)))) none) R)
+    try false true q p = refl
+    try false false q p = refl
+    try true true q p = refl
+    try true false none p = refl
+    try true false (some e) p = rw (own-free ρ own K (x .0, x .1 - o) e p)
+
+-- A right parent over a left one is both as one.
+pub within-joined : (o m n : ℕ) (ρ ρ′ : Environment) (x : Variable) (R : Option Expression)
+    → orElse (within (o + m) n ρ′ x) (orElse (within o m ρ x) R) ≡ orElse (within o (m + n) (joined m ρ ρ′) x) R
+within-joined o m n ρ ρ′ x R = try (leb (x .1) o) refl (leb (x .1) (o + m)) refl (leb (x .1) (o + (m + n))) refl
   where
     try : (a : Bool) → leb (x .1) o ≡ a → (b : Bool) → leb (x .1) (o + m) ≡ b → (c : Bool) → leb (x .1) (o + (m + n)) ≡ c
-        → orElse (within o m ρ x) (within (o + m) n ρ′ x) ≡ within o (m + n) (joined m ρ ρ′) x
+        → orElse (within (o + m) n ρ′ x) (orElse (within o m ρ x) R) ≡ orElse (within o (m + n) (joined m ρ ρ′) x) R
     try true p b q c r =
         let l = leb-true (x .1) o p in
         rw (p, le-leb (x .1) (o + m) (omega arith), le-leb (x .1) (o + m + n) (omega arith), le-leb (x .1) (o + (m + n)) (omega arith))
@@ -207,13 +187,12 @@ within-joined o m n ρ ρ′ x = try (leb (x .1) o) refl (leb (x .1) (o + m)) re
         let g = leb-false (x .1) o p in
         let l = leb-true (x .1) (o + m) q in
         rw (p, q, le-leb (x .1) (o + m + n) (omega arith), le-leb (x .1) (o + (m + n)) (omega arith), le-leb (x .1 - o) m (omega arith))
-        (else-none (raiseAnswer o (ρ (x .0, x .1 - o))))
     try false p false q true r =
         let g = leb-false (x .1) (o + m) q in
         let l = leb-true (x .1) (o + (m + n)) r in
         let z : x .1 - (o + m) ≡ x .1 - o - m = omega arith in
         rw (p, q, r, le-leb (x .1) (o + m + n) (omega arith), lt-leb (x .1 - o) m (omega arith))
-        (ap (λ (k : ℕ). raiseAnswer (o + m) (ρ′ (x .0, k))) z ∙ sym (raise-raise o m (ρ′ (x .0, x .1 - o - m))))
+        (ap (λ (u : Option Expression). orElse u R) (ap (λ (k : ℕ). raiseAnswer (o + m) (ρ′ (x .0, k))) z ∙ sym (raise-raise o m (ρ′ (x .0, x .1 - o - m)))))
     try false p false q false r =
         let g = leb-false (x .1) (o + (m + n)) r in
         rw (p, q, r, lt-leb (x .1) (o + m + n) (omega arith))
@@ -221,26 +200,23 @@ within-joined o m n ρ ρ′ x = try (leb (x .1) o) refl (leb (x .1) (o + m)) re
 -- What a variable reads after all bindings of a derivation are put into the array.
 module _ (N : List ℕ) (T : NodesOk N) where
   pub clause-read : (d : Derivation) → BindingsIn N d → (o : ℕ) → o + maximumIndex d ≤ 4096 → (A : List ℕ) → length A ≡ 524416 → (x : Variable) → InStep N 4096 x → isVariable N (x .0) ≡ true
-      → readCell N (putClause N o d A) x ≡ orElse (readCell N A x) (within o (maximumIndex d) (lookup d) x)
-  clause-read (input ls) K o fits A room x g v = sym (ap (orElse (readCell N A x)) (within-nothing o 1 x) ∙ else-none (readCell N A x))
+      → readCell N (putClause N o d A) x ≡ orElse (within o (maximumIndex d) (lookup d) x) (readCell N A x)
+  clause-read (input ls) K o fits A room x g v = sym (ap (λ (q : Option Expression). orElse q (readCell N A x)) (within-nothing o 1 x))
   clause-read (resolve l a r b bs) K o fits A room x g v =
       let m = maximumIndex l in
       let n = maximumIndex r in
-      let own = above o (extend nothing bs) x in
+      let both = joined m (lookup l) (lookup r) in
       let room₁ : length (putBindings N o bs A) ≡ 524416 = length-bindings N T o bs A ∙ room in
       let room₂ : length (putClause N o l (putBindings N o bs A)) ≡ 524416 = length-clause N T l o (putBindings N o bs A) ∙ room₁ in
       clause-read r (K .1) (o + m) (omega arith) (putClause N o l (putBindings N o bs A)) room₂ x g v
-      ∙ ap (λ (u : Option Expression). orElse u (within (o + m) n (lookup r) x))
-      (clause-read l (K .0) o (omega arith) (putBindings N o bs A) room₁ x g v
-      ∙ ap (λ (u : Option Expression). orElse u (within o m (lookup l) x)) (bindings-read N T o (m + n) fits bs (K .2) A room x g v))
-      ∙ else-assoc (orElse (readCell N A x) own) (within o m (lookup l) x) (within (o + m) n (lookup r) x)
-      ∙ else-assoc (readCell N A x) own (orElse (within o m (lookup l) x) (within (o + m) n (lookup r) x))
-      ∙ ap (orElse (readCell N A x))
-      (ap (orElse own) (within-joined o m n (lookup l) (lookup r) x)
-      ∙ combine o (m + n) (joined m (lookup l) (lookup r)) bs x (λ h. own-in N (m + n) (x .0) (x .1 - o) (omega arith) bs (K .2)))
+      ∙ ap (orElse (within (o + m) n (lookup r) x)) (clause-read l (K .0) o (omega arith) (putBindings N o bs A) room₁ x g v)
+      ∙ within-joined o m n (lookup l) (lookup r) x (readCell N (putBindings N o bs A) x)
+      ∙ ap (orElse (within o (m + n) both x)) (bindings-read N T o (m + n) fits bs (K .2) A room x g v)
+      ∙ own-first o (m + n) both bs (K .3) x (readCell N A x)
+      ∙ combine o (m + n) both bs x (readCell N A x) (λ h. own-in N (m + n) (x .0) (x .1 - o) (omega arith) bs (K .2))
   clause-read (factor d a b bs) K o fits A room x g v =
       let m = maximumIndex d in
       clause-read d (K .0) o fits (putBindings N o bs A) (length-bindings N T o bs A ∙ room) x g v
-      ∙ ap (λ (u : Option Expression). orElse u (within o m (lookup d) x)) (bindings-read N T o m fits bs (K .1) A room x g v)
-      ∙ else-assoc (readCell N A x) (above o (extend nothing bs) x) (within o m (lookup d) x)
-      ∙ ap (orElse (readCell N A x)) (combine o m (lookup d) bs x (λ h. own-in N m (x .0) (x .1 - o) (omega arith) bs (K .1)))
+      ∙ ap (orElse (within o m (lookup d) x)) (bindings-read N T o m fits bs (K .1) A room x g v)
+      ∙ own-first o m (lookup d) bs (K .2) x (readCell N A x)
+      ∙ combine o m (lookup d) bs x (readCell N A x) (λ h. own-in N m (x .0) (x .1 - o) (omega arith) bs (K .1))

@@ -6,7 +6,7 @@ use Prim.Native.Nat.{ℕ, zero, suc, _+_, _*_, _≤_, _<_}
 use native.Mathlib.Omega.{arith}
 use lib.Dec.{eqb, leb}
 use lib.ListN.{length, getD, set, List·getD-eq-default}
-use Rattle.record.specs.Record.{pick, recordPart, kindOf, fieldOf, fieldA, fieldC}
+use Rattle.record.specs.Record.{recordPart, kindOf, fieldOf, fieldA, fieldC}
 use Rattle.unify.specs.Bindings.{bindingAt, bindingsFrom}
 use Rattle.unify.specs.Environment.{Binding}
 use Rattle.unify.specs.Nodes.{isVariable, part}
@@ -19,7 +19,7 @@ use Rattle.derivation.proofs.LoadedModels.{stored-once}
 use Rattle.derivation.proofs.Loading.{clause-read}
 use Rattle.derivation.proofs.Origins.{stored-cells}
 use native.Mathlib.Numerals.{add-one}
-use borrow.Author.Tests.{leb-true, leb-false, eqb-true, eqb-false, eq-eqb, ne-eqb}
+use borrow.Author.Tests.{leb-true, leb-false, eqb-true, eqb-false}
 use Rattle.unify.proofs.Writing.{length-put}
 
 -- Each binding that is to be put into the array is in range.
@@ -39,26 +39,15 @@ number-cell N r = let z : 8 * r + 1 + 0 ≡ 8 * r + 1 = omega arith in ap (λ (k
 pub number-small : {B N A : List ℕ} {at o : ℕ} → BindingThere B N A at o → getD N (8 * getD B at 0 + 1) 0 < 64
 number-small {B} {N} {A} {at} P = subst (λ (k : ℕ). k < 64) (number-cell N (getD B at 0)) (P .number)
 
-room-either : (s : Bool) (A A₁ : List ℕ) → length A ≡ 524416 → length A₁ ≡ 524416 → length (pick s A₁ A) ≡ 524416
-room-either true A A₁ h h₁ = h₁
-room-either false A A₁ h h₁ = h
-
--- The cell of the binding's variable, as the code computes its place.
-abbrev place : List ℕ → List ℕ → ℕ → ℕ → ℕ
-place B N at o = 128 * (o + getD B (at + 1) 0) + 2 * getD N (8 * getD B at 0 + 1) 0
-
-pub cells-put : (B N A : List ℕ) (at o : ℕ) → getD A (place B N at o) 0 ≡ 0
-    → set (set A (place B N at o) (getD B (at + 2) 0 + 1)) (place B N at o + 1) (o + getD B (at + 3) 0) ≡ putCells B N A at o
+pub cells-put : (B N A : List ℕ) (at o : ℕ)
+    → set (set A (128 * (o + getD B (at + 1) 0) + 2 * getD N (8 * getD B at 0 + 1) 0) (getD B (at + 2) 0 + 1)) (128 * (o + getD B (at + 1) 0) + 2 * getD N (8 * getD B at 0 + 1) 0 + 1) (o + getD B (at + 3) 0)
+    ≡ putCells B N A at o
 unfolding putCells put
-cells-put B N A at o free = rw (number-cell N (getD B at 0), eq-eqb (getD A (place B N at o) 0) 0 free)
-
-pub cells-kept : (B N A : List ℕ) (at o : ℕ) → (getD A (place B N at o) 0 ≡ 0 → ⊥) → A ≡ putCells B N A at o
-unfolding putCells
-cells-kept B N A at o full = rw (number-cell N (getD B at 0), ne-eqb (getD A (place B N at o) 0) 0 full)
+cells-put B N A at o = rw (number-cell N (getD B at 0))
 
 pub cells-room : (B N A : List ℕ) (at o : ℕ) → length A ≡ 524416 → length (putCells B N A at o) ≡ 524416
 unfolding putCells
-cells-room B N A at o h = room-either (eqb (getD A (slot N (getD B at 0) (o + getD B (at + 1) 0)) 0) 0) A _ h (length-put A (slot N (getD B at 0) (o + getD B (at + 1) 0)) (getD B (at + 2) 0 + 1) (o + getD B (at + 3) 0) ∙ h)
+cells-room B N A at o h = length-put A (slot N (getD B at 0) (o + getD B (at + 1) 0)) (getD B (at + 2) 0 + 1) (o + getD B (at + 3) 0) ∙ h
 
 -- A cell that is not 0 is inside the table.
 cell-inside : (B : List ℕ) (k : ℕ) → 1 ≤ getD B k 0 → k < length B
@@ -68,10 +57,10 @@ cell-inside B k h = try (leb (suc k) (length B)) refl
     try true q = leb-true (suc k) (length B) q
     try false q = let z = leb-false (suc k) (length B) q in let y = List·getD-eq-default B 0 {n = k} (omega arith) in absurd (omega arith)
 
--- One binding put, of k that are left.
-pub put-one : (N B : List ℕ) (o first k j : ℕ) (A₁ : List ℕ) {A A₂ : List ℕ} → k ≡ suc j → A ≡ putBindings N o (bindingsFrom B first k) A₁ → A₂ ≡ putCells B N A₁ (4 * (first + j)) o → A ≡ putBindings N o (bindingsFrom B first j) A₂
+-- One binding more.
+pub put-one : (N B A : List ℕ) (o first k : ℕ) {A₁ A₂ : List ℕ} → A₁ ≡ putBindings N o (bindingsFrom B first k) A → A₂ ≡ putCells B N A₁ (4 * (first + k)) o → A₂ ≡ putBindings N o (bindingsFrom B first (k + 1)) A
 unfolding putCells
-put-one N B o first k j A₁ e q p = (rw e at q) ∙ ap (putBindings N o (bindingsFrom B first j)) (sym p)
+put-one N B A o first k q p = rw add-one (p ∙ ap (λ (y : List ℕ). putCells B N y (4 * (first + k)) o) q)
 
 -- A binding in range has its four cells in the table.
 pub binding-there : {B N A A₁ : List ℕ} {first n o : ℕ} (k : ℕ) → Puttable B N A first n o → length A₁ ≡ 524416 → k < n → BindingThere B N A₁ (4 * (first + k)) o
@@ -206,7 +195,7 @@ module _ {F C B N A A₂ : List ℕ} {c o : ℕ} (L : Loadable F C B N A c o) wh
   all-loaded room cells = record { room = room; cells = cells; reads = reads }
     where
       reads : (d : Derivation) → Stored F C B c d → (x : Variable) → InStep N 4096 x → isVariable N (x .0) ≡ true
-          → readCell N A₂ x ≡ orElse (readCell N A x) (within o (maximumIndex d) (lookup d) x)
+          → readCell N A₂ x ≡ orElse (within o (maximumIndex d) (lookup d) x) (readCell N A x)
       reads d s x g v =
           let e : L .derivation ≡ d = stored-once (L .stored) s in
           ap (λ (y : List ℕ). readCell N y x) (cells d s)

@@ -5,7 +5,7 @@ use mathlib.Core.Bool.{true}
 use mathlib.Core.Option.{Option, none, some}
 use mathlib.Core.List.{List, [], _∷_}
 use Prim.Native.Nat.{ℕ, zero, suc, _+_, _-_, _≤_, _<_}
-use lib.Dec.{eqb, leb}
+use lib.Dec.{leb}
 use lib.ListN.{length, getD}
 use Rattle.record.specs.Record.{pick}
 use Rattle.unify.specs.Bindings.{bindingsFrom}
@@ -13,7 +13,7 @@ use Rattle.unify.specs.Environment.{Binding, Environment}
 use Rattle.unify.specs.Nodes.{isVariable, part, NodesOk}
 use Rattle.unify.specs.Row.{Expression, Variable}
 use Rattle.unify.specs.Values.{slot, put, cellOf, indexOf, InStep}
-use Rattle.derivation.specs.Derivation.{input, Derivation, resolve, factor, maximumIndex, raiseAnswer, lookup}
+use Rattle.derivation.specs.Derivation.{input, Derivation, resolve, factor, maximumIndex, raiseAnswer, joined, lookup}
 use Rattle.derivation.specs.Stored.{Stored}
 
 -- What the array holds for a variable at an index: nothing where the cell is free.
@@ -37,16 +37,13 @@ above o ρ x = pick (leb (x .1) o) none (raiseAnswer o (ρ (x .0, x .1 - o)))
 abbrev pub within : ℕ → ℕ → Environment → Environment
 within o m ρ x = pick (leb (x .1) (o + m)) (above o ρ x) none
 
--- A binding put into the array, its indices raised by o, where its variable has no value yet; and several, the newest first.
+-- A binding put into the array, its indices raised by o; and several, the oldest first.
 abbrev pub putBinding : List ℕ → ℕ → Binding → List ℕ → List ℕ
-putBinding N o b A =
-    pick (eqb (getD A (slot N (b .0 .0) (o + b .0 .1)) 0) 0)
-    (put A (slot N (b .0 .0) (o + b .0 .1)) (b .1 .0 + 1) (o + b .1 .1))
-    A
+putBinding N o b A = put A (slot N (b .0 .0) (o + b .0 .1)) (b .1 .0 + 1) (o + b .1 .1)
 
 abbrev pub putBindings : List ℕ → ℕ → List Binding → List ℕ → List ℕ
 putBindings N o [] A = A
-putBindings N o (b ∷ bs) A = putBindings N o bs (putBinding N o b A)
+putBindings N o (b ∷ bs) A = putBinding N o b (putBindings N o bs A)
 
 -- All bindings of a derivation put into the array: its own, then those of its parents, the right one's raised by the left maximum index.
 abbrev pub putClause : List ℕ → ℕ → Derivation → List ℕ → List ℕ
@@ -69,11 +66,17 @@ abbrev pub AllIn : List ℕ → ℕ → List Binding → Type 0
 AllIn N m [] = Unit {0}
 AllIn N m (b ∷ bs) = BindingIn N m b × AllIn N m bs
 
--- So are all bindings of a derivation, each in the clause that owns it.
+-- The variables bound are free in ρ.
+abbrev pub AllFree : Environment → List Binding → Type 0
+AllFree ρ [] = Unit {0}
+AllFree ρ (b ∷ bs) = (ρ (b .0) ≡ none) × AllFree ρ bs
+
+-- So are all bindings of a derivation, each in the clause that owns it, and of a variable that its parents do not bind.
 abbrev pub BindingsIn : List ℕ → Derivation → Type 0
 BindingsIn N (input ls) = Unit {0}
-BindingsIn N (resolve l a r b bs) = BindingsIn N l × BindingsIn N r × AllIn N (maximumIndex l + maximumIndex r) bs
-BindingsIn N (factor d a b bs) = BindingsIn N d × AllIn N (maximumIndex d) bs
+BindingsIn N (resolve l a r b bs) =
+    BindingsIn N l × BindingsIn N r × AllIn N (maximumIndex l + maximumIndex r) bs × AllFree (joined (maximumIndex l) (lookup l) (lookup r)) bs
+BindingsIn N (factor d a b bs) = BindingsIn N d × AllIn N (maximumIndex d) bs × AllFree (lookup d) bs
 
 -- What loading clause c at offset o asks: the lengths of node table N and array A, and a derivation that is clause c of the tables, whose
 -- bindings are in range and whose indices, raised by o, are within document 01's limit.
@@ -86,13 +89,13 @@ pub record Loadable (F C B N A : List ℕ) (c o : ℕ) : Type 0 where
   pub bindings : BindingsIn N derivation
   pub fits : o + maximumIndex derivation ≤ 4096
 
--- What it says of the array A′ left: every cell, by its definition; and what a variable reads: what was read before, and else what is
--- looked up in the clause.
+-- What it says of the array A′ left: every cell, by its definition; and what a variable reads: what is looked up in the clause, and else
+-- what was read before.
 pub record Loaded (F C B N A A′ : List ℕ) (c o : ℕ) : Type 0 where
   pub room : length A′ ≡ 524416
   pub cells : (d : Derivation) → Stored F C B c d → A′ ≡ putClause N o d A
   pub reads : (d : Derivation) → Stored F C B c d → (x : Variable) → InStep N 4096 x → isVariable N (x .0) ≡ true
-      → readCell N A′ x ≡ orElse (readCell N A x) (within o (maximumIndex d) (lookup d) x)
+      → readCell N A′ x ≡ orElse (within o (maximumIndex d) (lookup d) x) (readCell N A x)
 
 -- Clause c has a parent p, to be loaded last, at offset q: the array A′ left is one in which all that is to be put for the parents of c has been
 -- put, but for p.
@@ -126,7 +129,4 @@ pub record BindingThere (B N A : List ℕ) (at o : ℕ) : Type 0 where
   pub value : o + getD B (at + 3) 0 ≤ 4096
 
 unfoldable pub putCells : List ℕ → List ℕ → List ℕ → ℕ → ℕ → List ℕ
-putCells B N A at o =
-    pick (eqb (getD A (slot N (getD B at 0) (o + getD B (at + 1) 0)) 0) 0)
-    (put A (slot N (getD B at 0) (o + getD B (at + 1) 0)) (getD B (at + 2) 0 + 1) (o + getD B (at + 3) 0))
-    A
+putCells B N A at o = put A (slot N (getD B at 0) (o + getD B (at + 1) 0)) (getD B (at + 2) 0 + 1) (o + getD B (at + 3) 0)

@@ -1,6 +1,6 @@
 // Loading a clause: one walk through its parents that puts every binding it finds into the array of values, so that following a
-// variable afterwards is a read of the array. A clause's own bindings come first and a full cell is kept, so that the walk can go on with
-// one parent by a loop; only a clause with two derived parents takes a call.
+// variable afterwards is a read of the array. No variable is bound twice in a derivation, so a clause's own bindings can be put first, and
+// the walk goes on with one parent by a loop; only a clause with two derived parents takes a call.
 ghost use mathlib.Core.Path.{_≡_};
 ghost use Rattle.derivation.specs.Loaded.{Loadable, Loaded, LastParent, Puttable, BindingsPut, BindingThere, putCells};
 ghost use Rattle.derivation.specs.Stored.{recordOf};
@@ -16,7 +16,7 @@ struct Parent {
     offset: u16,
 }
 
-// The binding at `at` is put into the array with its indices raised by the offset, unless the cell is full.
+// The binding at `at` is put into the array with its indices raised by the offset.
 fn put_binding(
     bindings: &[u16],
     nodes: &[u16; 32768],
@@ -31,13 +31,11 @@ fn put_binding(
     let number = nodes[8 * variable + 1] as usize;
     let index = (offset + bindings[at + 1]) as usize;
     let place = 128 * index + 2 * number;
-    if values[place] == 0 {
-        values[place] = bindings[at + 2] + 1;
-        values[place + 1] = offset + bindings[at + 3];
-    }
+    values[place] = bindings[at + 2] + 1;
+    values[place + 1] = offset + bindings[at + 3];
 }
 
-// n bindings of the table, from `first` on, are put into the array with their indices raised by the offset, the newest first.
+// n bindings of the table, from `first` on, are put into the array with their indices raised by the offset.
 fn put_bindings(
     bindings: &[u16],
     nodes: &[u16; 32768],
@@ -49,11 +47,11 @@ fn put_bindings(
     requires { ⌜ Puttable (now bindings) (now nodes) (now values) first n offset ⌝ }
     ensures { λ _. ⌜ BindingsPut (now (bindings .entry)) (now (nodes .entry)) (now (values .entry)) (now (values .exit)) first n offset ⌝ }
 {
-    let mut k = n;
-    while k > 0 {
-        k -= 1;
+    let mut k: u16 = 0;
+    while k < n {
         let at = 4 * ((first as usize) + (k as usize));
         put_binding(bindings, nodes, values, at, offset);
+        k += 1;
     }
 }
 

@@ -1,6 +1,6 @@
 -- Each cell is inside its table, and no sum wraps: the binding is in range.
 use native.Mathlib.Omega.{arith}
-use Rattle.derivation.proofs.Putting.{number-small, cells-put, cells-kept}
+use Rattle.derivation.proofs.Putting.{number-small, cells-put}
 use borrow.Author.Needs.{needs}
 use Rattle.derivation.proofs.load.put_binding.Statement.{statement}
 use Rattle.derivation.proofs.load.put_binding.Tie as tie
@@ -56,14 +56,6 @@ add-place : tie.Need-add-place
 add-place c =
     omega (arith, number-small (c .before .before .before .pre), c .before .before .before .pre .index)
 
-mul-if1 : tie.Need-mul-if1
-mul-if1 c =
-    omega (arith, number-small (c .before .before .before .pre), c .before .before .before .pre .index)
-
-element-copy-out-if1 : tie.Need-element-copy-out-if1
-element-copy-out-if1 c =
-    omega (arith, number-small (c .before .before .before .pre), c .before .before .before .pre .index)
-
 add-values : tie.Need-add-values
 add-values c = search needs
 
@@ -78,11 +70,11 @@ add-values-2 c = search needs
 
 mul-values-2 : tie.Need-mul-values-2
 mul-values-2 c =
-    omega (arith, number-small (c .before .before .before .before .before .before .pre), c .before .before .before .before .before .before .pre .index)
+    omega (arith, number-small (c .before .before .before .before .pre), c .before .before .before .before .pre .index)
 
 element-write-values : tie.Need-element-write-values
 element-write-values c =
-    omega (arith, number-small (c .before .before .before .before .before .before .pre), c .before .before .before .before .before .before .pre .index)
+    omega (arith, number-small (c .before .before .before .before .pre), c .before .before .before .before .pre .index)
 
 add-values-3 : tie.Need-add-values-3
 add-values-3 c = search needs
@@ -98,23 +90,19 @@ add-values-4 c = search needs
 
 add-values-5 : tie.Need-add-values-5
 add-values-5 c =
-    omega (arith, number-small (c .before .before .before .before .before .before .before .pre), c .before .before .before .before .before .before .before .pre .index)
+    omega (arith, number-small (c .before .before .before .before .before .pre), c .before .before .before .before .before .pre .index)
 
 mul-values-4 : tie.Need-mul-values-4
 mul-values-4 c =
-    omega (arith, number-small (c .before .before .before .before .before .before .before .pre), c .before .before .before .before .before .before .before .pre .index)
+    omega (arith, number-small (c .before .before .before .before .before .pre), c .before .before .before .before .before .pre .index)
 
 element-write-values-2 : tie.Need-element-write-values-2
 element-write-values-2 c =
-    omega (arith, number-small (c .before .before .before .before .before .before .before .pre), c .before .before .before .before .before .before .before .pre .index)
+    omega (arith, number-small (c .before .before .before .before .before .pre), c .before .before .before .before .before .pre .index)
 
 returns : tie.Need-returns
 returns c =
-    cells-put _ _ _ _ _ (c .before .before .if1 .taken)
-
-returns-2 : tie.Need-returns-2
-returns-2 c =
-    cells-kept _ _ _ _ _ (c .if1 .left)
+    cells-put _ _ _ _ _
 
 pub put-binding-spec : {M : Type 1} → statement M
 put-binding-spec =
@@ -136,8 +124,6 @@ put-binding-spec =
     mul-place
     mul-place-2
     add-place
-    mul-if1
-    element-copy-out-if1
     add-values
     mul-values
     shared-slice-read-values
@@ -151,5 +137,4 @@ put-binding-spec =
     add-values-5
     mul-values-4
     element-write-values-2
-    returns
-    returns-2)
+    returns)

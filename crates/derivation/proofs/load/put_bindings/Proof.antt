@@ -1,5 +1,5 @@
--- With k bindings left, putting those into the array gives what putting all of them into the first one gives.
-use mathlib.Core.Path.{_≡_, refl, sym, ap, _∙_}
+-- After k turns the first k bindings are in the array.
+use mathlib.Core.Path.{_≡_, refl, ap, _∙_}
 use Prim.Native.Nat.{_-_, _≤_}
 use native.Mathlib.Omega.{arith}
 use lib.ListN.{length}
@@ -13,18 +13,15 @@ use Rattle.derivation.proofs.load.put_binding.Reads as put-binding-read
 
 abbrev Inv-loop : tie.InvT-loop
 Inv-loop bindings nodes values₀ first n offset k₀ values k =
-    (length values ≡ 524416) × (k ≤ n) × (putBindings nodes offset (bindingsFrom bindings first n) values₀ ≡ putBindings nodes offset (bindingsFrom bindings first k) values)
+    (length values ≡ 524416) × (k ≤ n) × (values ≡ putBindings nodes offset (bindingsFrom bindings first k) values₀)
 
 abbrev μ-loop : tie.MeasureT-loop
 μ-loop bindings nodes values₀ first n offset k₀ values k =
-    k
+    n - k
 
 loop-holds : tie.Need-loop-holds Inv-loop μ-loop
 loop-holds c =
     (c .before .pre .room, omega arith, refl)
-
-sub-k : tie.Need-sub-k Inv-loop μ-loop
-sub-k c = search needs
 
 cast-at : tie.Need-cast-at Inv-loop μ-loop
 cast-at c = search needs
@@ -37,20 +34,22 @@ mul-at c = search needs
 
 put-binding-requires : tie.Need-put-binding-requires Inv-loop μ-loop
 put-binding-requires c κs =
-    binding-there (c .before .before .loop .k - 1) (c .before .before .before .before .pre) (c .before .before .loop .inv .0) (omega (arith, c .before .loop-test .taken, c .before .before .loop .inv .1))
+    binding-there (c .before .before .loop .k) (c .before .before .before .before .pre) (c .before .before .loop .inv .0) (c .before .loop-test .taken)
+
+add-k : tie.Need-add-k Inv-loop μ-loop
+add-k c = search needs
 
 loop-less : tie.Need-loop-less Inv-loop μ-loop
-loop-less c =
-    omega (arith, c .before .before .loop-test .taken)
+loop-less c = search needs
 
 loop-again : tie.Need-loop-again Inv-loop μ-loop
 loop-again c =
-    (ap length (c .put-binding .ensures) ∙ cells-room _ _ _ _ _ (c .before .before .before .loop .inv .0), omega (arith, c .before .before .before .loop .inv .1), put-one _ _ _ _ (c .before .before .before .loop .k) (c .before .before .before .loop .k - 1) _ (omega (arith, c .before .before .loop-test .taken)) (c .before .before .before .loop .inv .2) (c .put-binding .ensures))
+    (ap length (c .put-binding .ensures) ∙ cells-room _ _ _ _ _ (c .before .before .before .loop .inv .0), omega arith, put-one _ _ _ _ _ (c .before .before .before .loop .k) (c .before .before .before .loop .inv .2) (c .put-binding .ensures))
 
 returns : tie.Need-returns Inv-loop μ-loop
 returns c =
-    let z : c .before .loop .k ≡ 0 = omega (arith, c .loop-test .left) in
-    record { room = c .before .loop .inv .0; cells = sym (rw z at (c .before .loop .inv .2)) }
+    let z : c .before .loop .k ≡ c .before .before .before .args .n = omega arith in
+    record { room = c .before .loop .inv .0; cells = rw z at (c .before .loop .inv .2) }
 
 pub put-bindings-spec : {M : Type 1} → statement M
 put-bindings-spec =
@@ -59,11 +58,11 @@ put-bindings-spec =
     Inv-loop
     μ-loop
     loop-holds
-    sub-k
     cast-at
     add-at
     mul-at
     put-binding-requires
+    add-k
     loop-less
     loop-again
     returns)
