@@ -17,14 +17,14 @@ use Rattle.unify.specs.Values.{InStep, Models}
 use Rattle.unify.proofs.Chains.{short-le}
 use Rattle.unify.proofs.Lists.{Each}
 use Rattle.unify.proofs.Stability.{follow-agree}
-use Rattle.derivation.specs.Derivation.{literals, input, Literal, Derivation, resolve, factor, numbered, maximumIndex, lookup}
-use Rattle.derivation.specs.Loaded.{BindingIn, AllIn, BindingsIn, Loadable, Loaded}
+use Rattle.derivation.specs.Derivation.{literals, input, Literal, Derivation, resolve, factor, numbered, maximumIndex, joined, lookup}
+use Rattle.derivation.specs.Loaded.{BindingIn, AllIn, AllFree, BindingsIn, Loadable, Loaded}
 use Rattle.derivation.specs.Stored.{literalsCell, indexCell, Stored}
 use Rattle.derivation.proofs.Known.{Known, KnownEnvironment, known-numbered}
 use Rattle.derivation.proofs.Literals.{each-numbered, LiteralIn, literals-in}
 use Rattle.derivation.proofs.LoadedModels.{cleared-free, factor-models}
 use Rattle.derivation.proofs.Origins.{stored-cells}
-use Rattle.derivation.proofs.OwnBindings.{BindingThere, BindingsThere, bindings-there}
+use Rattle.derivation.proofs.OwnBindings.{BindingThere, FreeIn, BindingsThere, bindings-there}
 use Rattle.checker.specs.Progress.{Kept}
 use Rattle.verdict.specs.Refusal.{mostIndex}
 use Rattle.verdict.specs.State.{arities, State, rowsOf, derivations, arityOf, clauseOf, rowOf, held}
@@ -116,10 +116,14 @@ module _ {F : List ℕ} {t : Tables} {k : ℕ} {S : State} {n : Counts} {here : 
   all-in m [] h = tt
   all-in m (b ∷ bs) h = (in-binding m b (h .0), all-in m bs (h .1))
 
+  all-free : (ρ : Environment) (bs : List Binding) → Each (FreeIn ρ) bs → AllFree ρ bs
+  all-free ρ [] h = tt
+  all-free ρ (b ∷ bs) h = (h .0, all-free ρ bs (h .1))
+
   clause-in : (d : Derivation) → BindingsThere (rowOf S) (length (rowsOf S)) d → BindingsIn N d
   clause-in (input ls) h = tt
-  clause-in (resolve l a r b bs) h = (clause-in l (h .0), clause-in r (h .1), all-in (maximumIndex l + maximumIndex r) bs (h .2 .0), h .2 .1)
-  clause-in (factor d a b bs) h = (clause-in d (h .0), all-in (maximumIndex d) bs (h .1 .0), h .1 .1)
+  clause-in (resolve l a r b bs) h = (clause-in l (h .0), clause-in r (h .1), all-in (maximumIndex l + maximumIndex r) bs (h .2 .0), all-free (joined (maximumIndex l) (lookup l) (lookup r)) bs (h .2 .1))
+  clause-in (factor d a b bs) h = (clause-in d (h .0), all-in (maximumIndex d) bs (h .1 .0), all-free (lookup d) bs (h .1 .1))
 
   pub bindings-in : (c : ℕ) (d : Derivation) → clauseOf S c ≡ some d → BindingsIn N d
   bindings-in c d q =

@@ -2,6 +2,7 @@
 -- variables that its parents do not bind.
 use mathlib.Core.Path.{_≡_, refl}
 use mathlib.Core.Bool.{not}
+use mathlib.Core.Option.{none}
 use mathlib.Core.List.{List, [], _∷_}
 use Prim.Native.Nat.{ℕ, _+_, _<_}
 use native.Mathlib.Omega.{arith}
@@ -13,7 +14,6 @@ use Rattle.unify.proofs.NewBindings.{NewBinding, NewEnd, new-run}
 use Rattle.unify.proofs.Ranges.{KeptArguments, IndicesKept}
 use Rattle.unify.proofs.Rows.{Below}
 use Rattle.derivation.specs.Derivation.{literals, input, Derivation, resolve, factor, raise, maximumIndex, joined, lookup}
-use Rattle.derivation.specs.Loaded.{AllFree}
 use Rattle.derivation.proofs.Known.{Known, KnownRows, KnownEnvironment, known-numbered, known-joined, known-lookup}
 use Rattle.derivation.proofs.Literals.{In, each-numbered, LiteralIn, literals-in}
 use Rattle.derivation.proofs.Validity.{Unified, Valid, kept-joined, lookup-in}
@@ -27,11 +27,15 @@ pub record BindingThere (row : ℕ → Row) (N m : ℕ) (b : Binding) : Type 0 w
   pub termRow : b .1 .0 < N
   pub termIndex : In m (b .1 .1)
 
+-- The variable bound is free in ρ.
+abbrev pub FreeIn : Environment → Binding → Type 0
+FreeIn ρ b = ρ (b .0) ≡ none
+
 abbrev pub BindingsThere : (ℕ → Row) → ℕ → Derivation → Type 0
 BindingsThere row N (input ls) = Unit {0}
 BindingsThere row N (resolve l a r b bs) =
-    BindingsThere row N l × BindingsThere row N r × (Each (BindingThere row N (maximumIndex l + maximumIndex r)) bs × AllFree (joined (maximumIndex l) (lookup l) (lookup r)) bs)
-BindingsThere row N (factor d a b bs) = BindingsThere row N d × (Each (BindingThere row N (maximumIndex d)) bs × AllFree (lookup d) bs)
+    BindingsThere row N l × BindingsThere row N r × (Each (BindingThere row N (maximumIndex l + maximumIndex r)) bs × Each (FreeIn (joined (maximumIndex l) (lookup l) (lookup r))) bs)
+BindingsThere row N (factor d a b bs) = BindingsThere row N d × (Each (BindingThere row N (maximumIndex d)) bs × Each (FreeIn (lookup d)) bs)
 
 module _ (N : ℕ) (row : ℕ → Row) (below : (r s : ℕ) (xs : List ℕ) → row r ≡ application s xs → r < N → Below N xs) where
   -- What a step's expressions keep to.
@@ -43,20 +47,15 @@ module _ (N : ℕ) (row : ℕ → Row) (below : (r s : ℕ) (xs : List ℕ) → 
   arguments-in m (a ∷ xs) i h k = ((h .0, k), arguments-in m xs i (h .1) k)
 
   pub unified-bindings : (m : ℕ) (base : Environment) (e d : Expression) (bs : List Binding) → Unified row base e d bs → KnownEnvironment N base → IndicesKept (In m) base → Known N e → In m (e .1) → Known N d → In m (d .1)
-      → Each (BindingThere row N m) bs × AllFree base bs
+      → Each (BindingThere row N m) bs × Each (FreeIn base) bs
   unified-bindings m base e d bs u h k ke ie kd id =
       let z : NewEnd (InRange m) (InRange m) row (λ e v q g. g) (λ e s xs q g. arguments-in m xs (e .1) (below (e .0) s xs q (g .0)) (g .1)) mostLinks (noRoom (u .0)) base (unified bs (u .1))
       = rw (u .2) at (new-run (InRange m) (InRange m) row (λ e v q g. g) (λ e s xs q g. arguments-in m xs (e .1) (below (e .0) s xs q (g .0)) (g .1)) mostLinks (noRoom (u .0)) base mostWork (unifying [] ((e, d) ∷ []))
       (λ x c p. ((h x c p .0, k x c p .0), (h x c p .1, k x c p .1)), ((ke, ie), (kd, id), tt)) tt) in (
         each-more (NewBinding (InRange m) (InRange m) row (λ e v q g. g) (λ e s xs q g. arguments-in m xs (e .1) (below (e .0) s xs q (g .0)) (g .1)) mostLinks (noRoom (u .0)) base) (BindingThere row N m)
             (λ b n. record { number = n .number; isVariable = n .isVariable; variableRow = n .variableKept .0; variableIndex = n .variableKept .1; termRow = n .expressionKept .0; termIndex = n .expressionKept .1 }) bs z,
-        all-free bs z,
+        each-more (NewBinding (InRange m) (InRange m) row (λ e v q g. g) (λ e s xs q g. arguments-in m xs (e .1) (below (e .0) s xs q (g .0)) (g .1)) mostLinks (noRoom (u .0)) base) (FreeIn base) (λ b n. n .free) bs z,
       )
-    where
-      all-free : (bs : List Binding)
-          → Each (NewBinding (InRange m) (InRange m) row (λ e v q g. g) (λ e s xs q g. arguments-in m xs (e .1) (below (e .0) s xs q (g .0)) (g .1)) mostLinks (noRoom (u .0)) base) bs → AllFree base bs
-      all-free [] h = tt
-      all-free (b ∷ bs) h = (h .0 .free, all-free bs (h .1))
 
   pub bindings-there : (c : Derivation) → Valid row c → KnownRows N c → BindingsThere row N c
   bindings-there (input ls) K h = tt
