@@ -17,7 +17,8 @@ ghost use Rattle.readout.specs.Lines.{WritesNumbered, WritesLiterals, Li
 ghost use Rattle.readout.specs.Literals.{listed, Collectable};
 ghost use Rattle.readout.specs.Writing.{Sized, WritesLiteral};
 
-// A clause with more literals than this has them collected in one walk; with as many or fewer, looking each up is faster.
+// A clause with at most so many literals has each of them looked up. One with more has them collected in one walk, which takes as long
+// however few they are.
 const FEW: u16 = 8;
 
 // Literal n of clause c, from 1, looked up and written after a blank. The array holds the clause.

@@ -1,3 +1,4 @@
+-- After n literals, what was written and the literals that are left make the text of all.
 use Prim.Native.Nat.{ℕ, _-_, _≤_}
 use native.Mathlib.Omega.{arith}
 use lib.ListN.{length-replicate}

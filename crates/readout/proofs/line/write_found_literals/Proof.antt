@@ -1,3 +1,4 @@
+-- After n literals, what was written and the literals that are left make the text of all.
 use Prim.Native.Nat.{_-_, _≤_}
 use native.Mathlib.Omega.{arith}
 use Rattle.readout.specs.Writing.{Sized}

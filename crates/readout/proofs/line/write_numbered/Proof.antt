@@ -1,3 +1,4 @@
+-- The literal found is the one with the number; where none is found, the clause has none.
 use Rattle.readout.proofs.LineTexts.{numbered-found, numbered-absent}
 use borrow.Author.Needs.{needs}
 use Rattle.readout.proofs.line.write_numbered.Statement.{statement}

@@ -1,3 +1,4 @@
+-- The digits, one after another, are the number.
 use Rattle.readout.proofs.Decimals.{wrote-decimal}
 use native.Mathlib.Omega.{arith}
 use borrow.Author.Needs.{needs}

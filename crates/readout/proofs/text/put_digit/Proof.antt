@@ -1,3 +1,4 @@
+-- Each return is a case of the definition.
 use Rattle.readout.proofs.Decimals.{wrote-no-digit, wrote-digit}
 use borrow.Author.Needs.{needs}
 use Rattle.readout.proofs.text.put_digit.Statement.{statement}
