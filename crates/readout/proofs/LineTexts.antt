@@ -16,10 +16,14 @@ use Rattle.unify.specs.Term.{Term}
 use Rattle.unify.specs.Values.{InStep, Models}
 use Rattle.derivation.specs.Derivation.{literals, Literal, Derivation, numbered, maximumIndex, lookup}
 use Rattle.derivation.specs.Loaded.{Loadable, Loaded}
-use Rattle.derivation.specs.Stored.{indexCell, Stored}
+use Rattle.derivation.specs.Named.{namedLiteral, StoredClause}
+use Rattle.derivation.specs.Stored.{literalsCell, indexCell, Stored}
 use Rattle.derivation.specs.Written.{substitution, writtenLiteral, written}
 use Rattle.derivation.proofs.Numbers.{raise-named-zero}
+use Rattle.derivation.proofs.Origins.{stored-cells}
 use Rattle.derivation.proofs.Values.{writes-out}
+use Rattle.derivation.specs.declared.literal.NamedLiteral.{NamedLiteral}
+use Rattle.derivation.specs.declared.literal.NamedLiteral.the-variants.{Found, Absent}
 use Rattle.verdict.specs.Refusal.{mostLiterals}
 use Rattle.verdict.specs.State.{State, entry, derivations, clauseOf, rowOf, termOf}
 use Rattle.verdict.specs.Tables.{Tables}
@@ -30,7 +34,7 @@ use Rattle.checker.specs.Reader.{ReadTo}
 use Rattle.checker.specs.Stepping.{tablesWith}
 use Rattle.checker.proofs.Kept.{fitting-records}
 use Rattle.checker.proofs.KeptClauses as kept
-use Rattle.readout.specs.Lines.{AllWritable, WritesLiterals, LineReady, LineWritten}
+use Rattle.readout.specs.Lines.{AllWritable, WritesNumbered, WritesLiterals, LineReady, LineWritten}
 use Rattle.readout.specs.Literals.{listed, Collectable, Collected}
 use Rattle.readout.specs.Readout.{clauseLine}
 use Rattle.readout.specs.Text.{decimal, literalText, literalsText}
@@ -39,19 +43,54 @@ use Rattle.readout.proofs.Decimals.{decimal-length}
 use Rattle.readout.proofs.LiteralTexts.{literals-text-short}
 use Rattle.readout.proofs.Positions.{wrote-nothing, wrote-then}
 
+-- The literal that the program found is the one with the number.
+module _ (F C N A T : List ℕ) (at c n : ℕ) (r : NamedLiteral) (G : (B : List ℕ) (d : Derivation) → Stored F C B c d → r ≡ namedLiteral (numbered (literals d) n)) where
+  same-literal : (positive : Bool) (row index : ℕ) (l : Literal) → Found positive row index ≡ namedLiteral (some l) → (positive, (row, index)) ≡ l
+  same-literal positive row index l e =
+      let p : positive ≡ l .0 = cc in
+      let q : row ≡ l .1 .0 = cc in
+      let k : index ≡ l .1 .1 = cc in
+      λ i. (p i, (q i, k i))
+
+  pub numbered-found : (positive : Bool) (row index : ℕ) → r ≡ Found positive row index → (A′ T′ : List ℕ) (end : ℕ) → WritesLiteral N A A′ T T′ at positive (row, index) end → WritesNumbered F C N A A′ T T′ at c n end
+  numbered-found positive row index q A′ T′ end W B d s l p =
+      subst (λ (x : Literal). WritesLiteral N A A′ T T′ at (x .0) (x .1) end) (same-literal positive row index l (sym q ∙ G B d s ∙ ap namedLiteral p)) W
+
+  pub numbered-absent : r ≡ Absent → WritesNumbered F C N A A T T at c n at
+  numbered-absent q B d s l p = absurd (no (sym q ∙ G B d s ∙ ap namedLiteral p))
+    where
+      no : Absent ≡ namedLiteral (some l) → ⊥
+      no e = let z : _≡_ {A = ℕ} 0 1 = cc in omega arith
+
+-- A clause that can be collected can be looked up.
+pub collectable-stored : {F C : List ℕ} {c : ℕ} → Collectable F C 0 c 0 → StoredClause F C c
+collectable-stored R = record { bindings = R .bindings; derivation = R .derivation; stored = R .stored; fits = omega (arith, R .fits) }
+
 -- There is room in the list for all literals.
 pub collected-few : {F C L L′ : List ℕ} {c count : ℕ} → Collectable F C 0 c 0 → Collected F C L L′ 0 c 0 count → count < 4352
 collected-few R K = omega (arith, R .few, K .last (R .bindings) (R .derivation) (R .stored))
 
 -- The literal that the program has in its list is the one with the number.
-listed-numbered : {F C L L′ : List ℕ} {c count : ℕ} → Collected F C L L′ 0 c 0 count → (B : List ℕ) (d : Derivation) → Stored F C B c d → (n : ℕ) → 1 ≤ n → n ≤ count
-    → (l : Literal) → numbered (literals d) n ≡ some l → listed L′ n ≡ l
-listed-numbered {L′ = L′} K B d s n low high l p =
+pub numbered-listed : {F C L L′ : List ℕ} {c count : ℕ} → Collected F C L L′ 0 c 0 count → (n : ℕ) → 1 ≤ n → n ≤ count
+    → {N A A′ T T′ : List ℕ} {at end : ℕ} → WritesLiteral N A A′ T T′ at (listed L′ n .0) (listed L′ n .1) end → WritesNumbered F C N A A′ T T′ at c n end
+numbered-listed {L′ = L′} K n low high {N} {A} {A′} {T} {T′} {at} {end} W B d s l p =
     let z : n ≡ 0 + n = omega arith in
-    some-same (ap (λ (k : ℕ). some (listed L′ k)) z ∙ K .holds B d s .literal n low (omega (arith, high, K .last B d s)) ∙ sym (raise-named-zero (numbered (literals d) n)) ∙ p)
+    let e : listed L′ n ≡ l =
+    some-same (ap (λ (k : ℕ). some (listed L′ k)) z ∙ K .holds B d s .literal n low (omega (arith, high, K .last B d s)) ∙ sym (raise-named-zero (numbered (literals d) n)) ∙ p) in
+    subst (λ (x : Literal). WritesLiteral N A A′ T T′ at (x .0) (x .1) end) e W
   where
     some-same : {x y : Literal} → some x ≡ some y → x ≡ y
     some-same e = cc
+
+-- So many literals has clause c, whatever derivation it is: the number in its cell, and the number of those collected.
+abbrev pub HasLiterals : List ℕ → List ℕ → ℕ → ℕ → Type 0
+HasLiterals F C c count = (B : List ℕ) (d : Derivation) → Stored F C B c d → count ≡ length (literals d)
+
+pub cell-literals : {F C : List ℕ} {c count : ℕ} → count ≡ literalsCell C c → HasLiterals F C c count
+cell-literals e B d s = e ∙ stored-cells s .literalCount
+
+pub collected-literals : {F C L L′ : List ℕ} {c count : ℕ} → Collected F C L L′ 0 c 0 count → HasLiterals F C c count
+collected-literals K B d s = omega (arith, K .last B d s)
 
 -- The literal with the next number is the first of those left.
 record NextLiteral (ls : List Literal) (n : ℕ) : Type 0 where
@@ -87,10 +126,7 @@ module _ (F C N A T : List ℕ) (at c : ℕ) where
   pub literals-start : WritesSoFar F C N A A T T at c at 0
   literals-start B d s top ρ row term σ W = record { models = W .models; before = []; wrote = wrote-nothing T at; whole = refl }
 
-  module _ (A₁ T₁ : List ℕ) (end n count : ℕ) (S : WritesSoFar F C N A A₁ T T₁ at c end n) {L L′ : List ℕ} (K : Collected F C L L′ 0 c 0 count) where
-    counted : (B : List ℕ) (d : Derivation) → Stored F C B c d → count ≡ length (literals d)
-    counted B d s = omega (arith, K .last B d s)
-
+  module _ (A₁ T₁ : List ℕ) (end n count : ℕ) (S : WritesSoFar F C N A A₁ T T₁ at c end n) (counted : HasLiterals F C c count) where
     pub literals-end : count ≤ n → WritesLiterals F C N A A₁ T T₁ at c end
     literals-end h B d s top ρ row term σ W =
         let S′ = S B d s top ρ row term σ W in
@@ -99,7 +135,7 @@ module _ (F C N A T : List ℕ) (at c : ℕ) where
         sym (append-nil (S′ .before)) ∙ ap (λ (ls : List Literal). S′ .before ++ literalsText row (map (writtenLiteral term σ) ls)) (sym none) ∙ S′ .whole in
         record { models = S′ .models; wrote = subst (Wrote T T₁ at end) all (S′ .wrote) }
 
-    pub literals-next : n < count → (A₂ T₂ : List ℕ) (after : ℕ) → WritesLiteral N A₁ A₂ T₁ T₂ end (listed L′ (n + 1) .0) (listed L′ (n + 1) .1) after → WritesSoFar F C N A A₂ T T₂ at c after (n + 1)
+    pub literals-next : n < count → (A₂ T₂ : List ℕ) (after : ℕ) → WritesNumbered F C N A₁ A₂ T₁ T₂ end c (n + 1) after → WritesSoFar F C N A A₂ T T₂ at c after (n + 1)
     literals-next h A₂ T₂ after G B d s top ρ row term σ W =
         let S′ = S B d s top ρ row term σ W in
         let x = next-literal (literals d) n (omega (arith, counted B d s)) in
@@ -107,9 +143,7 @@ module _ (F C N A T : List ℕ) (at c : ℕ) where
         let isLiteral : numbered (literals d) (n + 1) ≡ some l = ap (numbered (literals d)) (add-one n) ∙ x .isNumbered in
         let text : List ℕ = 32 ∷ literalText row (l .0, writtenOut term σ (l .1)) in
         let isFirst : drop n (literals d) ≡ l ∷ drop (n + 1) (literals d) = x .isFirst ∙ ap (λ (m : ℕ). l ∷ drop m (literals d)) (sym (add-one n)) in
-        let G′ : WritesLiteral N A₁ A₂ T₁ T₂ end (l .0) (l .1) after =
-        subst (λ (x : Literal). WritesLiteral N A₁ A₂ T₁ T₂ end (x .0) (x .1) after) (listed-numbered K B d s (n + 1) (omega arith) (omega (arith, h)) l isLiteral) G in
-        let w = G′ top ρ row term σ (record { models = S′ .models; inStep = W .inStep (n + 1) l isLiteral; rows = W .rows; terms = W .terms; values = W .values }) in
+        let w = G B d s l isLiteral top ρ row term σ (record { models = S′ .models; inStep = W .inStep (n + 1) l isLiteral; rows = W .rows; terms = W .terms; values = W .values }) in
         record {
           models = w .models;
           before = S′ .before ++ text;

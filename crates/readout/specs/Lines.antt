@@ -23,7 +23,7 @@ use Rattle.checker.specs.declared.answer.Verdict as given
 use Rattle.checker.specs.declared.answer.Verdict.the-variants as given-variants
 use Rattle.readout.specs.Readout.{acceptedText, openText, refusedText, verdictLine, clauseLine}
 use Rattle.readout.specs.Text.{literalsText}
-use Rattle.readout.specs.Writing.{Wrote, Sized, LiteralWritten}
+use Rattle.readout.specs.Writing.{Wrote, Sized, LiteralWritten, WritesLiteral}
 
 -- Every literal of a list can be written out, as `Writable` has it for one expression.
 pub record AllWritable (N : List ℕ) (top : ℕ) (A : List ℕ) (ρ : Environment) (row : ℕ → Row) (term : ℕ → Term ℕ) (σ : Variable → Term Variable) (ls : List Literal) : Type 0 where
@@ -32,6 +32,12 @@ pub record AllWritable (N : List ℕ) (top : ℕ) (A : List ℕ) (ρ : Environme
   pub rows : (r : ℕ) → HasRow N r → nodeRow N r ≡ row r
   pub terms : (r : ℕ) → term r ≡ rowTerm term r (row r)
   pub values : WritesOut term ρ σ
+
+-- Literal n of clause c, where the clause has one.
+abbrev pub WritesNumbered : List ℕ → List ℕ → List ℕ → List ℕ → List ℕ → List ℕ → List ℕ → ℕ → ℕ → ℕ → ℕ → Type 0
+WritesNumbered F C N A A′ T T′ at c n end =
+    (B : List ℕ) (d : Derivation) → Stored F C B c d → (l : Literal) → numbered (literals d) n ≡ some l
+    → WritesLiteral N A A′ T T′ at (l .0) (l .1) end
 
 -- All literals of clause c, each after a blank.
 abbrev pub WritesLiterals : List ℕ → List ℕ → List ℕ → List ℕ → List ℕ → List ℕ → List ℕ → ℕ → ℕ → ℕ → Type 0

@@ -3,7 +3,7 @@
 use mathlib.Core.Path.{_≡_}
 use mathlib.Core.Bool.{Bool, false}
 use mathlib.Core.List.{List, [], _∷_, _++_}
-use Prim.Native.Nat.{ℕ, _+_, _≤_, _<_}
+use Prim.Native.Nat.{ℕ, _+_, _%_, _≤_, _<_}
 use lib.Dec.{eqb}
 use lib.ListN.{length, take}
 use Rattle.record.specs.Record.{pick}
@@ -36,6 +36,10 @@ pub record Sized (N A T : List ℕ) : Type 0 where
   pub nodes : length N ≡ 32768
   pub values : length A ≡ 524416
   pub text : length T ≡ 131072
+
+-- The last digit of a number; nothing for 0, which is what is before the first digit of a number.
+abbrev pub digitText : ℕ → List ℕ
+digitText n = pick (eqb n 0) [] ((48 + n % 10) ∷ [])
 
 -- The first argument has a parenthesis before it and every other one a comma. After the last one comes a parenthesis; where the
 -- next argument would still be the first, there is none.

@@ -4,14 +4,68 @@ use super::literals::collect;
 use super::text::put_byte;
 use super::text::put_decimal;
 use derivation::index_cell;
+use derivation::literal::NamedLiteral;
+use derivation::literal::literal;
+use derivation::literals_cell;
 use derivation::load::load;
 use unify::values::clear;
 ghost use mathlib.Core.Path.{_≡_};
 ghost use Prim.Native.Nat.{_<_};
 ghost use lib.ListN.{length};
-ghost use Rattle.readout.specs.Lines.{WritesLiterals, LineReady, LineWritten};
+ghost use Rattle.derivation.specs.Named.{StoredClause};
+ghost use Rattle.readout.specs.Lines.{WritesNumbered, WritesLiterals, LineReady, LineWritten};
 ghost use Rattle.readout.specs.Literals.{listed, Collectable};
 ghost use Rattle.readout.specs.Writing.{Sized, WritesLiteral};
+
+// A clause with at most so many literals has each of them looked up. One with more has them collected in one walk, which takes as long
+// however few they are.
+const FEW: u16 = 8;
+
+// Literal n of clause c, from 1, looked up and written after a blank. The array holds the clause.
+fn write_numbered(
+    file: &[u8],
+    clauses: &[u16],
+    nodes: &[u16; 32768],
+    values: &mut [u16; 524416],
+    text: &mut [u8; 131072],
+    at: usize,
+    c: u16,
+    n: u16,
+) -> usize
+    requires { ⌜ StoredClause (now file) (now clauses) c ⌝ }
+    requires { ⌜ Sized (now nodes) (now values) (now text) ⌝ }
+    ensures { λ end. ⌜ WritesNumbered (now (file .entry)) (now (clauses .entry)) (now (nodes .entry)) (now (values .entry)) (now (values .exit)) (now (text .entry)) (now (text .exit)) at c n end × Sized (now (nodes .entry)) (now (values .exit)) (now (text .exit)) ⌝ }
+{
+    let l = literal(file, clauses, c, n);
+    let NamedLiteral::Found(positive, row, index) = l else {
+        return at;
+    };
+    write_literal(nodes, values, text, at, positive, row, index)
+}
+
+// All literals of clause c, each looked up by its number.
+fn write_found_literals(
+    file: &[u8],
+    clauses: &[u16],
+    nodes: &[u16; 32768],
+    values: &mut [u16; 524416],
+    text: &mut [u8; 131072],
+    at: usize,
+    c: u16,
+) -> usize
+    requires { ⌜ Collectable (now file) (now clauses) 0 c 0 ⌝ }
+    requires { ⌜ Sized (now nodes) (now values) (now text) ⌝ }
+    ensures { λ end. ⌜ WritesLiterals (now (file .entry)) (now (clauses .entry)) (now (nodes .entry)) (now (values .entry)) (now (values .exit)) (now (text .entry)) (now (text .exit)) at c end × Sized (now (nodes .entry)) (now (values .exit)) (now (text .exit)) ⌝ }
+{
+    let count = literals_cell(clauses, c);
+    let mut end = at;
+    let mut n: u16 = 0;
+    while n < count {
+        n += 1;
+        end = write_numbered(file, clauses, nodes, values, text, end, c, n);
+    }
+    end
+}
 
 // Literal n of the list, after a blank.
 fn write_listed(
@@ -32,8 +86,8 @@ fn write_listed(
     write_literal(nodes, values, text, at, code % 2 == 1, code / 2, index)
 }
 
-// All literals of clause c, each after a blank. The array holds the clause.
-fn write_literals(
+// All literals of clause c, collected in a list first.
+fn write_collected_literals(
     file: &[u8],
     clauses: &[u16],
     nodes: &[u16; 32768],
@@ -55,6 +109,26 @@ fn write_literals(
         end = write_listed(nodes, values, text, end, &list, n);
     }
     end
+}
+
+// All literals of clause c, each after a blank. The array holds the clause.
+fn write_literals(
+    file: &[u8],
+    clauses: &[u16],
+    nodes: &[u16; 32768],
+    values: &mut [u16; 524416],
+    text: &mut [u8; 131072],
+    at: usize,
+    c: u16,
+) -> usize
+    requires { ⌜ Collectable (now file) (now clauses) 0 c 0 ⌝ }
+    requires { ⌜ Sized (now nodes) (now values) (now text) ⌝ }
+    ensures { λ end. ⌜ WritesLiterals (now (file .entry)) (now (clauses .entry)) (now (nodes .entry)) (now (values .entry)) (now (values .exit)) (now (text .entry)) (now (text .exit)) at c end × Sized (now (nodes .entry)) (now (values .exit)) (now (text .exit)) ⌝ }
+{
+    if literals_cell(clauses, c) <= FEW {
+        return write_found_literals(file, clauses, nodes, values, text, at, c);
+    }
+    write_collected_literals(file, clauses, nodes, values, text, at, c)
 }
 
 // The line of clause c. The array is cleared as far as the clause reaches, and then the clause is loaded.

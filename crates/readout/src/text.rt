@@ -5,7 +5,7 @@ ghost use mathlib.Core.List.{[], _∷_, _++_};
 ghost use Prim.Native.Nat.{_+_, _<_};
 ghost use lib.ListN.{length};
 ghost use Rattle.readout.specs.Text.{decimal};
-ghost use Rattle.readout.specs.Writing.{Wrote};
+ghost use Rattle.readout.specs.Writing.{Wrote, digitText};
 
 // One byte.
 pub fn put_byte(text: &mut [u8; 131072], at: usize, b: u8) -> usize
@@ -42,16 +42,27 @@ fn digit(n: u16) -> u8
     48 + (n as u8)
 }
 
-// A number in decimal: the digits before the last one, and the last one.
+// The last digit of a number, and nothing for 0.
+fn put_digit(text: &mut [u8; 131072], at: usize, n: u16) -> usize
+    requires { ⌜ length (now text) ≡ 131072 ⌝ }
+    ensures { λ end. ⌜ Wrote (now (text .entry)) (now (text .exit)) at end (digitText n) ⌝ }
+{
+    if n == 0 {
+        return at;
+    }
+    put_byte(text, at, digit(n % 10))
+}
+
+// A number in decimal: five digits at most, without the zeros before the first one.
 pub fn put_decimal(text: &mut [u8; 131072], at: usize, n: u16) -> usize
     requires { ⌜ length (now text) ≡ 131072 ⌝ }
     ensures { λ end. ⌜ Wrote (now (text .entry)) (now (text .exit)) at end (decimal n) ⌝ }
 {
-    if n < 10 {
-        return put_byte(text, at, digit(n));
-    }
-    let last = put_decimal(text, at, n / 10);
-    put_byte(text, last, digit(n % 10))
+    let thousands = put_digit(text, at, n / 10000);
+    let hundreds = put_digit(text, thousands, n / 1000);
+    let tens = put_digit(text, hundreds, n / 100);
+    let ones = put_digit(text, tens, n / 10);
+    put_byte(text, ones, digit(n % 10))
 }
 
 // `s` and the number of a symbol.

@@ -1,13 +1,13 @@
+-- After n literals, what was written and the literals that are left make the text of all.
 use Prim.Native.Nat.{ℕ, _-_, _≤_}
 use native.Mathlib.Omega.{arith}
 use lib.ListN.{length-replicate}
 use Rattle.readout.specs.Writing.{Sized}
-use Rattle.readout.proofs.LineTexts.{WritesSoFar, literals-start, literals-end, literals-next, collected-few}
-use borrow.Author.Needs.{needs}
-use Rattle.readout.proofs.line.write_literals.Statement.{statement}
-use Rattle.readout.proofs.line.write_literals.Tie as tie
-use Rattle.readout.proofs.line.write_literals.Reads as reads
-use Rattle.readout.proofs.line.write_literals.Lts as lts
+use Rattle.readout.proofs.LineTexts.{WritesSoFar, literals-start, literals-end, literals-next, collected-few, numbered-listed, collected-literals}
+use Rattle.readout.proofs.line.write_collected_literals.Statement.{statement}
+use Rattle.readout.proofs.line.write_collected_literals.Tie as tie
+use Rattle.readout.proofs.line.write_collected_literals.Reads as reads
+use Rattle.readout.proofs.line.write_collected_literals.Lts as lts
 use Rattle.readout.proofs.line.write_listed.Reads as write-listed-reads
 use Rattle.readout.proofs.literals.collect.Reads as collect-reads
 
@@ -41,14 +41,14 @@ loop-less c =
 
 loop-again : tie.Need-loop-again Inv-loop μ-loop
 loop-again c =
-    (c .write-listed .ensures .1, omega (arith, c .before .before .before .before .loop-test .taken), literals-next _ _ _ _ _ _ _ _ _ (c .before .before .before .before .before .loop .end) (c .before .before .before .before .before .loop .n) _ (c .before .before .before .before .before .loop .inv .2) (c .before .before .before .before .before .before .collect .ensures) (c .before .before .before .before .loop-test .taken) _ _ _ (c .write-listed .ensures .0))
+    (c .write-listed .ensures .1, omega (arith, c .before .before .before .before .loop-test .taken), literals-next _ _ _ _ _ _ _ _ _ (c .before .before .before .before .before .loop .end) (c .before .before .before .before .before .loop .n) _ (c .before .before .before .before .before .loop .inv .2) (collected-literals (c .before .before .before .before .before .before .collect .ensures)) (c .before .before .before .before .loop-test .taken) _ _ _ (numbered-listed (c .before .before .before .before .before .before .collect .ensures) _ (omega arith) (omega (arith, c .before .before .before .before .loop-test .taken)) (c .write-listed .ensures .0)))
 
 returns : tie.Need-returns Inv-loop μ-loop
 returns c =
-    (literals-end _ _ _ _ _ _ _ _ _ (c .before .loop .end) (c .before .loop .n) _ (c .before .loop .inv .2) (c .before .before .collect .ensures) (omega (arith, c .loop-test .left)), c .before .loop .inv .0)
+    (literals-end _ _ _ _ _ _ _ _ _ (c .before .loop .end) (c .before .loop .n) _ (c .before .loop .inv .2) (collected-literals (c .before .before .collect .ensures)) (omega (arith, c .loop-test .left)), c .before .loop .inv .0)
 
-pub write-literals-spec : {M : Type 1} → statement M
-write-literals-spec =
+pub write-collected-literals-spec : {M : Type 1} → statement M
+write-collected-literals-spec =
     tie.close
     (tie.spec
     Inv-loop
