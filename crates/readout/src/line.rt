@@ -19,7 +19,7 @@ ghost use Rattle.readout.specs.Writing.{Sized, WritesLiteral};
 
 // A clause with at most so many literals has each of them looked up. One with more has them collected in one walk, which takes as long
 // however few they are.
-const FEW: u16 = 8;
+const FEW: u16 = 6;
 
 // Literal n of clause c, from 1, looked up and written after a blank. The array holds the clause.
 fn write_numbered(
