@@ -6,13 +6,13 @@ use mathlib.Core.Option.{none}
 use mathlib.Core.List.{List, [], _∷_}
 use Prim.Native.Nat.{ℕ, _+_, _<_}
 use native.Mathlib.Omega.{arith}
-use Rattle.unify.specs.Environment.{Binding, Environment}
-use Rattle.unify.specs.Row.{variable, Row, application, Expression}
-use Rattle.unify.specs.Unification.{mostWork, mostLinks, unified, unifying, noRoom}
-use Rattle.unify.proofs.Lists.{Each, each-more}
-use Rattle.unify.proofs.NewBindings.{NewBinding, NewEnd, new-run}
-use Rattle.unify.proofs.Ranges.{KeptArguments, IndicesKept}
-use Rattle.unify.proofs.Rows.{Below}
+use Rattle.unification.specs.Environment.{Binding, Environment}
+use Rattle.unification.specs.Row.{variable, Row, application, Expression}
+use Rattle.unification.specs.Unification.{mostWork, mostLinks, unified, unifying, noRoom}
+use Rattle.unification.proofs.Lists.{Each, each-more}
+use Rattle.unification.proofs.NewBindings.{NewBinding, NewEnd, new-run}
+use Rattle.unification.proofs.Ranges.{KeptArguments, IndicesKept}
+use Rattle.unification.proofs.Rows.{Below}
 use Rattle.derivation.specs.Derivation.{literals, input, Derivation, resolve, factor, raise, maximumIndex, joined, lookup}
 use Rattle.derivation.proofs.Known.{Known, KnownRows, KnownEnvironment, known-numbered, known-joined, known-lookup}
 use Rattle.derivation.proofs.Literals.{In, each-numbered, LiteralIn, literals-in}
