@@ -9,7 +9,7 @@ use Rattle.verdict.specs.Tables.{lengthsOf}
 use Rattle.verdict.specs.Verdict.{Lengths}
 use Rattle.checker.specs.declared.answer.Answer.{Answer}
 use Rattle.readout.specs.Pieces.{goOnWith, tooShortFor, complete, progress, pieceBytes, Pieces, lastPiece, piece}
-use Rattle.readout.specs.Readout.{readout}
+use Rattle.lines.specs.Readout.{readout}
 use Rattle.readout.specs.Units.{AfterCheck, PieceAt, PieceOf, restGiven}
 use Rattle.readout.specs.declared.piece.Piece.{Piece}
 use Rattle.readout.specs.declared.piece.Rest.the-variants.{Complete, GoOn, TooShort}

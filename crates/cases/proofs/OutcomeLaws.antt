@@ -3,7 +3,7 @@ use mathlib.Core.Path.{_≡_, ap, _∙_}
 use mathlib.Core.List.{List}
 use Prim.Native.Nat.{ℕ}
 use Rattle.checker.specs.Contract.{CheckedWith}
-use Rattle.checker.specs.Stepping.{tablesWith}
+use Rattle.inference.specs.Stepping.{tablesWith}
 use Rattle.verdict.specs.Tables.{Tables}
 use Rattle.checker.specs.declared.answer.Answer.{Answer}
 use Rattle.cases.specs.Hash.{start, hashCells}

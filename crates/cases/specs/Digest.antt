@@ -6,7 +6,7 @@ use lib.ListN.{length}
 use Rattle.verdict.specs.Tables.{lengthsOf}
 use Rattle.verdict.specs.Verdict.{Lengths}
 use Rattle.checker.specs.declared.answer.Answer.{Answer}
-use Rattle.readout.specs.Readout.{readout}
+use Rattle.lines.specs.Readout.{readout}
 use Rattle.readout.specs.Units.{AfterCheck}
 use Rattle.cases.specs.Hash.{start, hashBytes}
 use Rattle.cases.specs.declared.digest.Digest.{Digest}

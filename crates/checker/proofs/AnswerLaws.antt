@@ -9,12 +9,12 @@ use native.Mathlib.Omega.{arith}
 use lib.Dec.{eqb, ltb, ltb→lt}
 use borrow.Author.Tests.{eq-eqb, ne-eqb}
 use Rattle.record.specs.Record.{pick}
-use Rattle.unify.proofs.Tests.{to-T}
+use Rattle.unification.proofs.Tests.{to-T}
 use Rattle.derivation.specs.Stored.{literalsCell}
 use Rattle.checker.specs.Given.{verdictGiven, answerGiven, numbersWith, untouchedNumbers, firstZero, standingNumbers, endedNumbers}
 use Rattle.verdict.specs.Verdict.{verdictNumbers, standing}
 use Rattle.verdict.proofs.Inversions.{not-below}
-use Rattle.checker.specs.declared.entry.Counts.{Counts}
+use Rattle.entry.specs.declared.entry.Counts.{Counts}
 use Rattle.checker.specs.declared.reader.Ended.{Ended}
 use Rattle.checker.specs.declared.reader.Ended.the-variants.{All, Refused}
 use Rattle.checker.specs.declared.answer.Answer.{Answer}

@@ -13,18 +13,18 @@ use Rattle.record.specs.Record.{pick}
 use Rattle.derivation.specs.Derivation.{literals, Derivation}
 use Rattle.derivation.specs.Stored.{literalsCell}
 use Rattle.checker.specs.Given.{answerGiven, numbersWith, firstZero, standingNumbers, endedNumbers}
-use Rattle.checker.specs.Program.{clearedPart}
-use Rattle.checker.specs.Progress.{nodeTableOf, countsOf}
+use Rattle.entry.specs.Program.{clearedPart}
+use Rattle.entry.specs.Progress.{nodeTableOf, countsOf}
 use Rattle.checker.specs.Reader.{Begun, EndsAs, EndedWith, RecordsRead, Readable, FileRead, FileReadWith, ReadTo}
 use Rattle.verdict.specs.Refusal.{Reason, reasonNumber}
 use Rattle.verdict.specs.State.{State, bindingsOf}
 use Rattle.verdict.specs.Step.{read, Ending, allStand, refusedAt, stateOf}
-use Rattle.checker.specs.Stepping.{tablesWith}
+use Rattle.inference.specs.Stepping.{tablesWith}
 use Rattle.verdict.specs.Tables.{Tables, cellsOfClause, clauseCells, filledTables}
 use Rattle.verdict.specs.Verdict.{verdictNumbers, answerNumbers, isEmpty, firstEmpty, standing, verdictOf, answerOf, Lengths, longEnough, fittingLength, ending}
 use Rattle.verdict.proofs.Acceptance.{cells-length}
-use Rattle.checker.proofs.Kept.{Sizes, sizes}
-use Rattle.checker.specs.declared.entry.Counts.{Counts}
+use Rattle.entry.proofs.Kept.{Sizes, sizes}
+use Rattle.entry.specs.declared.entry.Counts.{Counts}
 use Rattle.checker.specs.declared.reader.Ended.{Ended}
 use Rattle.checker.specs.declared.reader.Ended.the-variants.{All, Refused}
 use Rattle.checker.specs.declared.answer.Answer.{Answer}

@@ -6,13 +6,13 @@ use mathlib.Core.List.{List, [], _∷_, _++_}
 use Prim.Native.Nat.{ℕ, _+_, _-_, _*_, _<_}
 use native.Mathlib.Omega.{arith}
 use lib.ListN.{length, getD, drop, replicate, length-map, List·getD-append}
-use Rattle.unify.specs.Row.{Variable}
-use Rattle.unify.proofs.Tests.{true-not-false, some-injective}
+use Rattle.unification.specs.Row.{Variable}
+use Rattle.unification.proofs.Tests.{true-not-false, some-injective}
 use Rattle.derivation.specs.Derivation.{Derivation, maximumIndex}
 use Rattle.checker.specs.Contract.{Checked, CheckedWith, stateLeft}
 use Rattle.checker.specs.Given.{verdictGiven, answerGiven, untouchedNumbers}
 use Rattle.checker.specs.Reader.{Readable, FileRead, Unwritten, FileReadWith}
-use Rattle.checker.specs.Progress.{nodeTableOf}
+use Rattle.entry.specs.Progress.{nodeTableOf}
 use Rattle.verdict.specs.Refusal.{Reason, badLength, shortTable}
 use Rattle.verdict.specs.State.{State, start, rowsOf, derivations, clauseOf, held}
 use Rattle.verdict.specs.Step.{stateOf}
@@ -22,7 +22,7 @@ use Rattle.verdict.specs.Verdict as verdicts
 use Rattle.verdict.proofs.Acceptance.{cells-length}
 use Rattle.verdict.proofs.Demanded.{check-length, check-tables, check-reads, tables-length, tables-short, tables-read, demand1, demand2, demand3}
 use Rattle.verdict.proofs.Inversions.{entry-below}
-use Rattle.checker.proofs.StepTests.{not-false, not-true}
+use Rattle.inference.proofs.StepTests.{not-false, not-true}
 use Rattle.checker.specs.declared.answer.Answer.{Answer}
 use Rattle.checker.specs.declared.answer.Verdict.{Verdict}
 use Rattle.checker.specs.declared.answer.Verdict.the-variants as verdict

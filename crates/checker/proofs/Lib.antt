@@ -1,17 +1,3 @@
-pub mod NodeTable
-pub mod Filling
-pub mod ClearedCells
-pub mod FieldLaws
-pub mod NodeLaws
-pub mod Entering
-pub mod EntryLaws
-pub mod Kept
-pub mod KeptClauses
-pub mod Declaring
-pub mod StepLaws
-pub mod StepTests
-pub mod StepEnds
-pub mod StepNamed
 pub mod RecordLaws
 pub mod RecordsLaws
 pub mod AnswerLaws

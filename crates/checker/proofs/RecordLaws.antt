@@ -5,20 +5,20 @@ use Prim.Native.Nat.{ℕ, _<_}
 use native.Mathlib.Omega.{arith}
 use lib.ListN.{length}
 use Rattle.record.specs.Record.{recordPart, kindOf, decoded, otherKind, kindNumbered}
-use Rattle.checker.specs.Program.{symbolLeft, symbolEntered, rowLeft, variableEntered, applicationEntered, inputLeft, inputEntered}
-use Rattle.checker.specs.Progress.{Reading, RecordRead}
+use Rattle.entry.specs.Program.{symbolLeft, symbolEntered, rowLeft, variableEntered, applicationEntered, inputLeft, inputEntered}
+use Rattle.entry.specs.Progress.{Reading, RecordRead}
 use Rattle.verdict.specs.Refusal.{badKind, kindOfRecord}
 use Rattle.verdict.specs.State.{State}
 use Rattle.verdict.specs.Step.{require}
-use Rattle.checker.specs.Stepping.{tablesWith, BeforeStep, StepRead}
+use Rattle.inference.specs.Stepping.{tablesWith, BeforeStep, StepRead}
 use Rattle.verdict.specs.Tables.{Tables}
-use Rattle.checker.proofs.Declaring.{symbol-read, variable-read, application-read, input-read}
-use Rattle.checker.proofs.FieldLaws.{kind-other}
-use Rattle.checker.proofs.Kept.{few-records, few-symbols, few-rows, few-clauses, nodes-length}
+use Rattle.entry.proofs.Declaring.{symbol-read, variable-read, application-read, input-read}
+use Rattle.entry.proofs.FieldLaws.{kind-other}
+use Rattle.entry.proofs.Kept.{few-records, few-symbols, few-rows, few-clauses, nodes-length}
 use Rattle.verdict.proofs.Resolution.{at-kind}
-use Rattle.checker.specs.declared.entry.Counts.{Counts}
-use Rattle.checker.specs.declared.entry.Entered.{Entered}
-use Rattle.checker.specs.declared.entry.Entered.the-variants.{Refused}
+use Rattle.entry.specs.declared.entry.Counts.{Counts}
+use Rattle.entry.specs.declared.entry.Entered.{Entered}
+use Rattle.entry.specs.declared.entry.Entered.the-variants.{Refused}
 
 module _ {F : List ℕ} {k : ℕ} {n : Counts} {here : Tables} {N A : List ℕ} (R : Reading F k n here N A) where
   abbrev S : State

@@ -5,15 +5,15 @@ use Prim.Native.Nat.{ℕ, _+_, _≤_, _<_}
 use native.Mathlib.Numerals.{add-one}
 use native.Mathlib.Omega.{arith}
 use Rattle.record.specs.Record.{recordCount}
-use Rattle.checker.specs.Progress.{Kept, Reading, Next, RecordRead}
+use Rattle.entry.specs.Progress.{Kept, Reading, Next, RecordRead}
 use Rattle.checker.specs.Reader.{Begun, EndedWith}
 use Rattle.verdict.specs.State.{State, start, held}
 use Rattle.verdict.specs.Tables.{Tables}
 use Rattle.verdict.proofs.Advance.{Standing, refused-there, all-read}
-use Rattle.checker.proofs.Kept.{standing-of, fitting-records}
-use Rattle.checker.specs.declared.entry.Counts.{Counts}
-use Rattle.checker.specs.declared.entry.Entered.{Entered}
-use Rattle.checker.specs.declared.entry.Entered.the-variants.{Stands, Refused}
+use Rattle.entry.proofs.Kept.{standing-of, fitting-records}
+use Rattle.entry.specs.declared.entry.Counts.{Counts}
+use Rattle.entry.specs.declared.entry.Entered.{Entered}
+use Rattle.entry.specs.declared.entry.Entered.the-variants.{Stands, Refused}
 use Rattle.checker.specs.declared.reader.Ended.{Ended}
 use Rattle.checker.specs.declared.reader.Ended.the-variants.{All}
 use Rattle.checker.specs.declared.reader.Ended.the-variants as ended-variants

@@ -6,11 +6,11 @@ use mathlib.Core.List.{List}
 use Prim.Native.Nat.{ℕ, _+_, _*_}
 use lib.ListN.{length, getD}
 use Rattle.record.specs.Record.{pick}
-use Rattle.unify.specs.Row.{Variable}
+use Rattle.unification.specs.Row.{Variable}
 use Rattle.derivation.specs.Derivation.{Derivation, maximumIndex}
 use Rattle.verdict.specs.Demands.{Demand1, Demand2, Demand3}
 use Rattle.checker.specs.Given.{answerGiven}
-use Rattle.checker.specs.Progress.{nodeTableOf}
+use Rattle.entry.specs.Progress.{nodeTableOf}
 use Rattle.checker.specs.Reader.{ReadTo}
 use Rattle.verdict.specs.State.{State, start, rowsOf, clauseOf}
 use Rattle.verdict.specs.Step.{stateOf}

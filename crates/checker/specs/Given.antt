@@ -6,7 +6,7 @@ use lib.Dec.{eqb}
 use Rattle.record.specs.Record.{pick}
 use Rattle.derivation.specs.Stored.{literalsCell}
 use Rattle.verdict.specs.Verdict.{verdictNumbers, standing}
-use Rattle.checker.specs.declared.entry.Counts.{Counts}
+use Rattle.entry.specs.declared.entry.Counts.{Counts}
 use Rattle.checker.specs.declared.reader.Ended.{Ended}
 use Rattle.checker.specs.declared.reader.Ended.the-variants.{All, Refused}
 use Rattle.checker.specs.declared.answer.Answer.{Answer}

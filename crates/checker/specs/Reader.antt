@@ -6,13 +6,13 @@ use Prim.Native.Nat.{ℕ, _≤_}
 use lib.ListN.{length}
 use Rattle.record.specs.Record.{recordCount}
 use Rattle.checker.specs.Given.{answerGiven}
-use Rattle.checker.specs.Progress.{nodeTableOf, countsOf, Kept}
+use Rattle.entry.specs.Progress.{nodeTableOf, countsOf, Kept}
 use Rattle.verdict.specs.Refusal.{Reason, reasonNumber}
 use Rattle.verdict.specs.State.{State, start}
 use Rattle.verdict.specs.Step.{allStand, refusedAt, stateOf}
 use Rattle.verdict.specs.Tables.{Tables, lengthsOf, filledTables}
 use Rattle.verdict.specs.Verdict.{answerNumbers, verdictOf, answerOf, longEnough, fittingLength, ending}
-use Rattle.checker.specs.declared.entry.Counts.{Counts}
+use Rattle.entry.specs.declared.entry.Counts.{Counts}
 use Rattle.checker.specs.declared.reader.Ended.{Ended}
 use Rattle.checker.specs.declared.answer.Answer.{Answer}
 use Rattle.checker.specs.declared.reader.Ended.the-variants.{All, Refused}

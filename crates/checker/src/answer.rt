@@ -1,7 +1,7 @@
 // The answer: the verdict and the counts, and how they come from the way in which reading ended.
-use super::entry::Counts;
 use super::reader::Ended;
-use derivation::literals_cell;
+use entry::entry::Counts;
+use loading::literals_cell;
 ghost use mathlib.Core.Path.{_≡_};
 ghost use lib.ListN.{length};
 ghost use Rattle.checker.specs.Given.{verdictGiven, answerGiven, untouchedNumbers, firstZero, endedNumbers, standingNumbers};

@@ -1,24 +1,19 @@
 // The check of a proof file. The definitions are in the crate verdict: `Verdict` and `Tables` have what the check answers, `Demands`
-// what is demanded of it. In specs/, `Contract` has what `check` promises; `Program`, `Progress`, `Stepping` and `Reader` say how this
-// program goes about it.
+// what is demanded of it. In specs/, `Contract` has what `check` promises, and `Reader` says how this program goes about it. Single
+// records are read by the crates entry and inference.
 pub mod answer;
-pub mod entry;
-pub mod fields;
-pub mod inference;
 pub mod reader;
-pub mod rows;
-pub mod tables;
 
 use answer::Answer;
 use answer::ended_answer;
 use answer::untouched;
+use entry::tables::clear;
 use reader::read_records;
-use tables::clear;
 ghost use mathlib.Core.Path.{_≡_};
 ghost use lib.ListN.{length};
 ghost use Rattle.checker.specs.Contract.{Checked, CheckedWith};
 ghost use Rattle.checker.specs.Reader.{Readable, FileRead, Unwritten, ReadableWith, FileReadWith};
-ghost use Rattle.checker.specs.Stepping.{tablesWith};
+ghost use Rattle.inference.specs.Stepping.{tablesWith};
 ghost use Rattle.verdict.specs.Verdict.{fittingLength, longEnough};
 
 // Whether a file's length is at most 65,536 and a multiple of 16.

@@ -1,17 +1,17 @@
 // Records one after another: each by its kind.
-use super::entry::Counts;
-use super::entry::Entered;
-use super::entry::application_record;
-use super::entry::input_record;
-use super::entry::symbol_record;
-use super::entry::variable_record;
-use super::inference::factor_record;
-use super::inference::resolve_record;
+use entry::entry::Counts;
+use entry::entry::Entered;
+use entry::entry::application_record;
+use entry::entry::input_record;
+use entry::entry::symbol_record;
+use entry::entry::variable_record;
+use inference::inference::factor_record;
+use inference::inference::resolve_record;
 use record::kind;
 use record::record_part;
-ghost use Rattle.checker.specs.Progress.{Reading, RecordRead};
+ghost use Rattle.entry.specs.Progress.{Reading, RecordRead};
 ghost use Rattle.checker.specs.Reader.{Begun, RecordsRead};
-ghost use Rattle.checker.specs.Stepping.{tablesWith};
+ghost use Rattle.inference.specs.Stepping.{tablesWith};
 
 // All records stand, with the counts after the last; or one is refused: its reason's number, its own, and the counts before it.
 pub enum Ended {

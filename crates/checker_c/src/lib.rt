@@ -7,7 +7,7 @@ use answer::put;
 use checker::check;
 use progress::put_progress;
 use readout::readout_piece;
-ghost use Rattle.checker.specs.Stepping.{tablesWith};
+ghost use Rattle.inference.specs.Stepping.{tablesWith};
 ghost use Rattle.checker_c.specs.Exported.{Exported};
 ghost use Rattle.checker_c.specs.ExportedReadout.{ExportedReadout};
 

@@ -5,11 +5,11 @@ use mathlib.Core.Option.{Option, none, some}
 use Prim.Native.Nat.{ℕ, zero, suc, _+_, _-_, _≤_, _<_}
 use native.Mathlib.Omega.{arith}
 use lib.Dec.{leb, leb→le}
-use Rattle.unify.specs.Environment.{follow, Environment, unbound, link, View, applied, Ends, viewVariable, viewRow, onward}
-use Rattle.unify.specs.Row.{variable, Row, application, Expression}
-use Rattle.unify.proofs.Chains.{Short}
-use Rattle.unify.proofs.Ranges.{IndicesKept}
-use Rattle.unify.proofs.Tests.{to-T}
+use Rattle.unification.specs.Environment.{follow, Environment, unbound, link, View, applied, Ends, viewVariable, viewRow, onward}
+use Rattle.unification.specs.Row.{variable, Row, application, Expression}
+use Rattle.unification.proofs.Chains.{Short}
+use Rattle.unification.proofs.Ranges.{IndicesKept}
+use Rattle.unification.proofs.Tests.{to-T}
 use Rattle.derivation.specs.Derivation.{raise, raiseAnswer, joined}
 use Rattle.derivation.proofs.Literals.{In, leb-false-lt, joined-left, joined-right}
 

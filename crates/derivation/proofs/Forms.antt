@@ -5,11 +5,11 @@ use mathlib.Core.List.{List, [], _∷_}
 use Prim.Native.Nat.{ℕ, zero, suc, _≤_}
 use native.Mathlib.Omega.{arith}
 use lib.ListN.{length}
-use Rattle.unify.specs.Environment.{follow, Environment, unbound, link, View, applied, Ends, viewVariable, viewRow, onward}
-use Rattle.unify.specs.Row.{variable, Row, application, Expression, Variable, rowTerm, writtenOut}
-use Rattle.unify.specs.Term.{Term, var, app, occurrences, allOccurrences}
-use Rattle.unify.proofs.Lists.{Each}
-use Rattle.unify.proofs.Meaning.{writtenArguments, writtenView, expressionOf, Ended, written-follow, follow-ends}
+use Rattle.unification.specs.Environment.{follow, Environment, unbound, link, View, applied, Ends, viewVariable, viewRow, onward}
+use Rattle.unification.specs.Row.{variable, Row, application, Expression, Variable, rowTerm, writtenOut}
+use Rattle.unification.specs.Term.{Term, var, app, occurrences, allOccurrences}
+use Rattle.unification.proofs.Lists.{Each}
+use Rattle.unification.proofs.Meaning.{writtenArguments, writtenView, expressionOf, Ended, written-follow, follow-ends}
 use Rattle.derivation.specs.Derivation.{RowLiteral}
 use Rattle.derivation.specs.Ground.{instances, Ground, Values, instanceAt, argumentCount, WellFormed, AllWellFormed, WellFormedInstance, WellFormedInstances}
 

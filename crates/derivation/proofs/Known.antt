@@ -7,15 +7,15 @@ use Prim.Native.Nat.{ℕ, _-_, _≤_, _<_}
 use native.Mathlib.Omega.{arith}
 use lib.Dec.{leb}
 use Rattle.record.specs.Record.{pick}
-use Rattle.unify.specs.Environment.{Binding, Environment, extend}
-use Rattle.unify.specs.Row.{variable, Row, application, Expression}
-use Rattle.unify.specs.Unification.{mostWork, mostLinks, unified, unifying, noRoom}
-use Rattle.unify.proofs.Lists.{Each, each-append, each-map, each-more}
-use Rattle.unify.proofs.Ranges.{Kept, KeptArguments, KeptEnd, kept-run}
-use Rattle.unify.proofs.Rows.{Below}
-use Rattle.unify.proofs.Solved.{agree}
-use Rattle.unify.proofs.Stability.{run-agree}
-use Rattle.unify.proofs.Tests.{some-not-none, some-injective}
+use Rattle.unification.specs.Environment.{Binding, Environment, extend}
+use Rattle.unification.specs.Row.{variable, Row, application, Expression}
+use Rattle.unification.specs.Unification.{mostWork, mostLinks, unified, unifying, noRoom}
+use Rattle.unification.proofs.Lists.{Each, each-append, each-map, each-more}
+use Rattle.unification.proofs.Ranges.{Kept, KeptArguments, KeptEnd, kept-run}
+use Rattle.unification.proofs.Rows.{Below}
+use Rattle.unification.proofs.Solved.{agree}
+use Rattle.unification.proofs.Stability.{run-agree}
+use Rattle.unification.proofs.Tests.{some-not-none, some-injective}
 use Rattle.derivation.specs.Derivation.{literals, input, Literal, RowLiteral, Derivation, resolve, factor, numbered, without, raise, raiseLiteral, maximumIndex, raiseAnswer, joined, lookup, uses}
 use Rattle.derivation.proofs.Literals.{each-numbered, each-without}
 use Rattle.derivation.proofs.Validity.{Unified, Valid}

@@ -9,9 +9,3 @@ pub mod Chains
 pub mod Forms
 pub mod Known
 pub mod OwnBindings
-pub mod Numbers
-pub mod Origins
-pub mod Loading
-pub mod ValidBindings
-pub mod LoadedModels
-pub mod Putting

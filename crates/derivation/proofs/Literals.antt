@@ -7,10 +7,10 @@ use Prim.Native.Nat.{ℕ, zero, suc, _+_, _-_, _≤_, _<_}
 use native.Mathlib.Omega.{arith}
 use lib.Dec.{leb, leb→le, le→leb, nleb→lt}
 use lib.ListN.{length, length-append}
-use Rattle.unify.specs.Environment.{Environment}
-use Rattle.unify.specs.Row.{Variable}
-use Rattle.unify.proofs.Lists.{Each, each-append, each-map, each-more}
-use Rattle.unify.proofs.Tests.{to-T, from-T, some-not-none, some-injective}
+use Rattle.unification.specs.Environment.{Environment}
+use Rattle.unification.specs.Row.{Variable}
+use Rattle.unification.proofs.Lists.{Each, each-append, each-map, each-more}
+use Rattle.unification.proofs.Tests.{to-T, from-T, some-not-none, some-injective}
 use Rattle.derivation.specs.Derivation.{literals, input, Literal, RowLiteral, Derivation, resolve, factor, numbered, without, raiseLiteral, placed, maximumIndex, raiseAnswer, joined, uses}
 
 module _ {A B : Type 0} (f : A → B) where

@@ -1,16 +1,18 @@
--- The bindings of a clause, its own and its parents': of variable rows that are there, with indices up to the maximum index.
+-- The bindings of a clause, its own and its parents': of variable rows that are there, with indices up to the maximum index, and of
+-- variables that its parents do not bind.
 use mathlib.Core.Path.{_≡_, refl}
 use mathlib.Core.Bool.{not}
+use mathlib.Core.Option.{none}
 use mathlib.Core.List.{List, [], _∷_}
 use Prim.Native.Nat.{ℕ, _+_, _<_}
 use native.Mathlib.Omega.{arith}
-use Rattle.unify.specs.Environment.{Binding, Environment}
-use Rattle.unify.specs.Row.{variable, Row, application, Expression}
-use Rattle.unify.specs.Unification.{mostWork, mostLinks, unified, unifying, noRoom}
-use Rattle.unify.proofs.Lists.{Each, each-more}
-use Rattle.unify.proofs.NewBindings.{NewBinding, NewEnd, new-run}
-use Rattle.unify.proofs.Ranges.{KeptArguments, IndicesKept}
-use Rattle.unify.proofs.Rows.{Below}
+use Rattle.unification.specs.Environment.{Binding, Environment}
+use Rattle.unification.specs.Row.{variable, Row, application, Expression}
+use Rattle.unification.specs.Unification.{mostWork, mostLinks, unified, unifying, noRoom}
+use Rattle.unification.proofs.Lists.{Each, each-more}
+use Rattle.unification.proofs.NewBindings.{NewBinding, NewEnd, new-run}
+use Rattle.unification.proofs.Ranges.{KeptArguments, IndicesKept}
+use Rattle.unification.proofs.Rows.{Below}
 use Rattle.derivation.specs.Derivation.{literals, input, Derivation, resolve, factor, raise, maximumIndex, joined, lookup}
 use Rattle.derivation.proofs.Known.{Known, KnownRows, KnownEnvironment, known-numbered, known-joined, known-lookup}
 use Rattle.derivation.proofs.Literals.{In, each-numbered, LiteralIn, literals-in}
@@ -25,10 +27,15 @@ pub record BindingThere (row : ℕ → Row) (N m : ℕ) (b : Binding) : Type 0 w
   pub termRow : b .1 .0 < N
   pub termIndex : In m (b .1 .1)
 
+-- The variable bound is free in ρ.
+abbrev pub FreeIn : Environment → Binding → Type 0
+FreeIn ρ b = ρ (b .0) ≡ none
+
 abbrev pub BindingsThere : (ℕ → Row) → ℕ → Derivation → Type 0
 BindingsThere row N (input ls) = Unit {0}
-BindingsThere row N (resolve l a r b bs) = BindingsThere row N l × BindingsThere row N r × Each (BindingThere row N (maximumIndex l + maximumIndex r)) bs
-BindingsThere row N (factor d a b bs) = BindingsThere row N d × Each (BindingThere row N (maximumIndex d)) bs
+BindingsThere row N (resolve l a r b bs) =
+    BindingsThere row N l × BindingsThere row N r × (Each (BindingThere row N (maximumIndex l + maximumIndex r)) bs × Each (FreeIn (joined (maximumIndex l) (lookup l) (lookup r))) bs)
+BindingsThere row N (factor d a b bs) = BindingsThere row N d × (Each (BindingThere row N (maximumIndex d)) bs × Each (FreeIn (lookup d)) bs)
 
 module _ (N : ℕ) (row : ℕ → Row) (below : (r s : ℕ) (xs : List ℕ) → row r ≡ application s xs → r < N → Below N xs) where
   -- What a step's expressions keep to.
@@ -40,13 +47,15 @@ module _ (N : ℕ) (row : ℕ → Row) (below : (r s : ℕ) (xs : List ℕ) → 
   arguments-in m (a ∷ xs) i h k = ((h .0, k), arguments-in m xs i (h .1) k)
 
   pub unified-bindings : (m : ℕ) (base : Environment) (e d : Expression) (bs : List Binding) → Unified row base e d bs → KnownEnvironment N base → IndicesKept (In m) base → Known N e → In m (e .1) → Known N d → In m (d .1)
-      → Each (BindingThere row N m) bs
+      → Each (BindingThere row N m) bs × Each (FreeIn base) bs
   unified-bindings m base e d bs u h k ke ie kd id =
       let z : NewEnd (InRange m) (InRange m) row (λ e v q g. g) (λ e s xs q g. arguments-in m xs (e .1) (below (e .0) s xs q (g .0)) (g .1)) mostLinks (noRoom (u .0)) base (unified bs (u .1))
       = rw (u .2) at (new-run (InRange m) (InRange m) row (λ e v q g. g) (λ e s xs q g. arguments-in m xs (e .1) (below (e .0) s xs q (g .0)) (g .1)) mostLinks (noRoom (u .0)) base mostWork (unifying [] ((e, d) ∷ []))
-      (λ x c p. ((h x c p .0, k x c p .0), (h x c p .1, k x c p .1)), ((ke, ie), (kd, id), tt)) tt) in
-      each-more (NewBinding (InRange m) (InRange m) row (λ e v q g. g) (λ e s xs q g. arguments-in m xs (e .1) (below (e .0) s xs q (g .0)) (g .1)) mostLinks (noRoom (u .0)) base) (BindingThere row N m)
-      (λ b n. record { number = n .number; isVariable = n .isVariable; variableRow = n .variableKept .0; variableIndex = n .variableKept .1; termRow = n .expressionKept .0; termIndex = n .expressionKept .1 }) bs z
+      (λ x c p. ((h x c p .0, k x c p .0), (h x c p .1, k x c p .1)), ((ke, ie), (kd, id), tt)) tt) in (
+        each-more (NewBinding (InRange m) (InRange m) row (λ e v q g. g) (λ e s xs q g. arguments-in m xs (e .1) (below (e .0) s xs q (g .0)) (g .1)) mostLinks (noRoom (u .0)) base) (BindingThere row N m)
+            (λ b n. record { number = n .number; isVariable = n .isVariable; variableRow = n .variableKept .0; variableIndex = n .variableKept .1; termRow = n .expressionKept .0; termIndex = n .expressionKept .1 }) bs z,
+        each-more (NewBinding (InRange m) (InRange m) row (λ e v q g. g) (λ e s xs q g. arguments-in m xs (e .1) (below (e .0) s xs q (g .0)) (g .1)) mostLinks (noRoom (u .0)) base) (FreeIn base) (λ b n. n .free) bs z,
+      )
 
   pub bindings-there : (c : Derivation) → Valid row c → KnownRows N c → BindingsThere row N c
   bindings-there (input ls) K h = tt

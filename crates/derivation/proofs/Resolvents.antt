@@ -7,16 +7,16 @@ use mathlib.Core.List.{List, [], _∷_, _++_, map}
 use Prim.Native.Nat.{ℕ, _+_, _≤_, _<_}
 use native.Mathlib.Omega.{arith}
 use lib.ListN.{length}
-use Rattle.unify.specs.Environment.{Binding, Environment}
-use Rattle.unify.specs.Row.{Row, application, Expression, Variable, rowTerm, writtenOut}
-use Rattle.unify.specs.Substitution.{composed}
-use Rattle.unify.specs.Term.{Term, apply}
-use Rattle.unify.specs.Unification.{unify, clash, occurs, failed}
-use Rattle.unify.specs.Unifier.{NoUnifier, MostGeneralUnifier}
-use Rattle.unify.proofs.Lists.{Each, map-each, map-map, map-append}
-use Rattle.unify.proofs.Ranges.{IndicesKept}
-use Rattle.unify.proofs.Solved.{Solved, unbound-at}
-use Rattle.unify.proofs.Terms.{variables-more, variables-apply}
+use Rattle.unification.specs.Environment.{Binding, Environment}
+use Rattle.unification.specs.Row.{Row, application, Expression, Variable, rowTerm, writtenOut}
+use Rattle.unification.specs.Substitution.{composed}
+use Rattle.unification.specs.Term.{Term, apply}
+use Rattle.unification.specs.Unification.{unify, clash, occurs, failed}
+use Rattle.unification.specs.Unifier.{NoUnifier, MostGeneralUnifier}
+use Rattle.unification.proofs.Lists.{Each, map-each, map-map, map-append}
+use Rattle.unification.proofs.Ranges.{IndicesKept}
+use Rattle.unification.proofs.Solved.{Solved, unbound-at}
+use Rattle.unification.proofs.Terms.{variables-more, variables-apply}
 use Rattle.derivation.specs.Derivation.{literals, Literal, Derivation, resolve, factor, numbered, without, raise, raiseLiteral, maximumIndex, joined, lookup}
 use Rattle.derivation.specs.Textbook.{instantiated, Resolvent, Factor, ClauseVariables, StandardizedApart}
 use Rattle.derivation.specs.Written.{written, Clause, substitution, renamed, joinedSubstitution, writtenLiteral}

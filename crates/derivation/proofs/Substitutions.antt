@@ -6,16 +6,16 @@ use mathlib.Core.List.{List, [], _∷_}
 use Prim.Native.Nat.{ℕ, _+_, _-_, _≤_, _<_}
 use native.Mathlib.Omega.{arith}
 use lib.Dec.{leb, T, leb→le}
-use Rattle.unify.specs.Environment.{Binding, Environment, extend, Respects}
-use Rattle.unify.specs.Row.{Row, Expression, Variable, rowTerm, writtenOut}
-use Rattle.unify.specs.Substitution.{composed}
-use Rattle.unify.specs.Term.{Term, var, apply, Variables}
-use Rattle.unify.specs.Unification.{mostWork, mostLinks, unified, unifying, noRoom}
-use Rattle.unify.proofs.Ranges.{IndicesKept}
-use Rattle.unify.proofs.Solved.{Solved}
-use Rattle.unify.proofs.SolvedRun.{SolvedEnd, solved-run}
-use Rattle.unify.proofs.Terms.{apply-ext, apply-apply, variables-more, variables-apply}
-use Rattle.unify.proofs.Tests.{to-T, some-not-none, some-injective}
+use Rattle.unification.specs.Environment.{Binding, Environment, extend, Respects}
+use Rattle.unification.specs.Row.{Row, Expression, Variable, rowTerm, writtenOut}
+use Rattle.unification.specs.Substitution.{composed}
+use Rattle.unification.specs.Term.{Term, var, apply, Variables}
+use Rattle.unification.specs.Unification.{mostWork, mostLinks, unified, unifying, noRoom}
+use Rattle.unification.proofs.Ranges.{IndicesKept}
+use Rattle.unification.proofs.Solved.{Solved}
+use Rattle.unification.proofs.SolvedRun.{SolvedEnd, solved-run}
+use Rattle.unification.proofs.Terms.{apply-ext, apply-apply, variables-more, variables-apply}
+use Rattle.unification.proofs.Tests.{to-T, some-not-none, some-injective}
 use Rattle.derivation.specs.Derivation.{literals, input, Derivation, resolve, factor, raise, maximumIndex, raiseAnswer, joined, lookup}
 use Rattle.derivation.specs.Written.{substitution, renamed, joinedSubstitution}
 use Rattle.derivation.proofs.Literals.{In, each-numbered, LiteralIn, literals-in, leb-true, leb-false, leb-false-lt, joined-left, joined-right}

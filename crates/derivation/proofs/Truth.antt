@@ -7,12 +7,12 @@ use mathlib.Core.List.{List, [], _∷_, _++_, map}
 use Prim.Native.Nat.{ℕ, zero, suc, _+_}
 use native.Mathlib.Nat.{add-zero, add-suc, suc-add, add-comm}
 use lib.ListN.{length}
-use Rattle.unify.specs.Environment.{Binding, Environment, extend, Respects}
-use Rattle.unify.specs.Row.{Row, application, Expression, Variable, rowTerm, writtenOut}
-use Rattle.unify.specs.Term.{Term}
-use Rattle.unify.specs.Unification.{mostWork, mostLinks, unified, unifying, noRoom}
-use Rattle.unify.proofs.Soundness.{BackEnd, back-run}
-use Rattle.unify.proofs.Tests.{true-not-false, some-not-none, some-injective}
+use Rattle.unification.specs.Environment.{Binding, Environment, extend, Respects}
+use Rattle.unification.specs.Row.{Row, application, Expression, Variable, rowTerm, writtenOut}
+use Rattle.unification.specs.Term.{Term}
+use Rattle.unification.specs.Unification.{mostWork, mostLinks, unified, unifying, noRoom}
+use Rattle.unification.proofs.Soundness.{BackEnd, back-run}
+use Rattle.unification.proofs.Tests.{true-not-false, some-not-none, some-injective}
 use Rattle.derivation.specs.Derivation.{literals, input, Literal, RowLiteral, Derivation, resolve, factor, numbered, without, raise, raiseLiteral, placed, maximumIndex, joined, lookup, uses}
 use Rattle.derivation.specs.Ground.{instances, Ground, instanceAt, Assignment, SomeTrue, AllTrue}
 use Rattle.derivation.proofs.Literals.{uses-length}

@@ -7,17 +7,17 @@ use mathlib.Core.List.{List, [], _∷_}
 use Prim.Native.Nat.{ℕ}
 use lib.ListN.{length}
 use Rattle.record.specs.Record.{pick}
-use Rattle.unify.specs.Environment.{Binding, Environment, extend, Respects}
-use Rattle.unify.specs.Row.{Row, application, Expression, Variable, same, rowTerm, writtenOut}
-use Rattle.unify.specs.Substitution.{composed}
-use Rattle.unify.specs.Term.{Term, var, apply}
-use Rattle.unify.specs.Unification.{unify, mostWork, mostLinks, clash, occurs, unified, failed, unifying, noRoom}
-use Rattle.unify.specs.Unifier.{Unifies, NoUnifier, MostGeneralUnifier}
-use Rattle.unify.proofs.Generality.{ForthEnd, forth-run}
-use Rattle.unify.proofs.Ranges.{IndicesKept}
-use Rattle.unify.proofs.Solved.{Solved, agree, factors-at, agree-at}
-use Rattle.unify.proofs.Terms.{apply-apply}
-use Rattle.unify.proofs.Tests.{some-not-none}
+use Rattle.unification.specs.Environment.{Binding, Environment, extend, Respects}
+use Rattle.unification.specs.Row.{Row, application, Expression, Variable, same, rowTerm, writtenOut}
+use Rattle.unification.specs.Substitution.{composed}
+use Rattle.unification.specs.Term.{Term, var, apply}
+use Rattle.unification.specs.Unification.{unify, mostWork, mostLinks, clash, occurs, unified, failed, unifying, noRoom}
+use Rattle.unification.specs.Unifier.{Unifies, NoUnifier, MostGeneralUnifier}
+use Rattle.unification.proofs.Generality.{ForthEnd, forth-run}
+use Rattle.unification.proofs.Ranges.{IndicesKept}
+use Rattle.unification.proofs.Solved.{Solved, agree, factors-at, agree-at}
+use Rattle.unification.proofs.Terms.{apply-apply}
+use Rattle.unification.proofs.Tests.{some-not-none}
 use Rattle.derivation.proofs.Substitutions.{unified-solved}
 use Rattle.derivation.proofs.Truth.{unified-sound}
 use Rattle.derivation.proofs.Validity.{Unified, unified-kept}

@@ -7,12 +7,12 @@ use Prim.Native.Nat.{ℕ, _+_, _-_}
 use native.Mathlib.Omega.{arith}
 use lib.Dec.{leb}
 use Rattle.record.specs.Record.{pick}
-use Rattle.unify.specs.Environment.{Binding, Environment, extend, Respects}
-use Rattle.unify.specs.Row.{Row, Expression, Variable}
-use Rattle.unify.specs.Term.{Term}
-use Rattle.unify.specs.Unification.{unify, mostWork, mostLinks, unified, unifying, noRoom}
-use Rattle.unify.proofs.Ranges.{IndicesKept, indices-kept-run}
-use Rattle.unify.proofs.Tests.{some-not-none, some-injective}
+use Rattle.unification.specs.Environment.{Binding, Environment, extend, Respects}
+use Rattle.unification.specs.Row.{Row, Expression, Variable}
+use Rattle.unification.specs.Term.{Term}
+use Rattle.unification.specs.Unification.{unify, mostWork, mostLinks, unified, unifying, noRoom}
+use Rattle.unification.proofs.Ranges.{IndicesKept, indices-kept-run}
+use Rattle.unification.proofs.Tests.{some-not-none, some-injective}
 use Rattle.derivation.specs.Derivation.{literals, input, Derivation, resolve, factor, numbered, raise, maximumIndex, raiseAnswer, joined, lookup}
 use Rattle.derivation.proofs.Literals.{In, each-numbered, LiteralIn, literals-in, joined-left, joined-right}
 

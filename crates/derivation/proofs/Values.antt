@@ -4,11 +4,11 @@ use mathlib.Core.Option.{Option, none, some}
 use mathlib.Core.List.{List, []}
 use Prim.Native.Nat.{ℕ}
 use lib.ListN.{length}
-use Rattle.unify.specs.Environment.{unbound, Respects}
-use Rattle.unify.specs.Row.{Row, application, Expression, Variable, rowTerm}
-use Rattle.unify.specs.Term.{Term, apply}
-use Rattle.unify.proofs.Solved.{Solved, agree}
-use Rattle.unify.proofs.Terms.{apply-apply}
+use Rattle.unification.specs.Environment.{unbound, Respects}
+use Rattle.unification.specs.Row.{Row, application, Expression, Variable, rowTerm}
+use Rattle.unification.specs.Term.{Term, apply}
+use Rattle.unification.proofs.Solved.{Solved, agree}
+use Rattle.unification.proofs.Terms.{apply-apply}
 use Rattle.derivation.specs.Derivation.{literals, Derivation, maximumIndex, lookup, uses}
 use Rattle.derivation.specs.Ground.{instances, Ground, extraConstant, Values, valueIn, Assignment, AllTrue}
 use Rattle.derivation.specs.Written.{substitution, WritesOut}

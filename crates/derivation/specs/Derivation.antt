@@ -6,8 +6,8 @@ use Prim.Native.Nat.{ℕ, zero, suc, _+_, _-_, _/_, _%_}
 use lib.Dec.{eqb, leb}
 use lib.ListN.{take}
 use Rattle.record.specs.Record.{pick, Record}
-use Rattle.unify.specs.Environment.{Binding, Environment, extend}
-use Rattle.unify.specs.Row.{Expression}
+use Rattle.unification.specs.Environment.{Binding, Environment, extend}
+use Rattle.unification.specs.Row.{Expression}
 
 -- A literal: its sign, true for a positive one, and its atom's expression. In an input clause only the atom's row is written.
 abbrev pub Literal : Type 0

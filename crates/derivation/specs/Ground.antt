@@ -5,9 +5,9 @@ use mathlib.Core.Bool.{Bool}
 use mathlib.Core.Option.{Option, none, some}
 use mathlib.Core.List.{List, [], _∷_, map}
 use Prim.Native.Nat.{ℕ, suc}
-use Rattle.unify.specs.Environment.{Environment, Respects}
-use Rattle.unify.specs.Row.{Variable, writtenOut}
-use Rattle.unify.specs.Term.{Term, Terms, var, app, nil, cons, apply}
+use Rattle.unification.specs.Environment.{Environment, Respects}
+use Rattle.unification.specs.Row.{Variable, writtenOut}
+use Rattle.unification.specs.Term.{Term, Terms, var, app, nil, cons, apply}
 use Rattle.derivation.specs.Derivation.{RowLiteral, Derivation}
 use Rattle.derivation.specs.Written.{substitution}
 

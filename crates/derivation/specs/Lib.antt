@@ -3,5 +3,3 @@ pub mod Written
 pub mod Textbook
 pub mod Ground
 pub mod Stored
-pub mod Named
-pub mod Loaded

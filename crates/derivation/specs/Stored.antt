@@ -5,8 +5,8 @@ use mathlib.Core.List.{List}
 use Prim.Native.Nat.{ℕ, _+_, _*_, _<_}
 use lib.ListN.{length, getD}
 use Rattle.record.specs.Record.{Record, recordPart, decoded, fieldA, fieldB, fieldC, fieldD}
-use Rattle.unify.specs.Bindings.{bindingsFrom}
-use Rattle.unify.specs.Environment.{Binding}
+use Rattle.unification.specs.Bindings.{bindingsFrom}
+use Rattle.unification.specs.Environment.{Binding}
 use Rattle.derivation.specs.Derivation.{literals, input, RowLiteral, inputLiterals, Derivation, resolve, factor, maximumIndex, ownBindings}
 
 -- The cells of clause c: record, literal count, maximum index, first binding, number of bindings.

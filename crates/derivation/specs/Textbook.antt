@@ -4,9 +4,9 @@ use mathlib.Core.Bool.{Bool, not}
 use mathlib.Core.Option.{some}
 use mathlib.Core.List.{[], _∷_, _++_, map}
 use Prim.Native.Nat.{ℕ, _≤_, _<_}
-use Rattle.unify.specs.Row.{Variable}
-use Rattle.unify.specs.Term.{Term, apply, Variables}
-use Rattle.unify.specs.Unifier.{MostGeneralUnifier}
+use Rattle.unification.specs.Row.{Variable}
+use Rattle.unification.specs.Term.{Term, apply, Variables}
+use Rattle.unification.specs.Unifier.{MostGeneralUnifier}
 use Rattle.derivation.specs.Derivation.{numbered, without}
 use Rattle.derivation.specs.Written.{Clause, renamed}
 

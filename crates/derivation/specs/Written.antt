@@ -6,10 +6,10 @@ use mathlib.Core.List.{List, map}
 use Prim.Native.Nat.{ℕ, _-_}
 use lib.Dec.{leb}
 use Rattle.record.specs.Record.{pick}
-use Rattle.unify.specs.Environment.{Environment, Respects}
-use Rattle.unify.specs.Row.{Variable, writtenOut}
-use Rattle.unify.specs.Substitution.{composed}
-use Rattle.unify.specs.Term.{Term, var, apply}
+use Rattle.unification.specs.Environment.{Environment, Respects}
+use Rattle.unification.specs.Row.{Variable, writtenOut}
+use Rattle.unification.specs.Substitution.{composed}
+use Rattle.unification.specs.Term.{Term, var, apply}
 use Rattle.derivation.specs.Derivation.{literals, input, Literal, Derivation, resolve, factor, raise, maximumIndex}
 
 -- A clause of terms.

@@ -12,7 +12,7 @@ use borrow.Author.Tests.{le-leb, lt-leb, eqb-true, eqb-false, eq-eqb, ne-eqb}
 use Rattle.record.specs.Record.{pick}
 use Rattle.verdict.specs.Verdict.{Lengths}
 use Rattle.readout.specs.Pieces.{units, fitting, Progress, complete, goOnWith, tooShortFor, afterPiece, unitsFrom, pieceLines, pieceBytes, progress}
-use Rattle.readout.specs.Readout.{readoutLines, joinedLines}
+use Rattle.lines.specs.Readout.{readoutLines, joinedLines}
 use Rattle.readout.specs.Units.{unitAt, restGiven, stoppedAt, PieceAt}
 use Rattle.readout.specs.declared.piece.Piece.{Piece}
 use Rattle.readout.specs.declared.piece.Rest.the-variants.{Complete}

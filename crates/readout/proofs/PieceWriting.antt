@@ -17,19 +17,19 @@ use Rattle.verdict.specs.Verdict.{Verdict, accepted, undecided, refusal, check,
 use Rattle.verdict.proofs.Inversions.{entry-below, entry-more, entry-new}
 use Rattle.verdict.proofs.Reading.{ending-ok}
 use Rattle.checker.specs.Contract.{stateLeft, CheckedWith}
-use Rattle.checker.specs.Stepping.{tablesWith}
+use Rattle.inference.specs.Stepping.{tablesWith}
 use Rattle.checker.specs.declared.answer.Answer.{Answer}
 use Rattle.readout.specs.Contract.{PieceWritten}
 use Rattle.readout.specs.Pieces.{units, PiecesHold}
-use Rattle.readout.specs.Readout.{verdictLine, clauseLine, clauseLines, linesOf, readoutLines}
-use Rattle.readout.specs.Text.{decimal}
+use Rattle.lines.specs.Readout.{verdictLine, clauseLine, clauseLines, linesOf, readoutLines}
+use Rattle.lines.specs.Text.{decimal}
 use Rattle.readout.specs.Units.{unitsWithin, unitAt, restGiven, stoppedAt, AfterCheck, UnitWritten, PieceAt, PieceOf}
-use Rattle.readout.specs.Writing.{Wrote}
+use Rattle.lines.specs.Writing.{Wrote}
 use Rattle.readout.specs.declared.piece.Piece.{Piece}
 use Rattle.readout.specs.declared.piece.Rest.{Rest}
 use Rattle.readout.specs.declared.piece.Rest.the-variants.{Complete}
-use Rattle.readout.proofs.Decimals.{decimal-length}
-use Rattle.readout.proofs.LineTexts.{line-short}
+use Rattle.lines.proofs.Decimals.{decimal-length}
+use Rattle.lines.proofs.LineTexts.{line-short}
 use Rattle.readout.proofs.PieceLaws.{AllWithin, pieces-hold}
 use Rattle.readout.proofs.PieceRuns.{SoFar, so-far-none, so-far-all, so-far-stopped, so-far-more}
 use Rattle.readout.proofs.UnitLaws.{lines-left, clauses-given, unit-count}

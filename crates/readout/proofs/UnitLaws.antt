@@ -17,14 +17,14 @@ use Rattle.verdict.specs.Step.{stateOf}
 use Rattle.verdict.specs.Tables.{Tables, lengthsOf}
 use Rattle.verdict.specs.Verdict.{Verdict, accepted, undecided, refusal, verdictNumbers, answerNumbers, check, verdictOf, answerOf, longEnough, fittingLength, ending, Lengths}
 use Rattle.verdict.proofs.Inversions.{entry-below}
-use Rattle.unify.proofs.Tests.{some-injective}
+use Rattle.unification.proofs.Tests.{some-injective}
 use Rattle.checker.specs.Contract.{stateLeft, CheckedWith}
 use Rattle.checker.specs.Given.{verdictGiven, answerGiven}
 use Rattle.checker.specs.declared.answer.Answer.{Answer}
 use Rattle.checker.specs.declared.answer.Verdict as given
 use Rattle.checker.specs.declared.answer.Verdict.the-variants as given-variants
 use Rattle.readout.specs.Pieces.{units}
-use Rattle.readout.specs.Readout.{verdictLine, clauseLine, clauseLines, linesOf, readoutLines}
+use Rattle.lines.specs.Readout.{verdictLine, clauseLine, clauseLines, linesOf, readoutLines}
 use Rattle.readout.specs.Units.{unitsWithin, unitAt}
 
 -- The lines of the clauses, by number.

@@ -14,19 +14,19 @@ use Rattle.verdict.specs.State.{State, start, rowsOf, clauseOf}
 use Rattle.verdict.specs.Step.{stateOf}
 use Rattle.verdict.specs.Tables.{Tables, lengthsOf}
 use Rattle.verdict.specs.Verdict.{check, longEnough, fittingLength, ending}
-use Rattle.unify.proofs.Tests.{true-not-false}
+use Rattle.unification.proofs.Tests.{true-not-false}
 use Rattle.checker.specs.Contract.{stateLeft, CheckedWith}
-use Rattle.checker.specs.Progress.{nodeTableOf}
+use Rattle.entry.specs.Progress.{nodeTableOf}
 use Rattle.checker.specs.Reader.{ReadTo}
-use Rattle.checker.specs.Stepping.{tablesWith}
+use Rattle.inference.specs.Stepping.{tablesWith}
 use Rattle.checker.specs.declared.answer.Answer.{Answer}
-use Rattle.checker.proofs.KeptClauses.{nodes-room}
-use Rattle.readout.specs.Lines.{LineReady, LineWritten, VerdictWritten}
-use Rattle.readout.specs.Readout.{verdictLine, clauseLine}
+use Rattle.entry.proofs.KeptClauses.{nodes-room}
+use Rattle.lines.specs.Lines.{LineReady, LineWritten, VerdictWritten}
+use Rattle.lines.specs.Readout.{verdictLine, clauseLine}
 use Rattle.readout.specs.Units.{unitsWithin, unitAt, AfterCheck, UnitReady, UnitWritten}
-use Rattle.readout.specs.Writing.{Wrote, Sized}
-use Rattle.readout.proofs.LineTexts.{ClauseThere, clause-there, read-again}
-use Rattle.readout.proofs.Positions.{wrote-then}
+use Rattle.lines.specs.Writing.{Wrote, Sized}
+use Rattle.lines.proofs.LineTexts.{ClauseThere, clause-there, read-again}
+use Rattle.lines.proofs.Positions.{wrote-then}
 use Rattle.readout.proofs.UnitLaws.{verdict-given, clauses-given, unit-alone, unit-first, unit-other}
 
 -- How many units there are, by the test of the program.

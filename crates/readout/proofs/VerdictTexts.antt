@@ -11,10 +11,10 @@ use Rattle.checker.specs.Given.{verdictGiven, answerGiven}
 use Rattle.checker.specs.declared.answer.Answer as given-answer
 use Rattle.checker.specs.declared.answer.Verdict as given
 use Rattle.checker.specs.declared.answer.Verdict.the-variants.{Open, Accepted, Refused}
-use Rattle.readout.specs.Lines.{givenText, VerdictWritten}
-use Rattle.readout.specs.Readout.{verdictText}
-use Rattle.readout.specs.Writing.{Wrote}
-use Rattle.readout.proofs.Positions.{wrote-then}
+use Rattle.lines.specs.Lines.{givenText, VerdictWritten}
+use Rattle.lines.specs.Readout.{verdictText}
+use Rattle.lines.specs.Writing.{Wrote}
+use Rattle.lines.proofs.Positions.{wrote-then}
 
 -- Three numbers decide the words.
 pub given-words : (v : given.Verdict) (u : Verdict) → verdictGiven v ≡ verdictNumbers u → givenText v ≡ verdictText u

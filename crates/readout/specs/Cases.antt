@@ -5,12 +5,12 @@ use mathlib.Core.List.{List, [], _∷_, map}
 use Prim.Native.Nat.{ℕ, zero, suc}
 use lib.Dec.{eqb}
 use lib.ListN.{length}
-use Rattle.unify.specs.Row.{variable, Variable}
-use Rattle.unify.specs.Term.{Term, var, app, nil, cons}
+use Rattle.unification.specs.Row.{variable, Variable}
+use Rattle.unification.specs.Term.{Term, var, app, nil, cons}
 use Rattle.verdict.specs.Cases.{caseA, caseF}
 use Rattle.verdict.specs.Verdict.{named}
-use Rattle.readout.specs.Readout.{readoutLines}
-use Rattle.readout.specs.Text.{literalText}
+use Rattle.lines.specs.Readout.{readoutLines}
+use Rattle.lines.specs.Text.{literalText}
 
 --   accepted 4
 --   0 1 +s0(s2)

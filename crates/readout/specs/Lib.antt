@@ -1,8 +1,3 @@
-pub mod Text
-pub mod Readout
-pub mod Writing
-pub mod Literals
-pub mod Lines
 pub mod Cases
 pub mod Pieces
 pub mod Units

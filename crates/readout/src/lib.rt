@@ -1,18 +1,13 @@
-// The readout of a proof file. The definitions are in specs/: `Text` and `Readout` have what it is, `Pieces` what a piece of it is, and
-// `Contract` what this crate promises. `Writing`, `Literals`, `Lines` and `Units` say how the parts of this program go about it.
+// The readout of a proof file. What it is, `Text` and `Readout` have in the crate lines. In specs/, `Pieces` has what a piece of it is,
+// and `Contract` what this crate promises; `Units` says how the parts of this program go about it.
 pub mod heading;
-pub mod line;
-pub mod literal;
-pub mod literals;
 pub mod piece;
-pub mod term;
-pub mod text;
 pub mod unit;
 
 use checker::check_with;
 use piece::Piece;
 use piece::write_piece;
-ghost use Rattle.checker.specs.Stepping.{tablesWith};
+ghost use Rattle.inference.specs.Stepping.{tablesWith};
 ghost use Rattle.readout.specs.Contract.{PieceWritten};
 
 // Checks a file and writes as many whole lines of its readout as fit into the output, from a clause on; from clause 0 with the first line

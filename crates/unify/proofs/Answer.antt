@@ -4,14 +4,14 @@ use mathlib.Core.List.{List, [], _∷_, append-nil}
 use Prim.Native.Nat.{ℕ, _-_, _*_, _≤_, _<_}
 use native.Mathlib.Nat.{add-zero}
 use lib.ListN.{length, getD}
-use Rattle.unify.specs.Bindings.{bindingsFrom}
-use Rattle.unify.specs.Environment.{Binding, Environment}
-use Rattle.unify.specs.Nodes.{nodeRow}
-use Rattle.unify.specs.Row.{Expression}
-use Rattle.unify.specs.Unification.{unify, mostWork, mostLinks, failureNumber, unified, failed, unifying, noRoom, run}
+use Rattle.unification.specs.Bindings.{bindingsFrom}
+use Rattle.unification.specs.Environment.{Binding, Environment}
+use Rattle.unification.specs.Nodes.{nodeRow}
+use Rattle.unification.specs.Row.{Expression}
+use Rattle.unification.specs.Unification.{unify, mostWork, mostLinks, failureNumber, unified, failed, unifying, noRoom, run}
 use Rattle.unify.specs.Unifying.{failureOf, outcomeOf, Facing, Ready, Counted, Answered}
-use Rattle.unify.specs.Walks.{Filed, outcomeOnto, Stand, Stands, Paired}
-use Rattle.unify.proofs.Machine.{whole}
+use Rattle.unify.specs.Pairs.{Filed, outcomeOnto, Stand, Stands, Paired}
+use Rattle.following.proofs.Machine.{whole}
 use Rattle.unify.specs.declared.pairs.Unified.{Unified}
 use Rattle.unify.specs.declared.pairs.Unified.the-variants.{Done, Refused}
 

@@ -6,11 +6,11 @@ use native.Mathlib.Nat.{add-zero, add-suc}
 use native.Mathlib.Omega.{arith}
 use lib.ListN.{length, getD, set, length-set}
 use lib.Seq.{getD-set-same, getD-set-other}
-use Rattle.unify.specs.Bindings.{bindingAt, push, KeptBelow, Added}
-use Rattle.unify.specs.Environment.{Binding}
-use Rattle.unify.specs.Values.{put}
-use Rattle.unify.specs.Walks.{bindingsOnto}
-use Rattle.unify.proofs.Writing.{length-put}
+use Rattle.unification.specs.Bindings.{bindingAt, push, KeptBelow, Added}
+use Rattle.unification.specs.Environment.{Binding}
+use Rattle.unification.specs.Values.{put}
+use Rattle.unify.specs.Pairs.{bindingsOnto}
+use Rattle.following.proofs.Writing.{length-put}
 
 pub added-none : (B : List ℕ) (h : ℕ) → Added B B h h
 added-none B h = record { le = omega arith; low = λ k l. refl; high = λ k l. refl; past = λ k l. refl }

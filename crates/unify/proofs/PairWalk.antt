@@ -9,27 +9,28 @@ use lib.ListN.{length}
 use native.Mathlib.Numerals.{add-one}
 use borrow.Author.Tests.{ne-eqb, le-leb, lt-leb}
 use Rattle.record.specs.Record.{pick}
-use Rattle.unify.specs.Bindings.{push, KeptBelow, Added}
-use Rattle.unify.specs.Environment.{Binding, Environment, extend, unbound, applied}
-use Rattle.unify.specs.Nodes.{isVariable, part, nodeArity, HasRow, argumentsFrom, nodeRow, nodeRowIf, NodesOk}
-use Rattle.unify.specs.Row.{Expression, same}
-use Rattle.unify.specs.Unification.{mostLinks, failureNumber, clash, occurs, overwork, Outcome, unified, failed, unifying, testing, goOn, noRoom, withWork, run}
+use Rattle.unification.specs.Bindings.{push, KeptBelow, Added}
+use Rattle.unification.specs.Environment.{Binding, Environment, extend, unbound, applied}
+use Rattle.unification.specs.Nodes.{isVariable, part, nodeArity, HasRow, argumentsFrom, nodeRow, nodeRowIf, NodesOk}
+use Rattle.unification.specs.Row.{Expression, same}
+use Rattle.unification.specs.Unification.{mostLinks, failureNumber, clash, occurs, overwork, Outcome, unified, failed, unifying, testing, goOn, noRoom, withWork, run}
 use Rattle.unify.specs.Unifying.{failureOf}
-use Rattle.unify.specs.Values.{slot, put, InStep, Models}
-use Rattle.unify.specs.Walks.{viewOf, Walked, Follows, absent, broken, testedOf, LeavesLess, LeavesNoMore, thenRun, PairRuns, ArgumentsRun, TestRuns, Looking, Looked, Filed, bindingsOnto, outcomeOnto, Stand, Stands, Settled, isApplication, isOther, Alike, Pairing, Paired, Bound, Met, Argued, Meets, sameVariable, leftToVariable, leftToApplication, rightVariable, sameApplication, otherSymbol, noArguments, someArguments, Matching, Matched, ArguedBefore}
+use Rattle.unification.specs.Values.{slot, put, InStep, Models}
+use Rattle.following.specs.Walks.{viewOf, Walked, Follows, absent, broken, testedOf, thenRun, PairRuns, ArgumentsRun, TestRuns, Looking, Looked}
+use Rattle.unify.specs.Pairs.{LeavesLess, LeavesNoMore, Filed, bindingsOnto, outcomeOnto, Stand, Stands, Settled, isApplication, isOther, Alike, Pairing, Paired, Bound, Met, Argued, Meets, sameVariable, leftToVariable, leftToApplication, rightVariable, sameApplication, otherSymbol, noArguments, someArguments, Matching, Matched, ArguedBefore}
 use Rattle.unify.proofs.BindingsAdded.{added-then, added-below, onto-none, onto-then, onto-push, length-push}
-use Rattle.unify.proofs.Chains.{Short, short-le, Firm, short-with}
-use Rattle.unify.proofs.Halving.{walked-app, walked-var, walked-ends}
-use Rattle.unify.proofs.Limits.{links-8192, bindings-8192}
-use Rattle.unify.proofs.Machine.{pair-turn, pair-spent, pair-same, pair-args, pair-clash, meet-left, pair-right, arguments-none, arguments-next, arguments-failed}
-use Rattle.unify.proofs.Meaning.{with}
-use Rattle.unify.proofs.Occurrence.{suc-pred, arg-good, args-eq}
-use Rattle.unify.proofs.Tests.{same-eq, same-refl, true-not-false}
-use Rattle.unify.proofs.Writing.{models-bind}
-use Rattle.unify.specs.declared.follow.Followed.{Followed}
-use Rattle.unify.specs.declared.follow.Followed.the-variants.{Variable, Application}
-use Rattle.unify.specs.declared.occurs.Occurs.{Occurs}
-use Rattle.unify.specs.declared.occurs.Occurs.the-variants.{No, Yes, Spent}
+use Rattle.unification.proofs.Chains.{Short, short-le, Firm, short-with}
+use Rattle.following.proofs.Halving.{walked-app, walked-var, walked-ends}
+use Rattle.unification.proofs.Limits.{links-8192, bindings-8192}
+use Rattle.following.proofs.Machine.{pair-turn, pair-spent, pair-same, pair-args, pair-clash, meet-left, pair-right, arguments-none, arguments-next, arguments-failed}
+use Rattle.unification.proofs.Meaning.{with}
+use Rattle.following.proofs.Occurrence.{suc-pred, arg-good, args-eq}
+use Rattle.unification.proofs.Tests.{same-eq, same-refl, true-not-false}
+use Rattle.following.proofs.Writing.{models-bind}
+use Rattle.following.specs.declared.follow.Followed.{Followed}
+use Rattle.following.specs.declared.follow.Followed.the-variants.{Variable, Application}
+use Rattle.following.specs.declared.occurs.Occurs.{Occurs}
+use Rattle.following.specs.declared.occurs.Occurs.the-variants.{No, Yes, Spent}
 use Rattle.unify.specs.declared.pairs.Meeting.{Meeting}
 use Rattle.unify.specs.declared.pairs.Meeting.the-variants.{Bind, Nothing, Clash, Arguments}
 use Rattle.unify.specs.declared.pairs.Unified.{Unified}

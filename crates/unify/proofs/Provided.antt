@@ -7,14 +7,14 @@ use mathlib.Core.List.{List}
 use Prim.Native.Nat.{ℕ, zero, suc, _+_, _*_, _≤_}
 use native.Mathlib.Omega.{arith}
 use lib.ListN.{length}
-use Rattle.unify.specs.Clearing.{Cleared}
-use Rattle.unify.specs.Environment.{follow, Environment, Ends, viewRow, onward}
-use Rattle.unify.specs.Nodes.{isVariable, HasRow, nodeRow, NodesOk}
-use Rattle.unify.specs.Row.{variable, Row, application, Expression}
-use Rattle.unify.specs.Unification.{mostLinks}
+use Rattle.following.specs.Clearing.{Cleared}
+use Rattle.unification.specs.Environment.{follow, Environment, Ends, viewRow, onward}
+use Rattle.unification.specs.Nodes.{isVariable, HasRow, nodeRow, NodesOk}
+use Rattle.unification.specs.Row.{variable, Row, application, Expression}
+use Rattle.unification.specs.Unification.{mostLinks}
 use Rattle.unify.specs.Unifying.{Ready}
-use Rattle.unify.specs.Values.{slot, cellOf, indexOf, InStep, oneLink, Models}
-use Rattle.unify.proofs.Tests.{some-not-none}
+use Rattle.unification.specs.Values.{slot, cellOf, indexOf, InStep, oneLink, Models}
+use Rattle.unification.proofs.Tests.{some-not-none}
 
 pub models-exact : (N : List ℕ) (top : ℕ) (A : List ℕ) (ρ : Environment) → NodesOk N → top ≤ 4096 → length A ≡ 524416
     → ((e : Expression) → InStep N top e → isVariable N (e .0) ≡ true → cellOf N A e ≡ 0 → ρ e ≡ none)

@@ -1,13 +1,2 @@
-pub mod Term
-pub mod Row
-pub mod Environment
-pub mod Substitution
-pub mod Unification
-pub mod Failing
-pub mod Unifier
-pub mod Nodes
-pub mod Values
-pub mod Clearing
-pub mod Bindings
 pub mod Unifying
-pub mod Walks
+pub mod Pairs

@@ -1,16 +1,16 @@
--- What `unify_literals` asks of its caller and ensures. `Walks` has the contracts of the functions behind it.
+-- What `unify_literals` asks of its caller and ensures. `Pairs` has the contracts of the functions behind it.
 use mathlib.Core.Path.{_≡_}
 use mathlib.Core.List.{List}
 use Prim.Native.Nat.{ℕ, _-_, _*_, _≤_, _<_}
 use lib.Dec.{eqb}
 use lib.ListN.{length, getD}
 use Rattle.record.specs.Record.{pick}
-use Rattle.unify.specs.Bindings.{bindingsFrom}
-use Rattle.unify.specs.Environment.{follow, Environment, Ends}
-use Rattle.unify.specs.Nodes.{HasRow, nodeRow}
-use Rattle.unify.specs.Row.{Expression}
-use Rattle.unify.specs.Unification.{unify, failureNumber, Failure, clash, occurs, overwork, full, Outcome, unified, failed}
-use Rattle.unify.specs.Values.{InStep, Models}
+use Rattle.unification.specs.Bindings.{bindingsFrom}
+use Rattle.unification.specs.Environment.{follow, Environment, Ends}
+use Rattle.unification.specs.Nodes.{HasRow, nodeRow}
+use Rattle.unification.specs.Row.{Expression}
+use Rattle.unification.specs.Unification.{unify, failureNumber, Failure, clash, occurs, overwork, full, Outcome, unified, failed}
+use Rattle.unification.specs.Values.{InStep, Models}
 use Rattle.unify.specs.declared.pairs.Unified.{Unified}
 use Rattle.unify.specs.declared.pairs.Unified.the-variants.{Done, Refused}
 

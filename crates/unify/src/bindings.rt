@@ -2,8 +2,8 @@
 ghost use mathlib.Core.Path.{_≡_};
 ghost use Prim.Native.Nat.{_<_};
 ghost use lib.ListN.{set};
-ghost use Rattle.unify.specs.Values.{put};
-ghost use Rattle.unify.specs.Bindings.{push};
+ghost use Rattle.unification.specs.Values.{put};
+ghost use Rattle.unification.specs.Bindings.{push};
 
 // One cell written.
 fn set_cell(table: &mut [u16], at: usize, a: u16)

@@ -1,11 +1,7 @@
-// Unification of expressions under bindings, over a table of rows and an array of values. The definitions are in specs/:
-// `Unification` has what unification is, and `Unifying` what this crate promises of it.
+// Unification of expressions under bindings, over a table of rows and an array of values. What unification is stands in the crate
+// unification; `Unifying` in specs/ has what this crate promises of it.
 mod bindings;
-pub mod follow;
-pub mod nodes;
-mod occurs;
 mod pairs;
-pub mod values;
 
 pub use pairs::Unified;
 use pairs::unify_pair;

@@ -1,20 +1,20 @@
 // The unification of two expressions, pair by pair. Every pair taken up costs one unit of work.
 use super::bindings::push_binding;
-use super::follow::Followed;
-use super::follow::follow;
-use super::follow::is_same;
-use super::nodes::arity_of;
-use super::nodes::part_of;
-use super::occurs::Occurs;
-use super::occurs::occurs_in;
-use super::values::slot_of;
-use super::values::write_value;
+use following::follow::Followed;
+use following::follow::follow;
+use following::follow::is_same;
+use following::nodes::arity_of;
+use following::nodes::part_of;
+use following::occurs::Occurs;
+use following::occurs::occurs_in;
+use following::values::slot_of;
+use following::values::write_value;
 ghost use mathlib.Core.Path.{_≡_};
 ghost use Prim.Native.Nat.{_≤_};
 ghost use lib.ListN.{length};
-ghost use Rattle.unify.specs.Nodes.{nodeArity};
-ghost use Rattle.unify.specs.declared.follow.Followed.the-variants.{Application};
-ghost use Rattle.unify.specs.Walks.{Meets, Paired, Bound, ArguedBefore, Filed, LeavesLess, LeavesNoMore};
+ghost use Rattle.unification.specs.Nodes.{nodeArity};
+ghost use Rattle.following.specs.declared.follow.Followed.the-variants.{Application};
+ghost use Rattle.unify.specs.Pairs.{Meets, Paired, Bound, ArguedBefore, Filed, LeavesLess, LeavesNoMore};
 
 // The work left and the number of bindings held; or the reason for the refusal, 10 to 13.
 pub enum Unified {

@@ -9,8 +9,8 @@ use lib.Dec.{eqb, eqb→eq}
 use lib.ListN.{length, getD, length-append, length-map, List·getD-append}
 use lib.Seq.{getD-append-add}
 use Rattle.record.specs.Record.{pick}
-use Rattle.unify.proofs.Rows.{eqb-below}
-use Rattle.unify.proofs.Tests.{to-T, true-not-false, some-not-none, some-injective}
+use Rattle.unification.proofs.Rows.{eqb-below}
+use Rattle.unification.proofs.Tests.{to-T, true-not-false, some-not-none, some-injective}
 use Rattle.derivation.specs.Derivation.{literals, Derivation, maximumIndex}
 use Rattle.verdict.specs.State.{entry, bindingsOf}
 use Rattle.verdict.specs.Tables.{cellsOfClause, clauseCells}

@@ -10,9 +10,9 @@ use lib.ListN.{length, take, drop, length-take, take-append-drop}
 use lib.Seq.{take-length}
 use Rattle.record.specs.Record.{Record, records, recordCount, recordPart, countOf, decoded, otherKind, Kind, symbolKind, variableKind, applicationKind, inputKind, resolveKind, factorKind, fieldA, fieldB, fieldC, fieldD}
 use Rattle.record.proofs.Records.{records-length, record-numbered}
-use Rattle.unify.specs.Row.{variable, Row, application}
-use Rattle.unify.proofs.Lists.{Each}
-use Rattle.unify.proofs.Tests.{to-T, both-true, true-not-false}
+use Rattle.unification.specs.Row.{variable, Row, application}
+use Rattle.unification.proofs.Lists.{Each}
+use Rattle.unification.proofs.Tests.{to-T, both-true, true-not-false}
 use Rattle.derivation.specs.Derivation.{input, inputLiterals, Derivation, resolve, factor}
 use Rattle.verdict.specs.Refusal.{tests, Reason, kindOfRecord, zeros, argumentRows, leftOf, rightOf, deletedOf, differsFromAll}
 use Rattle.verdict.specs.State.{State, start, withRow, withClause, rowsOf}

@@ -6,9 +6,9 @@ use Prim.Native.Nat.{ℕ}
 use native.Mathlib.Omega.{arith}
 use lib.ListN.{length}
 use Rattle.record.specs.Record.{records}
-use Rattle.unify.specs.Row.{Variable}
-use Rattle.unify.specs.Unification.{mostWork, mostBindings, mostLinks, run}
-use Rattle.unify.proofs.Tests.{true-not-false}
+use Rattle.unification.specs.Row.{Variable}
+use Rattle.unification.specs.Unification.{mostWork, mostBindings, mostLinks, run}
+use Rattle.unification.proofs.Tests.{true-not-false}
 use Rattle.verdict.specs.Cases.{CasesHold, LengthsHold, EdgesHold}
 use Rattle.verdict.specs.Demands.{DueAt, ofLength, ofTables, ofRecord}
 use Rattle.verdict.specs.Refusal.{Reason, badLength, reasonNumber, mostLiterals, mostIndex}

@@ -10,9 +10,9 @@ use native.Mathlib.Omega.{arith}
 use lib.Dec.{T}
 use lib.ListN.{length, take, drop}
 use Rattle.record.specs.Record.{Record, records}
-use Rattle.unify.specs.Unification.{mostLinks}
-use Rattle.unify.proofs.Chains.{short-le}
-use Rattle.unify.proofs.Rows.{row-there}
+use Rattle.unification.specs.Unification.{mostLinks}
+use Rattle.unification.proofs.Chains.{short-le}
+use Rattle.unification.proofs.Rows.{row-there}
 use Rattle.derivation.specs.Derivation.{literals, Derivation, lookup, uses}
 use Rattle.derivation.specs.Ground.{valueIn}
 use Rattle.derivation.proofs.Forms.{instances-formed}

@@ -9,11 +9,11 @@ use native.Mathlib.Omega.{arith}
 use lib.Dec.{eqb, leb, ltb, T, eqb→eq, eqb-refl, leb→le, ltb→lt, lt→ltb}
 use lib.ListN.{length}
 use Rattle.record.specs.Record.{pick, Record, Kind}
-use Rattle.unify.specs.Environment.{Binding}
-use Rattle.unify.specs.Unification.{Failure, Outcome, unified, failed}
-use Rattle.unify.proofs.Lists.{Each}
-use Rattle.unify.proofs.Rows.{Below, eqb-below}
-use Rattle.unify.proofs.Tests.{to-T, from-T, both-true, true-not-false, some-not-none, some-injective}
+use Rattle.unification.specs.Environment.{Binding}
+use Rattle.unification.specs.Unification.{Failure, Outcome, unified, failed}
+use Rattle.unification.proofs.Lists.{Each}
+use Rattle.unification.proofs.Rows.{Below, eqb-below}
+use Rattle.unification.proofs.Tests.{to-T, from-T, both-true, true-not-false, some-not-none, some-injective}
 use Rattle.derivation.specs.Derivation.{literals, Literal, RowLiteral, Derivation, numbered}
 use Rattle.derivation.proofs.Literals.{leb-false-lt}
 use Rattle.verdict.specs.Demands.{FirstFailing, failsHere, passesHere, AllPass}

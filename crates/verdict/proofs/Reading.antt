@@ -9,9 +9,9 @@ use lib.Dec.{eqb, leb, T, leb→le}
 use lib.ListN.{length, take, drop, length-take}
 use Rattle.record.specs.Record.{Record, records}
 use Rattle.record.proofs.Records.{Shaped, records-length, records-shaped}
-use Rattle.unify.specs.Row.{application, noSymbol, rowTerm}
-use Rattle.unify.proofs.Rows.{term-law, row-arities}
-use Rattle.unify.proofs.Tests.{to-T, both-true}
+use Rattle.unification.specs.Row.{application, noSymbol, rowTerm}
+use Rattle.unification.proofs.Rows.{term-law, row-arities}
+use Rattle.unification.proofs.Tests.{to-T, both-true}
 use Rattle.verdict.specs.Demands.{Reached}
 use Rattle.verdict.specs.Refusal.{Reason}
 use Rattle.verdict.specs.State.{arities, State, start, rowsOf, arityOf, rowOf, termOf}

@@ -7,15 +7,15 @@ use mathlib.Core.List.{List, [], _∷_}
 use Prim.Native.Nat.{ℕ, _≤_, _<_}
 use native.Mathlib.Omega.{arith}
 use Rattle.record.specs.Record.{Record, otherKind, Kind, symbolKind, variableKind, applicationKind, inputKind, resolveKind, factorKind, fieldB, fieldC, fieldD}
-use Rattle.unify.specs.Environment.{Binding, Environment}
-use Rattle.unify.specs.Failing.{Failing, symbolsDiffer, variableOccurs, workDone, bindingsHeld}
-use Rattle.unify.specs.Row.{Row, Variable}
-use Rattle.unify.specs.Term.{Term, apply}
-use Rattle.unify.specs.Unification.{mostWork, mostLinks, endless, Failure, clash, occurs, overwork, full, failureNumber, failed, Task, unifying, noRoom}
-use Rattle.unify.specs.Unifier.{NoUnifier}
-use Rattle.unify.proofs.Failures.{fails}
-use Rattle.unify.proofs.Lists.{Each}
-use Rattle.unify.proofs.Tests.{both-true, true-not-false}
+use Rattle.unification.specs.Environment.{Binding, Environment}
+use Rattle.unification.specs.Failing.{Failing, symbolsDiffer, variableOccurs, workDone, bindingsHeld}
+use Rattle.unification.specs.Row.{Row, Variable}
+use Rattle.unification.specs.Term.{Term, apply}
+use Rattle.unification.specs.Unification.{mostWork, mostLinks, endless, Failure, clash, occurs, overwork, full, failureNumber, failed, Task, unifying, noRoom}
+use Rattle.unification.specs.Unifier.{NoUnifier}
+use Rattle.unification.proofs.Failures.{fails}
+use Rattle.unification.proofs.Lists.{Each}
+use Rattle.unification.proofs.Tests.{both-true, true-not-false}
 use Rattle.derivation.specs.Derivation.{Literal, Derivation, resolve, factor, raise, maximumIndex, joined, lookup}
 use Rattle.derivation.specs.Written.{renamed}
 use Rattle.verdict.specs.Demands.{atomOf, StepAtoms, ofResolve, ofFactor, FirstFailing, failsHere, passesHere, AllPass, Due, byTest, inResolve, inFactor}

@@ -8,12 +8,12 @@ use Prim.Native.Nat.{ℕ}
 use lib.Dec.{T}
 use lib.ListN.{length}
 use Rattle.record.specs.Record.{Record, Kind, resolveKind, factorKind, fieldA, fieldB, fieldC, fieldD}
-use Rattle.unify.specs.Environment.{Binding}
-use Rattle.unify.specs.Row.{application, Variable, rowTerm, writtenOut}
-use Rattle.unify.specs.Term.{Term, apply}
-use Rattle.unify.specs.Unification.{endless, clash, occurs, overwork, full, Outcome, unified, failed}
-use Rattle.unify.specs.Unifier.{Unifies, NoUnifier}
-use Rattle.unify.proofs.Tests.{true-not-false}
+use Rattle.unification.specs.Environment.{Binding}
+use Rattle.unification.specs.Row.{application, Variable, rowTerm, writtenOut}
+use Rattle.unification.specs.Term.{Term, apply}
+use Rattle.unification.specs.Unification.{endless, clash, occurs, overwork, full, Outcome, unified, failed}
+use Rattle.unification.specs.Unifier.{Unifies, NoUnifier}
+use Rattle.unification.proofs.Tests.{true-not-false}
 use Rattle.derivation.specs.Derivation.{literals, Literal, Derivation, resolve, factor, numbered, maximumIndex, joined, lookup}
 use Rattle.derivation.specs.Written.{substitution, renamed}
 use Rattle.derivation.proofs.Resolvents.{no-resolvent, is-resolvent, no-factor, is-factor, standardized-apart}

@@ -9,7 +9,7 @@ use lib.Dec.{eqb, T, eqb→eq}
 use lib.ListN.{length, getD, length-map, List·getD-append}
 use lib.Seq.{getD-append-add}
 use Rattle.record.specs.Record.{pick, Record, recordPart, decoded, otherKind, Kind, symbolKind, variableKind, applicationKind, inputKind, resolveKind, factorKind, kindNumbered, fieldA, fieldB, fieldC, fieldD}
-use Rattle.unify.proofs.Tests.{to-T, true-not-false, some-not-none, some-injective}
+use Rattle.unification.proofs.Tests.{to-T, true-not-false, some-not-none, some-injective}
 use Rattle.derivation.specs.Derivation.{input, inputLiterals, Derivation, resolve, factor}
 use Rattle.verdict.specs.Refusal.{tests, kindOfRecord, knownKind, leftOf, rightOf, deletedOf}
 use Rattle.verdict.specs.State.{State, entry, bindingsOf}

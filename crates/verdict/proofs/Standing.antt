@@ -9,15 +9,15 @@ use native.Mathlib.Nat.{add-zero}
 use native.Mathlib.Omega.{arith}
 use lib.Dec.{eqb, eqb→eq, lit≤}
 use lib.ListN.{length}
-use Rattle.unify.specs.Environment.{follow, Binding, Environment, Ends, viewRow}
-use Rattle.unify.specs.Row.{variable, Row, application, Expression, Variable, rowAt}
-use Rattle.unify.specs.Unification.{unify, mostWork, mostBindings, mostLinks, Outcome, unifying, noRoom}
-use Rattle.unify.proofs.Chains.{Short, short-le, ChainEnd, chain-run}
-use Rattle.unify.proofs.Lists.{Each, each-more}
-use Rattle.unify.proofs.Meaning.{follow-unb, follow-appl}
-use Rattle.unify.proofs.Rows.{Below, RowOk, RowsOk, eqb-below, row-below}
-use Rattle.unify.proofs.Stability.{follow-agree}
-use Rattle.unify.proofs.Tests.{to-T}
+use Rattle.unification.specs.Environment.{follow, Binding, Environment, Ends, viewRow}
+use Rattle.unification.specs.Row.{variable, Row, application, Expression, Variable, rowAt}
+use Rattle.unification.specs.Unification.{unify, mostWork, mostBindings, mostLinks, Outcome, unifying, noRoom}
+use Rattle.unification.proofs.Chains.{Short, short-le, ChainEnd, chain-run}
+use Rattle.unification.proofs.Lists.{Each, each-more}
+use Rattle.unification.proofs.Meaning.{follow-unb, follow-appl}
+use Rattle.unification.proofs.Rows.{Below, RowOk, RowsOk, eqb-below, row-below}
+use Rattle.unification.proofs.Stability.{follow-agree}
+use Rattle.unification.proofs.Tests.{to-T}
 use Rattle.derivation.specs.Derivation.{literals, input, Literal, RowLiteral, Derivation, numbered, raise, maximumIndex, ownBindings, joined, lookup, uses}
 use Rattle.derivation.proofs.Chains.{short-joined}
 use Rattle.derivation.proofs.Known.{Known, KnownRows, KnownEnvironment, known-numbered, known-joined, known-variable, known-arguments, known-lookup, valid-stable, known-more}

@@ -8,11 +8,11 @@ use native.Mathlib.Omega.{arith}
 use lib.Dec.{eqb, leb, T, leb→le}
 use lib.ListN.{length, drop, length-take, length-drop, length-map}
 use Rattle.record.specs.Record.{Record, otherKind, Kind, symbolKind, variableKind, applicationKind, inputKind, resolveKind, factorKind, fieldA, fieldB, fieldC, fieldD}
-use Rattle.unify.specs.Environment.{Binding}
-use Rattle.unify.specs.Row.{variable, Row, application}
-use Rattle.unify.specs.Unification.{mostBindings, unified}
-use Rattle.unify.proofs.Room.{bindings-fit}
-use Rattle.unify.proofs.Tests.{to-T, both-true, true-not-false, some-injective}
+use Rattle.unification.specs.Environment.{Binding}
+use Rattle.unification.specs.Row.{variable, Row, application}
+use Rattle.unification.specs.Unification.{mostBindings, unified}
+use Rattle.unification.proofs.Room.{bindings-fit}
+use Rattle.unification.proofs.Tests.{to-T, both-true, true-not-false, some-injective}
 use Rattle.derivation.specs.Derivation.{literals, input, Literal, inputLiterals, Derivation, resolve, factor, numbered, raise, placed, maximumIndex, joined, lookup, uses}
 use Rattle.derivation.proofs.Validity.{Valid}
 use Rattle.verdict.specs.Refusal.{tests, mostLiterals, mostIndex, kindOfRecord, zeros, argumentRows, leftOf, rightOf, deletedOf, hasArity, allBelow, equalSigns, fittingSigns, resultFits}

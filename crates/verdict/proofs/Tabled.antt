@@ -10,9 +10,9 @@ use lib.Dec.{eqb, eqb→eq}
 use lib.ListN.{length, getD, length-append, length-map, List·getD-append}
 use lib.Seq.{getD-append-add}
 use Rattle.record.specs.Record.{pick, Record, recordPart, decoded, fieldA, fieldB, fieldC, fieldD}
-use Rattle.unify.specs.Bindings.{bindingAt, bindingsFrom}
-use Rattle.unify.specs.Environment.{Binding}
-use Rattle.unify.proofs.Tests.{to-T, some-not-none, some-injective}
+use Rattle.unification.specs.Bindings.{bindingAt, bindingsFrom}
+use Rattle.unification.specs.Environment.{Binding}
+use Rattle.unification.proofs.Tests.{to-T, some-not-none, some-injective}
 use Rattle.derivation.specs.Derivation.{input, inputLiterals, Derivation, resolve, factor, ownBindings}
 use Rattle.derivation.specs.Stored.{recordCell, recordOf, Cells, Stored, storedInput, storedResolve, storedFactor}
 use Rattle.verdict.specs.State.{entry, bindingsOf}

@@ -6,7 +6,7 @@ use Prim.Native.Nat.{ℕ, zero, suc, _-_, _/_, _%_}
 use lib.Dec.{T}
 use lib.ListN.{length, replicate}
 use Rattle.record.specs.Record.{pick, Record, records, otherKind, Kind, symbolKind, variableKind, applicationKind, inputKind, resolveKind, factorKind}
-use Rattle.unify.specs.Unification.{unify, mostWork, Outcome, unified, failed}
+use Rattle.unification.specs.Unification.{unify, mostWork, Outcome, unified, failed}
 use Rattle.derivation.specs.Derivation.{Literal, Derivation}
 use Rattle.verdict.specs.Refusal.{badLength, kindOfRecord, leftOf, rightOf, deletedOf}
 use Rattle.verdict.specs.State.{State, start, derivations}

@@ -8,12 +8,12 @@ use Prim.Native.Nat.{ℕ, _+_, _*_, _≤_, _<_}
 use lib.Dec.{T}
 use lib.ListN.{length, getD, take, drop}
 use Rattle.record.specs.Record.{Record, records, resolveKind, factorKind, fieldA, fieldB, fieldC, fieldD}
-use Rattle.unify.specs.Environment.{follow, Environment, Ends}
-use Rattle.unify.specs.Failing.{Failing}
-use Rattle.unify.specs.Row.{Expression, Variable, writtenOut}
-use Rattle.unify.specs.Term.{Term, apply}
-use Rattle.unify.specs.Unification.{mostWork, mostLinks, Failure, clash, occurs, overwork, full, unifying, noRoom}
-use Rattle.unify.specs.Unifier.{Unifies, NoUnifier}
+use Rattle.unification.specs.Environment.{follow, Environment, Ends}
+use Rattle.unification.specs.Failing.{Failing}
+use Rattle.unification.specs.Row.{Expression, Variable, writtenOut}
+use Rattle.unification.specs.Term.{Term, apply}
+use Rattle.unification.specs.Unification.{mostWork, mostLinks, Failure, clash, occurs, overwork, full, unifying, noRoom}
+use Rattle.unification.specs.Unifier.{Unifies, NoUnifier}
 use Rattle.derivation.specs.Derivation.{literals, input, Literal, RowLiteral, Derivation, raise, maximumIndex, joined, lookup, uses}
 use Rattle.derivation.specs.Ground.{instances, Ground, Values, valueIn, WellFormedInstances, Assignment, AllTrue}
 use Rattle.derivation.specs.Textbook.{Resolvent, Factor, StandardizedApart}

@@ -6,12 +6,12 @@ use Prim.Native.Nat.{ℕ, _+_}
 use lib.Dec.{eqb, leb, ltb}
 use lib.ListN.{length, take, drop}
 use Rattle.record.specs.Record.{Record, otherKind, Kind, symbolKind, variableKind, applicationKind, inputKind, resolveKind, factorKind, kindNumbered, fieldA, fieldB, fieldC, fieldD}
-use Rattle.unify.specs.Row.{variable, Row, application, noSymbol}
-use Rattle.unify.specs.Unification.{Failure, failureNumber}
+use Rattle.unification.specs.Row.{variable, Row, application, noSymbol}
+use Rattle.unification.specs.Unification.{Failure, failureNumber}
 use Rattle.derivation.specs.Derivation.{literals, Literal, RowLiteral, inputLiterals, Derivation, resolve, factor, numbered, maximumIndex}
 use Rattle.verdict.specs.State.{State, rowsOf, arityOf, clauseOf, rowOf}
 
--- Reasons 1 to 9. What unification gives is in the crate unify.
+-- Reasons 1 to 9. What unification gives is in the crate unification.
 pub data Reason : Type 0 where
   badLength shortTable badKind outOfRange notThere repeatedRow variableLiteral wrongSigns tooLarge : Reason
   unification : Failure → Reason

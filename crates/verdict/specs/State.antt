@@ -5,8 +5,8 @@ use Prim.Native.Nat.{ℕ, _+_}
 use lib.Dec.{eqb}
 use lib.ListN.{length}
 use Rattle.record.specs.Record.{pick}
-use Rattle.unify.specs.Row.{Row, rowAt, termAt}
-use Rattle.unify.specs.Term.{Term}
+use Rattle.unification.specs.Row.{Row, rowAt, termAt}
+use Rattle.unification.specs.Term.{Term}
 use Rattle.derivation.specs.Derivation.{Derivation, ownBindings}
 
 -- Symbols with their arities, rows, and clauses, each with the number of its record.

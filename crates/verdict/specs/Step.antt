@@ -5,8 +5,8 @@ use mathlib.Core.List.{List, [], _∷_}
 use Prim.Native.Nat.{ℕ, suc}
 use lib.Dec.{T}
 use Rattle.record.specs.Record.{Record, otherKind, Kind, symbolKind, variableKind, applicationKind, inputKind, resolveKind, factorKind, fieldB, fieldC, fieldD}
-use Rattle.unify.specs.Environment.{Binding}
-use Rattle.unify.specs.Unification.{unify, Outcome, unified, failed}
+use Rattle.unification.specs.Environment.{Binding}
+use Rattle.unification.specs.Unification.{unify, Outcome, unified, failed}
 use Rattle.derivation.specs.Derivation.{input, Literal, inputLiterals, Derivation, resolve, factor, raise, maximumIndex, joined, lookup}
 use Rattle.verdict.specs.Refusal.{tests, Reason, unification, badKind, notThere, kindOfRecord, leftOf, rightOf, deletedOf, newRow}
 use Rattle.verdict.specs.State.{State, withSymbol, withRow, withClause, rowOf, held}

@@ -4,7 +4,7 @@ use mathlib.Core.List.{List, [], _∷_, _++_, map, reverse}
 use Prim.Native.Nat.{ℕ, _-_}
 use lib.ListN.{length, drop, replicate}
 use Rattle.record.specs.Record.{pick}
-use Rattle.unify.specs.Environment.{Binding}
+use Rattle.unification.specs.Environment.{Binding}
 use Rattle.derivation.specs.Derivation.{literals, Derivation, maximumIndex, ownBindings}
 use Rattle.verdict.specs.State.{State, derivations, bindingsOf}
 use Rattle.verdict.specs.Step.{stateOf}

@@ -7,7 +7,7 @@ use Rattle.checker.proofs.read_tables.Statement.{statement}
 use Rattle.checker.proofs.read_tables.Tie as tie
 use Rattle.checker.proofs.answer.ended_answer.Reads as ended-answer-reads
 use Rattle.checker.proofs.reader.read_records.Reads as read-records-reads
-use Rattle.checker.proofs.tables.clear.Reads as clear-reads
+use Rattle.entry.proofs.tables.clear.Reads as clear-reads
 
 clear-requires : tie.Need-clear-requires
 clear-requires c κs =

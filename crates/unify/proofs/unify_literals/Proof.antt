@@ -1,4 +1,4 @@
-use Rattle.unify.proofs.Limits.{work-16384}
+use Rattle.unification.proofs.Limits.{work-16384}
 use Rattle.unify.proofs.Answer.{answered}
 use borrow.Author.Needs.{needs}
 use Rattle.unify.proofs.unify_literals.Statement.{statement}

@@ -9,7 +9,7 @@ use Rattle.checker.proofs.answer.standing.Statement.{statement}
 use Rattle.checker.proofs.answer.standing.Tie as tie
 use Rattle.checker.proofs.answer.standing.Reads as reads
 use Rattle.checker.proofs.answer.standing.Lts as lts
-use Rattle.derivation.proofs.literals_cell.Reads as literals-cell-reads
+use Rattle.loading.proofs.literals_cell.Reads as literals-cell-reads
 
 abbrev Inv-loop : tie.InvT-loop
 Inv-loop clauses count c₀ c =

@@ -4,7 +4,7 @@ use native.Mathlib.Omega.{arith}
 use lib.ListN.{length}
 use Rattle.record.specs.Record.{recordCount}
 use Rattle.checker.specs.Reader.{Begun}
-use Rattle.checker.specs.Stepping.{tablesWith}
+use Rattle.inference.specs.Stepping.{tablesWith}
 use Rattle.checker.proofs.RecordsLaws.{ReadUpTo, read-none, read-asked, read-few, read-more, read-refused, read-all}
 use borrow.Author.Needs.{needs}
 use Rattle.checker.proofs.reader.read_records.Statement.{statement}

@@ -7,7 +7,7 @@ use Rattle.readout.proofs.heading.put_verdict.Reads as reads
 use Rattle.readout.proofs.heading.put_verdict.Lts as lts
 use Rattle.readout.proofs.heading.put_accepted.Reads as put-accepted-reads
 use Rattle.readout.proofs.heading.put_refused.Reads as put-refused-reads
-use Rattle.readout.proofs.text.put_word.Reads as put-word-reads
+use Rattle.lines.proofs.text.put_word.Reads as put-word-reads
 
 enum-told : tie.Need-enum-told
 enum-told c = search needs

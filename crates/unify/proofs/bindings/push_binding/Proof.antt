@@ -1,8 +1,8 @@
 use mathlib.Core.Path.{ap, _∙_}
 use mathlib.Core.List.{List}
 use Prim.Native.Nat.{ℕ, _+_, _*_}
-use Rattle.unify.specs.Values.{put}
-use Rattle.unify.specs.Bindings.{push}
+use Rattle.unification.specs.Values.{put}
+use Rattle.unification.specs.Bindings.{push}
 use borrow.Author.Needs.{needs}
 use Rattle.unify.proofs.bindings.push_binding.Statement.{statement}
 use Rattle.unify.proofs.bindings.push_binding.Tie as tie

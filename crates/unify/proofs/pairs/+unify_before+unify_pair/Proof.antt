@@ -3,8 +3,8 @@
 use mathlib.Core.Path.{_≡_, refl, sym, _∙_}
 use native.Mathlib.Omega.{arith}
 use lib.ListN.{length}
-use Rattle.unify.specs.Bindings.{Added}
-use Rattle.unify.specs.Walks.{Matched}
+use Rattle.unification.specs.Bindings.{Added}
+use Rattle.unify.specs.Pairs.{Matched}
 use Rattle.unify.proofs.BindingsAdded.{added-none, added-as-below, added-then, added-below}
 use Rattle.unify.proofs.PairWalk.{leaves-less, less-done, no-more-done, filed-done, filed-refused, filed-then, paired-spent, paired-nothing, paired-clashing, paired-bind, paired-refused, meets-last, Pursued, pursued-start, pursued-then, pursued-next, match-start, match-last, match-refused, match-next}
 use borrow.Author.Needs.{needs}
@@ -17,8 +17,8 @@ use Rattle.unify.proofs.pairs.+unify_before+unify_pair.Lts-unify_before
 use Rattle.unify.proofs.pairs.unify_pair.Reads as unify-pair
 use Rattle.unify.proofs.pairs.unify_pair.Kinds as unify-pair-kinds
 use Rattle.unify.proofs.pairs.+unify_before+unify_pair.Lts-unify_pair as unify-pair-lts
-use Rattle.unify.proofs.follow.follow.Reads as follow-reads
-use Rattle.unify.proofs.nodes.part_of.Reads as part-of-reads
+use Rattle.following.proofs.follow.follow.Reads as follow-reads
+use Rattle.following.proofs.nodes.part_of.Reads as part-of-reads
 use Rattle.unify.proofs.pairs.bind.Reads as bind-reads
 use Rattle.unify.proofs.pairs.meet.Reads as meet-reads
 use Rattle.unify.proofs.pairs.+unify_before+unify_pair.{statement}

@@ -1,9 +1,9 @@
 use mathlib.Core.Path.{refl}
 use native.Mathlib.Omega.{arith}
-use Rattle.unify.specs.Walks.{TestLeavesLess}
+use Rattle.following.specs.Walks.{TestLeavesLess}
 use Rattle.unify.proofs.BindingsAdded.{added-none, added-as-below, added-by}
 use Rattle.unify.proofs.PairWalk.{bound-yes, bound-spent, bound-full, bound-done}
-use Rattle.unify.specs.declared.occurs.Occurs.the-variants.{No}
+use Rattle.following.specs.declared.occurs.Occurs.the-variants.{No}
 use borrow.Author.Needs.{needs}
 use Rattle.unify.proofs.pairs.bind.Statement.{statement}
 use Rattle.unify.proofs.pairs.bind.Tie as tie
@@ -11,9 +11,9 @@ use Rattle.unify.proofs.pairs.bind.Reads as reads
 use Rattle.unify.proofs.pairs.bind.Lts as lts
 use Rattle.std.proofs.num.wrapping_add_u16.Reads as wrapping-add-u16-reads
 use Rattle.unify.proofs.bindings.push_binding.Reads as push-binding-reads
-use Rattle.unify.proofs.occurs.occurs_in.Reads as occurs-in-reads
-use Rattle.unify.proofs.values.slot_of.Reads as slot-of-reads
-use Rattle.unify.proofs.values.write_value.Reads as write-value-reads
+use Rattle.following.proofs.occurs.occurs_in.Reads as occurs-in-reads
+use Rattle.following.proofs.values.slot_of.Reads as slot-of-reads
+use Rattle.following.proofs.values.write_value.Reads as write-value-reads
 
 occurs-in-requires : tie.Need-occurs-in-requires
 occurs-in-requires c κs = search needs

@@ -1,11 +1,11 @@
 -- Each case is one of the definition.
 use mathlib.Core.Path.{sym, _∙_}
-use Rattle.unify.specs.Walks.{sameVariable, leftToVariable, leftToApplication, rightVariable}
+use Rattle.unify.specs.Pairs.{sameVariable, leftToVariable, leftToApplication, rightVariable}
 use Rattle.unify.proofs.PairWalk.{meets-as}
 use borrow.Author.Needs.{needs}
 use Rattle.unify.proofs.pairs.meet.Statement.{statement}
 use Rattle.unify.proofs.pairs.meet.Tie as tie
-use Rattle.unify.proofs.follow.is_same.Reads as is-same-reads
+use Rattle.following.proofs.follow.is_same.Reads as is-same-reads
 use Rattle.unify.proofs.pairs.meet_applications.Reads as meet-applications-reads
 
 enum-known-x : tie.Need-enum-known-x

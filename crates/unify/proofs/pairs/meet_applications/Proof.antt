@@ -1,13 +1,13 @@
 -- Each way out is one case of the definition.
 use mathlib.Core.Path.{sym, _∙_}
 use native.Mathlib.Omega.{arith}
-use Rattle.unify.specs.Walks.{sameApplication, otherSymbol, noArguments, someArguments}
+use Rattle.unify.specs.Pairs.{sameApplication, otherSymbol, noArguments, someArguments}
 use borrow.Author.Needs.{needs}
 use Rattle.unify.proofs.pairs.meet_applications.Statement.{statement}
 use Rattle.unify.proofs.pairs.meet_applications.Tie as tie
-use Rattle.unify.proofs.follow.is_same.Reads as is-same-reads
-use Rattle.unify.proofs.nodes.arity_of.Reads as arity-of-reads
-use Rattle.unify.proofs.nodes.part_of.Reads as part-of-reads
+use Rattle.following.proofs.follow.is_same.Reads as is-same-reads
+use Rattle.following.proofs.nodes.arity_of.Reads as arity-of-reads
+use Rattle.following.proofs.nodes.part_of.Reads as part-of-reads
 
 is-same-requires : tie.Need-is-same-requires
 is-same-requires c κs = search needs

@@ -1,0 +1,123 @@
+-- Records of kind 1 to 4: one law for each way in which a function returns.
+use mathlib.Core.Path.{_≡_, refl, sym, ap, _∙_}
+use mathlib.Core.Bool.{Bool, true, false, _&&_, not}
+use mathlib.Core.Option.{Option, none, some}
+use mathlib.Core.List.{List, map}
+use Prim.Native.Nat.{ℕ, _+_, _≤_}
+use native.Mathlib.Omega.{arith}
+use lib.Dec.{leb, T}
+use lib.ListN.{drop, set}
+use borrow.Author.Tests.{eq-eqb, ne-eqb}
+use Rattle.record.specs.Record.{pick, countOf, fieldOf, decoded, symbolKind, variableKind, applicationKind, inputKind}
+use Rattle.unification.specs.Nodes.{part}
+use Rattle.unification.proofs.Tests.{both-true}
+use Rattle.derivation.specs.Derivation.{inputLiterals}
+use Rattle.entry.specs.Program.{withClauseCells, nodeCells, withNode, isRepeated, arityIn, noVariable, arityAnswer, moreSymbols, moreRows, moreClauses, symbolLeft, symbolEntered, RowLeft, rowLeft, rowEntered, variableEntered, applicationThere, applicationEntered, inputLeft, inputEntered}
+use Rattle.verdict.specs.Refusal.{zeros, inRange, argumentRows, hasArity, allBelow}
+use borrow.Author.Tests.{leb-true, not-true, not-false}
+use Rattle.entry.specs.declared.entry.Counts.{Counts}
+use Rattle.entry.specs.declared.entry.Entered.the-variants.{Stands, Refused}
+use Rattle.entry.specs.declared.fields.Arity.{Arity}
+use Rattle.entry.specs.declared.fields.Arity.the-variants.{Is, Missing}
+
+-- What a test picks, the code's test being the definition's.
+pass : {A : Type 0} {b t : Bool} {x : A} (y z : A) → b ≡ t → b ≡ true → x ≡ y → x ≡ pick t y z
+pass {A} {b} {t} y z e h q = q ∙ sym (ap (λ (s : Bool). pick s y z) (sym e ∙ h))
+
+fail : {A : Type 0} {b t : Bool} {x : A} (y z : A) → b ≡ t → b ≡ false → x ≡ z → x ≡ pick t y z
+fail {A} {b} {t} y z e h q = q ∙ sym (ap (λ (s : Bool). pick s y z) (sym e ∙ h))
+
+module _ (part : List ℕ) (k : ℕ) (n : Counts) (symbols : List ℕ) {b : Bool} (e : b ≡ inRange symbolKind (decoded part)) where
+  pub symbol-out : not b ≡ true → symbolLeft (Refused 4) symbols ≡ symbolEntered part k n symbols
+  unfolding symbolEntered
+  symbol-out h = fail _ _ e (not-true b h) refl
+
+  pub symbol-in : {T : List ℕ} → not b ≡ false → T ≡ set symbols (n .symbols) k → symbolLeft (Stands (moreSymbols n)) T ≡ symbolEntered part k n symbols
+  unfolding symbolEntered
+  symbol-in h q = pass _ _ e (not-false b h) (ap (symbolLeft (Stands (moreSymbols n))) q)
+
+module _ (part : List ℕ) (k code : ℕ) (n : Counts) (rows N : List ℕ) {b : Bool} (e : b ≡ isRepeated N (n .rows) (nodeCells code part)) where
+  pub row-repeated : b ≡ true → rowLeft (Refused 6) rows N ≡ rowEntered part k code n rows N
+  unfolding rowEntered
+  row-repeated h = pass _ _ e h refl
+
+  pub row-new : {R M : List ℕ} → b ≡ false → M ≡ withNode N (n .rows) (nodeCells code part) → R ≡ set rows (n .rows) k → rowLeft (Stands (moreRows n)) R M ≡ rowEntered part k code n rows N
+  unfolding rowEntered
+  row-new h p q = fail _ _ e h (rw (p, q))
+
+module _ (part : List ℕ) (k : ℕ) (n : Counts) (rows N : List ℕ) {b : Bool} (e : b ≡ inRange variableKind (decoded part)) where
+  pub variable-out : not b ≡ true → rowLeft (Refused 4) rows N ≡ variableEntered part k n rows N
+  unfolding variableEntered
+  variable-out h = fail _ _ e (not-true b h) refl
+
+  pub variable-in : {x : RowLeft} → not b ≡ false → x ≡ rowEntered part k 1 n rows N → x ≡ variableEntered part k n rows N
+  unfolding variableEntered
+  variable-in h q = pass _ _ e (not-false b h) q
+
+-- The arity, back from the answer.
+is-some : (o : Option ℕ) (a : ℕ) → arityAnswer o ≡ Is a → o ≡ some a
+is-some none a e = let z : _≡_ {A = ℕ} 0 1 = cc in absurd (omega arith)
+is-some (some m) a e = cc
+
+is-none : (o : Option ℕ) → arityAnswer o ≡ Missing → o ≡ none
+is-none none e = refl
+is-none (some m) e = let z : _≡_ {A = ℕ} 0 1 = cc in absurd (omega arith)
+
+module _ (F part : List ℕ) (n : Counts) (symbols : List ℕ) {f : ℕ} {r : Arity} (e : f ≡ fieldOf part 0) (p : r ≡ arityAnswer (arityIn F symbols (n .symbols) f)) where
+  known : {a : ℕ} → r ≡ Is a → arityIn F symbols (n .symbols) (fieldOf part 0) ≡ some a
+  known {a} q = ap (arityIn F symbols (n .symbols)) (sym e) ∙ is-some (arityIn F symbols (n .symbols) f) a (sym p ∙ q)
+
+  unknown : r ≡ Missing → arityIn F symbols (n .symbols) (fieldOf part 0) ≡ none
+  unknown q = ap (arityIn F symbols (n .symbols)) (sym e) ∙ is-none (arityIn F symbols (n .symbols) f) (sym p ∙ q)
+
+  there : (o : Option ℕ) → arityIn F symbols (n .symbols) (fieldOf part 0) ≡ o → (hasArity (countOf part) o && allBelow (n .rows) (argumentRows (decoded part))) ≡ applicationThere F part n symbols
+  unfolding applicationThere
+  there o z = sym (ap (λ (w : Option ℕ). hasArity (countOf part) w && allBelow (n .rows) (argumentRows (decoded part))) z)
+
+  pub there-fits : {a m : ℕ} {x : Bool} → r ≡ Is a → m ≡ countOf part → a ≡ m → x ≡ allBelow (n .rows) (argumentRows (decoded part)) → x ≡ applicationThere F part n symbols
+  there-fits {a} q c h z = z ∙ ap (λ (t : Bool). t && allBelow (n .rows) (argumentRows (decoded part))) (sym (eq-eqb a (countOf part) (h ∙ c))) ∙ there (some a) (known q)
+
+  pub there-differs : {a m : ℕ} → r ≡ Is a → m ≡ countOf part → (a ≡ m → ⊥) → false ≡ applicationThere F part n symbols
+  there-differs {a} q c h = ap (λ (t : Bool). t && allBelow (n .rows) (argumentRows (decoded part))) (sym (ne-eqb a (countOf part) (λ z. h (z ∙ sym c)))) ∙ there (some a) (known q)
+
+  pub there-missing : r ≡ Missing → false ≡ applicationThere F part n symbols
+  there-missing q = there none (unknown q)
+
+module _ (F part : List ℕ) (k : ℕ) (n : Counts) (symbols rows N : List ℕ) {b : Bool} (e : b ≡ inRange applicationKind (decoded part)) where
+  pub application-out : not b ≡ true → rowLeft (Refused 4) rows N ≡ applicationEntered F part k n symbols rows N
+  unfolding applicationEntered
+  application-out h = fail _ _ e (not-true b h) refl
+
+  pub application-few : not b ≡ false → countOf part ≤ 6
+  application-few h = leb-true (countOf part) 6 (both-true (leb (countOf part) 6) (zeros (drop (1 + countOf part) (decoded part .fields))) (sym e ∙ not-false b h) .0)
+
+  module _ {t : Bool} (h : not b ≡ false) (p : t ≡ applicationThere F part n symbols) where
+    pub application-missing : not t ≡ true → rowLeft (Refused 5) rows N ≡ applicationEntered F part k n symbols rows N
+    unfolding applicationEntered
+    application-missing g = pass _ _ e (not-false b h) (fail _ _ p (not-true t g) refl)
+
+    pub application-in : {m : ℕ} {x : RowLeft} → not t ≡ false → m ≡ countOf part → x ≡ rowEntered part k (2 + m) n rows N → x ≡ applicationEntered F part k n symbols rows N
+    unfolding applicationEntered
+    application-in g c q = pass _ _ e (not-false b h) (pass _ _ p (not-false t g) (q ∙ ap (λ (i : ℕ). rowEntered part k (2 + i) n rows N) c))
+
+module _ (part : List ℕ) (k : ℕ) (n : Counts) (clauses N : List ℕ) {b : Bool} (e : b ≡ inRange inputKind (decoded part)) where
+  pub input-out : not b ≡ true → inputLeft (Refused 4) clauses ≡ inputEntered part k n clauses N
+  unfolding inputEntered
+  input-out h = fail _ _ e (not-true b h) refl
+
+  pub input-few : not b ≡ false → countOf part ≤ 7
+  input-few h = leb-true (countOf part) 7 (both-true (leb (countOf part) 7) (zeros (drop (countOf part) (decoded part .fields))) (sym e ∙ not-false b h) .0)
+
+  module _ {t : Bool} (h : not b ≡ false) (p : t ≡ allBelow (n .rows) (map (λ l. l .1) (inputLiterals (decoded part)))) where
+    pub input-missing : not t ≡ true → inputLeft (Refused 5) clauses ≡ inputEntered part k n clauses N
+    unfolding inputEntered
+    input-missing g = pass _ _ e (not-false b h) (fail _ _ p (not-true t g) refl)
+
+    module _ {v : Bool} (g : not t ≡ false) (q : v ≡ noVariable N (inputLiterals (decoded part))) where
+      pub input-variable : not v ≡ true → inputLeft (Refused 7) clauses ≡ inputEntered part k n clauses N
+      unfolding inputEntered
+      input-variable w = pass _ _ e (not-false b h) (pass _ _ p (not-false t g) (fail _ _ q (not-true v w) refl))
+
+      pub input-in : {m : ℕ} {C : List ℕ} → not v ≡ false → m ≡ countOf part → C ≡ withClauseCells clauses (n .clauses) k m 1 (n .bindings) 0 → inputLeft (Stands (moreClauses n)) C ≡ inputEntered part k n clauses N
+      unfolding inputEntered
+      input-in w c z = pass _ _ e (not-false b h) (pass _ _ p (not-false t g) (pass _ _ q (not-false v w) (ap (inputLeft (Stands (moreClauses n))) (z ∙ ap (λ (i : ℕ). withClauseCells clauses (n .clauses) k i 1 (n .bindings) 0) c))))

@@ -1,0 +1,96 @@
+-- Rows of the node table, written and compared cell by cell.
+use mathlib.Core.Path.{_≡_, sym, ap, ap₂, _∙_}
+use mathlib.Core.Bool.{Bool, true, false}
+use mathlib.Core.List.{List, [], _∷_, append-assoc}
+use Prim.Native.Nat.{ℕ, zero, suc, _+_, _-_, _*_, _≤_, _<_}
+use native.Mathlib.Numerals.{add-one}
+use native.Mathlib.Omega.{arith}
+use lib.ListN.{length, getD, take, drop, set}
+use borrow.Author.Tests.{eq-eqb, ne-eqb}
+use Rattle.record.specs.Record.{pick, fieldOf, fieldsOf}
+use Rattle.entry.specs.Program.{nodeCells, nodeAt, withNode, isRepeated}
+use Rattle.verdict.specs.Refusal.{equalLists}
+use Rattle.verdict.proofs.Standing.{room}
+use native.Mathlib.Nat.{not-suc-le-zero}
+use lib.ListN.{drop-of-length-le}
+use lib.Seq.{drop-cons, sets-eq}
+
+-- The first i fields of a record stored after the code of a row whose cells start at `at`.
+abbrev pub fieldsStored : List ℕ → ℕ → List ℕ → ℕ → List ℕ
+fieldsStored N at p zero = N
+fieldsStored N at p (suc i) = set (fieldsStored N at p i) (at + 1 + i) (fieldOf p i)
+
+pub field-stored : (N : List ℕ) (at : ℕ) (p : List ℕ) (i : ℕ) {M : List ℕ} {x : ℕ} → M ≡ fieldsStored N at p i → x ≡ fieldOf p i → set M (at + 1 + i) x ≡ fieldsStored N at p (i + 1)
+field-stored N at p i q e =
+    ap₂ (λ (m : List ℕ) (x : ℕ). set m (at + 1 + i) x) q e ∙ ap (fieldsStored N at p) (sym (add-one i))
+
+pub node-written : (N : List ℕ) (r code : ℕ) (p : List ℕ) → 8 * r + 8 ≤ length N → fieldsStored (set N (8 * r) code) (8 * r) p 7 ≡ withNode N r (nodeCells code p)
+node-written N r code p room =
+    let e1 : 8 * r + 1 + 0 ≡ suc (8 * r) = omega arith in
+    let e2 : 8 * r + 1 + 1 ≡ suc (suc (8 * r)) = omega arith in
+    let e3 : 8 * r + 1 + 2 ≡ suc (suc (suc (8 * r))) = omega arith in
+    let e4 : 8 * r + 1 + 3 ≡ suc (suc (suc (suc (8 * r)))) = omega arith in
+    let e5 : 8 * r + 1 + 4 ≡ suc (suc (suc (suc (suc (8 * r))))) = omega arith in
+    let e6 : 8 * r + 1 + 5 ≡ suc (suc (suc (suc (suc (suc (8 * r)))))) = omega arith in
+    let e7 : 8 * r + 1 + 6 ≡ suc (suc (suc (suc (suc (suc (suc (8 * r))))))) = omega arith in
+    rw (e1, e2, e3, e4, e5, e6, e7) (sets-eq (nodeCells code p) N (8 * r) room ∙ append-assoc (take (8 * r) N) (nodeCells code p) (drop (8 * r + 8) N))
+
+-- The seven numbers of a row whose cells start at `at`, from number i on.
+abbrev pub numbersFrom : List ℕ → ℕ → ℕ → List ℕ
+numbersFrom N at i = take (7 - i) (drop (at + 1 + i) N)
+
+-- The eight cells of a row: its code, and seven numbers.
+module _ (N : List ℕ) (at : ℕ) (room : at + 8 ≤ length N) where
+  pub code-first : take 8 (drop at N) ≡ getD N at 0 ∷ numbersFrom N at 0
+  code-first =
+      let e : at + 1 + 0 ≡ suc at = omega arith in
+      rw (e, drop-cons N at 0 (omega arith))
+
+  pub number-next : (i : ℕ) → i < 7 → numbersFrom N at i ≡ getD N (at + 1 + i) 0 ∷ numbersFrom N at (i + 1)
+  number-next i h =
+      let e : 7 - i ≡ suc (7 - (i + 1)) = omega arith in
+      let d : at + 1 + (i + 1) ≡ suc (at + 1 + i) = omega arith in
+      rw (e, d, drop-cons N (at + 1 + i) 0 (omega arith))
+
+  module _ (code : ℕ) (numbers : List ℕ) (seven : length numbers ≡ 7) where
+    numbers-next : (i : ℕ) → i < 7 → drop i numbers ≡ getD numbers i 0 ∷ drop (i + 1) numbers
+    numbers-next i h = rw (add-one i, drop-cons numbers i 0 (omega arith))
+
+    pub code-differs : (getD N at 0 ≡ code → ⊥) → equalLists (take 8 (drop at N)) (code ∷ numbers) ≡ false
+    code-differs z = rw (code-first, ne-eqb (getD N at 0) code z)
+
+    pub code-same : getD N at 0 ≡ code → equalLists (take 8 (drop at N)) (code ∷ numbers) ≡ equalLists (numbersFrom N at 0) (drop 0 numbers)
+    code-same z = rw (code-first, eq-eqb (getD N at 0) code z)
+
+    pub number-differs : (i : ℕ) → i < 7 → (getD N (at + 1 + i) 0 ≡ getD numbers i 0 → ⊥) → equalLists (numbersFrom N at i) (drop i numbers) ≡ false
+    number-differs i h z = rw (number-next i h, numbers-next i h, ne-eqb (getD N (at + 1 + i) 0) (getD numbers i 0) z)
+
+    pub number-same : (i : ℕ) → i < 7 → getD N (at + 1 + i) 0 ≡ getD numbers i 0 → equalLists (numbersFrom N at i) (drop i numbers) ≡ equalLists (numbersFrom N at (i + 1)) (drop (i + 1) numbers)
+    number-same i h z = rw (number-next i h, numbers-next i h, eq-eqb (getD N (at + 1 + i) 0) (getD numbers i 0) z)
+
+    pub numbers-end : (i : ℕ) → i ≤ 7 → 7 ≤ i → equalLists (numbersFrom N at i) (drop i numbers) ≡ true
+    numbers-end i h l =
+        let e : 7 - i ≡ 0 = omega arith in
+        let d : length numbers ≤ i = omega arith in
+        rw (e, drop-of-length-le numbers d)
+
+-- From the newest row down.
+pub repeated-next : (N : List ℕ) (r : ℕ) (cells : List ℕ) → 0 < r → isRepeated N r cells ≡ pick (equalLists (nodeAt N (r - 1)) cells) true (isRepeated N (r - 1) cells)
+repeated-next N zero cells h = absurd (not-suc-le-zero h)
+repeated-next N (suc r) cells h = let e : suc r - 1 ≡ r = omega arith in rw e
+
+module _ (N : List ℕ) (r code : ℕ) (p : List ℕ) {numbers : List ℕ} {b : Bool} (h : 0 < r) (e : numbers ≡ fieldsOf p) (t : b ≡ equalLists (nodeAt N (r - 1)) (code ∷ numbers)) where
+  pub repeated-found : b ≡ true → isRepeated N r (nodeCells code p) ≡ true
+  repeated-found z = rw (repeated-next N r (nodeCells code p) h, ← e, ← t, z)
+
+  pub repeated-on : b ≡ false → isRepeated N r (nodeCells code p) ≡ isRepeated N (r - 1) (nodeCells code p)
+  repeated-on z = rw (repeated-next N r (nodeCells code p) h, ← e, ← t, z)
+
+pub repeated-end : (N : List ℕ) (r : ℕ) (cells : List ℕ) → r ≤ 0 → isRepeated N r cells ≡ false
+repeated-end N r cells h = let e : r ≡ 0 = omega arith in rw e
+
+-- The fields of a record, each as it was read.
+pub seven-fields : (p : List ℕ) {a b d e f g h : ℕ}
+    → a ≡ fieldOf p 0 → b ≡ fieldOf p 1 → d ≡ fieldOf p 2 → e ≡ fieldOf p 3 → f ≡ fieldOf p 4 → g ≡ fieldOf p 5 → h ≡ fieldOf p 6
+    → a ∷ b ∷ d ∷ e ∷ f ∷ g ∷ h ∷ [] ≡ fieldsOf p
+seven-fields p a b d e f g h = rw (a, b, d, e, f, g, h)

@@ -1,0 +1,58 @@
+-- Each return is a case of the definition; a record in range has few enough arguments to be read.
+use Rattle.entry.proofs.EntryLaws.{application-out, application-few, application-missing, application-in}
+use borrow.Author.Needs.{needs}
+use Rattle.entry.proofs.entry.application_record.Statement.{statement}
+use Rattle.entry.proofs.entry.application_record.Tie as tie
+
+application-in-range-requires : tie.Need-application-in-range-requires
+application-in-range-requires c κs = search needs
+
+returns : tie.Need-returns
+returns c =
+    let s = c .before .before .before .before .before .before .args in
+    (application-out (s .file .now) (s .part .now) (s .k) (s .counts) (s .symbols .now) (s .rows .now) (s .nodes .now) (c .before .application-in-range .ensures) (c .if1 .taken), c .before .before .before .before .before .before .pre .1)
+
+application-there-requires : tie.Need-application-there-requires
+application-there-requires c κs =
+    let s = c .before .before .before .before .before .before .args in
+    application-few (s .file .now) (s .part .now) (s .k) (s .counts) (s .symbols .now) (s .rows .now) (s .nodes .now) (c .before .application-in-range .ensures) (c .if1 .left)
+
+returns-2 : tie.Need-returns-2
+returns-2 c =
+    let s = c .before .before .before .before .before .before .before .before .args in
+    (application-missing (s .file .now) (s .part .now) (s .k) (s .counts) (s .symbols .now) (s .rows .now) (s .nodes .now) (c .before .before .before .application-in-range .ensures) (c .before .before .if1 .left) (c .before .application-there .ensures) (c .if2 .taken), c .before .before .before .before .before .before .before .before .pre .1)
+
+count-requires : tie.Need-count-requires
+count-requires c κs = search needs
+
+cast-code : tie.Need-cast-code
+cast-code c = search needs
+
+add-code : tie.Need-add-code
+add-code c = search needs
+
+enter-row-requires : tie.Need-enter-row-requires
+enter-row-requires c κs = search needs
+
+same-length : tie.Need-same-length
+same-length c = search needs
+
+returns-3 : tie.Need-returns-3
+returns-3 c =
+    let s = c .before .before .before .before .before .before .before .before .before .before .before .before .before .before .args in
+    (application-in (s .file .now) (s .part .now) (s .k) (s .counts) (s .symbols .now) (s .rows .now) (s .nodes .now) (c .before .before .before .before .before .before .before .before .before .application-in-range .ensures) (c .before .before .before .before .before .before .before .before .if1 .left) (c .before .before .before .before .before .before .before .application-there .ensures) (c .before .before .before .before .before .before .if2 .left) (c .before .before .before .before .before .count .ensures) (c .before .before .enter-row .ensures .0), c .before .before .enter-row .ensures .1)
+
+pub application-record-spec : {M : Type 1} → statement M
+application-record-spec =
+    tie.close
+    (tie.spec
+    application-in-range-requires
+    returns
+    application-there-requires
+    returns-2
+    count-requires
+    cast-code
+    add-code
+    enter-row-requires
+    same-length
+    returns-3)

@@ -1,0 +1,59 @@
+-- The program's own tables for a state: the contracts of its inner functions. No demand needs this file.
+use mathlib.Core.Path.{_≡_}
+use mathlib.Core.Bool.{true}
+use mathlib.Core.List.{List, [], _∷_, _++_}
+use Prim.Native.Nat.{ℕ, suc, _+_, _-_, _*_, _<_}
+use lib.Dec.{T}
+use lib.ListN.{length, take, replicate}
+use Rattle.record.specs.Record.{records, recordCount, recordPart, decoded}
+use Rattle.unification.specs.Row.{variable, Row, application}
+use Rattle.verdict.specs.Refusal.{Reason, reasonNumber}
+use Rattle.verdict.specs.State.{State, start, rowsOf, held}
+use Rattle.verdict.specs.Step.{stands, refused, step, read, allStand}
+use Rattle.verdict.specs.Tables.{Tables, lengthsOf, filledTables}
+use Rattle.verdict.specs.Verdict.{longEnough, fittingLength}
+use Rattle.entry.specs.declared.entry.Counts.{Counts}
+use Rattle.entry.specs.declared.entry.Entered.{Entered}
+use Rattle.entry.specs.declared.entry.Entered.the-variants.{Stands, Refused}
+
+-- The eight cells of a row, the cells of all rows, row 0 first, and the node table with zeros after them.
+abbrev pub cellsOfRow : Row → List ℕ
+cellsOfRow (variable v) = 1 ∷ v ∷ 0 ∷ 0 ∷ 0 ∷ 0 ∷ 0 ∷ 0 ∷ []
+cellsOfRow (application s xs) = (2 + length xs) ∷ s ∷ (xs ++ replicate (6 - length xs) 0)
+
+abbrev pub nodeList : List Row → List ℕ
+nodeList [] = []
+nodeList (w ∷ ws) = nodeList ws ++ cellsOfRow w
+
+abbrev pub nodeTableOf : List Row → List ℕ
+nodeTableOf ws = nodeList ws ++ replicate (32768 - 8 * length ws) 0
+
+-- The counts of a state.
+abbrev pub countsOf : State → Counts
+countsOf S = record { symbols = length (S .symbols); rows = length (S .rows); clauses = length (S .clauses); bindings = held S }
+
+-- What the program has after k records of the file F, begun on the tables t: the counts, tables and node table of the state that these
+-- records leave. What the array of values holds between steps does not matter.
+pub record Kept (F : List ℕ) (t : Tables) (k : ℕ) (S : State) (n : Counts) (here : Tables) (N A : List ℕ) : Type 0 where
+  pub fit : fittingLength (length F) ≡ true
+  pub long : longEnough (lengthsOf t) ≡ true
+  pub before : read start 0 (take k (records F)) ≡ allStand S
+  pub counts : n ≡ countsOf S
+  pub tables : here ≡ filledTables S t
+  pub nodes : N ≡ nodeTableOf (rowsOf S)
+  pub values : length A ≡ 524416
+
+-- What a function on record k asks: the state for some tables before, and that the record is inside the file.
+pub record Reading (F : List ℕ) (k : ℕ) (n : Counts) (here : Tables) (N A : List ℕ) : Type 0 where
+  pub inside : k < recordCount F
+  pub tablesBefore : Tables
+  pub state : State
+  pub kept : Kept F tablesBefore k state n here N A
+
+-- What it answers: a record that stands leaves what belongs to the next state; a refused one its number, and the tables and the node table as they were.
+abbrev pub Next : List ℕ → Tables → ℕ → State → Tables → List ℕ → List ℕ → Entered → Type 0
+Next F t k S here N A (Stands n) = (T : State) × (step S k (decoded (recordPart F k)) ≡ stands T) × Kept F t (suc k) T n here N A
+Next F t k S here N A (Refused q) = (reason : Reason) × (step S k (decoded (recordPart F k)) ≡ refused reason) × (q ≡ reasonNumber reason) × (here ≡ filledTables S t) × (N ≡ nodeTableOf (rowsOf S)) × (length A ≡ 524416)
+
+pub record RecordRead (F : List ℕ) (k : ℕ) (n : Counts) (here : Tables) (N A : List ℕ) (e : Entered) (here′ : Tables) (N′ A′ : List ℕ) : Type 0 where
+  pub next : (t : Tables) (S : State) → Kept F t k S n here N A → Next F t k S here′ N′ A′ e

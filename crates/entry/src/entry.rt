@@ -1,0 +1,174 @@
+// Records of kind 1 to 4: each is tested in the order of the numbers that it can be refused with, and then entered in the tables.
+use super::fields::Arity;
+use super::fields::application_in_range;
+use super::fields::arguments_below;
+use super::fields::arity_in;
+use super::fields::input_in_range;
+use super::fields::literal_rows_below;
+use super::fields::symbol_in_range;
+use super::fields::variable_in_range;
+use super::rows::is_repeated;
+use super::rows::no_variable;
+use super::rows::put_node;
+use super::tables::put_clause;
+use super::tables::set_cell;
+use record::count;
+use record::field;
+ghost use mathlib.Core.Path.{_≡_};
+ghost use Prim.Native.Nat.{_≤_, _<_};
+ghost use lib.ListN.{length};
+ghost use Rattle.record.specs.Record.{countOf};
+ghost use Rattle.entry.specs.Program.{symbolLeft, symbolEntered, rowLeft, rowEntered, variableEntered, applicationThere, applicationEntered, inputLeft, inputEntered};
+
+// How many symbols, rows, clauses and bindings the records read so far have declared.
+pub struct Counts {
+    pub symbols: u16,
+    pub rows: u16,
+    pub clauses: u16,
+    pub bindings: u16,
+}
+
+// A record stands, with the counts after it; or it is refused with a number.
+pub enum Entered {
+    Stands(Counts),
+    Refused(u8),
+}
+
+// Kind 1. The table of symbols gets the record's number.
+pub fn symbol_record(part: &[u8], k: u16, counts: Counts, symbols: &mut [u16]) -> Entered
+    requires { ⌜ counts .symbols < 4096 ⌝ }
+    ensures { λ e. ⌜ symbolLeft e (now (symbols .exit)) ≡ symbolEntered (now (part .entry)) k counts (now (symbols .entry)) ⌝ }
+{
+    if !symbol_in_range(part) {
+        return Entered::Refused(4);
+    }
+    let n = counts.symbols;
+    set_cell(symbols, n as usize, k);
+    Entered::Stands(Counts {
+        symbols: n + 1,
+        rows: counts.rows,
+        clauses: counts.clauses,
+        bindings: counts.bindings,
+    })
+}
+
+// A row that is not among the earlier ones goes to the node table, and its record's number to the table of rows.
+fn enter_row(
+    part: &[u8],
+    k: u16,
+    code: u16,
+    counts: Counts,
+    rows: &mut [u16],
+    nodes: &mut [u16; 32768],
+) -> Entered
+    requires { ⌜ counts .rows < 4096 ⌝ }
+    requires { ⌜ length (now nodes) ≡ 32768 ⌝ }
+    ensures { λ e. ⌜ rowLeft e (now (rows .exit)) (now (nodes .exit)) ≡ rowEntered (now (part .entry)) k code counts (now (rows .entry)) (now (nodes .entry)) ⌝ }
+    ensures { λ _. ⌜ length (now (nodes .exit)) ≡ 32768 ⌝ }
+{
+    let n = counts.rows;
+    if is_repeated(nodes, n, code, part) {
+        return Entered::Refused(6);
+    }
+    put_node(nodes, n, code, part);
+    set_cell(rows, n as usize, k);
+    Entered::Stands(Counts {
+        symbols: counts.symbols,
+        rows: n + 1,
+        clauses: counts.clauses,
+        bindings: counts.bindings,
+    })
+}
+
+// Kind 2. A variable's code in the node table is 1.
+pub fn variable_record(
+    part: &[u8],
+    k: u16,
+    counts: Counts,
+    rows: &mut [u16],
+    nodes: &mut [u16; 32768],
+) -> Entered
+    requires { ⌜ counts .rows < 4096 ⌝ }
+    requires { ⌜ length (now nodes) ≡ 32768 ⌝ }
+    ensures { λ e. ⌜ rowLeft e (now (rows .exit)) (now (nodes .exit)) ≡ variableEntered (now (part .entry)) k counts (now (rows .entry)) (now (nodes .entry)) ⌝ }
+    ensures { λ _. ⌜ length (now (nodes .exit)) ≡ 32768 ⌝ }
+{
+    if !variable_in_range(part) {
+        return Entered::Refused(4);
+    }
+    enter_row(part, k, 1, counts, rows, nodes)
+}
+
+// Reason 5 for an application: its symbol exists and has as many arguments, and its argument rows exist.
+fn application_there(file: &[u8], part: &[u8], counts: Counts, symbols: &[u16]) -> bool
+    requires { ⌜ countOf (now part) ≤ 6 ⌝ }
+    ensures { λ b. ⌜ b ≡ applicationThere (now (file .entry)) (now (part .entry)) counts (now (symbols .entry)) ⌝ }
+{
+    match arity_in(file, symbols, counts.symbols, field(part, 0)) {
+        Arity::Is(a) => {
+            if a == count(part) {
+                arguments_below(part, counts.rows)
+            } else {
+                false
+            }
+        }
+        Arity::Missing => false,
+    }
+}
+
+// Kind 3. An application's code in the node table is 2 more than the number of its arguments.
+pub fn application_record(
+    file: &[u8],
+    part: &[u8],
+    k: u16,
+    counts: Counts,
+    symbols: &[u16],
+    rows: &mut [u16],
+    nodes: &mut [u16; 32768],
+) -> Entered
+    requires { ⌜ counts .rows < 4096 ⌝ }
+    requires { ⌜ length (now nodes) ≡ 32768 ⌝ }
+    ensures { λ e. ⌜ rowLeft e (now (rows .exit)) (now (nodes .exit)) ≡ applicationEntered (now (file .entry)) (now (part .entry)) k counts (now (symbols .entry)) (now (rows .entry)) (now (nodes .entry)) ⌝ }
+    ensures { λ _. ⌜ length (now (nodes .exit)) ≡ 32768 ⌝ }
+{
+    if !application_in_range(part) {
+        return Entered::Refused(4);
+    }
+    if !application_there(file, part, counts, symbols) {
+        return Entered::Refused(5);
+    }
+    let code = 2 + (count(part) as u16);
+    enter_row(part, k, code, counts, rows, nodes)
+}
+
+// Kind 4. An input clause has maximum index 1 and no bindings.
+pub fn input_record(
+    part: &[u8],
+    k: u16,
+    counts: Counts,
+    clauses: &mut [u16],
+    nodes: &[u16; 32768],
+) -> Entered
+    requires { ⌜ counts .clauses < 4096 ⌝ }
+    requires { ⌜ length (now nodes) ≡ 32768 ⌝ }
+    ensures { λ e. ⌜ inputLeft e (now (clauses .exit)) ≡ inputEntered (now (part .entry)) k counts (now (clauses .entry)) (now (nodes .entry)) ⌝ }
+{
+    if !input_in_range(part) {
+        return Entered::Refused(4);
+    }
+    if !literal_rows_below(part, counts.rows) {
+        return Entered::Refused(5);
+    }
+    if !no_variable(nodes, part) {
+        return Entered::Refused(7);
+    }
+    let n = counts.clauses;
+    let literals = count(part) as u16;
+    put_clause(clauses, n, k, literals, 1, counts.bindings, 0);
+    Entered::Stands(Counts {
+        symbols: counts.symbols,
+        rows: counts.rows,
+        clauses: n + 1,
+        bindings: counts.bindings,
+    })
+}

@@ -1,0 +1,4 @@
+pub mod StepLaws
+pub mod StepTests
+pub mod StepEnds
+pub mod StepNamed

@@ -1,0 +1,329 @@
+-- Resolve and factor in the program: the array loaded for a step stands for what its parents say, and unification over it is the
+-- definition's.
+use mathlib.Core.Path.{_≡_, refl, sym, ap, ap₂, _∙_, subst}
+use mathlib.Core.Option.{some}
+use mathlib.Core.List.{List, [], _∷_}
+use Prim.Native.Nat.{ℕ, _+_, _-_, _*_, _≤_, _<_}
+use native.Mathlib.Omega.{arith}
+use lib.ListN.{length}
+use Rattle.record.specs.Record.{recordCount}
+use Rattle.following.specs.Clearing.{Cleared}
+use Rattle.unification.specs.Environment.{follow, Environment, Ends}
+use Rattle.unification.specs.Nodes.{HasRow, nodeRow, NodesOk}
+use Rattle.unification.specs.Row.{Row, application, Expression}
+use Rattle.unification.specs.Unification.{unify, mostWork, mostBindings, mostLinks, Outcome, unifying, noRoom}
+use Rattle.unify.specs.Unifying.{outcomeOf, Facing, Ready, Answered}
+use Rattle.unification.specs.Values.{InStep, Models}
+use Rattle.unification.proofs.Chains.{short-le}
+use Rattle.unification.proofs.Rows.{Below}
+use Rattle.unification.proofs.Stability.{run-agree}
+use Rattle.unification.proofs.Tests.{some-injective}
+use Rattle.derivation.specs.Derivation.{literals, Derivation, raise, maximumIndex, joined, lookup}
+use Rattle.loading.specs.Loaded.{BindingsIn, Loadable, Loaded}
+use Rattle.derivation.specs.Stored.{literalsCell, indexCell, Stored}
+use Rattle.derivation.proofs.Chains.{short-joined}
+use Rattle.derivation.proofs.Known.{Known, KnownEnvironment, known-numbered, known-joined, known-variable, known-arguments}
+use Rattle.derivation.proofs.Literals.{In, each-numbered, LiteralIn, literals-in}
+use Rattle.loading.proofs.LoadedModels.{cleared-free, resolve-models}
+use Rattle.derivation.proofs.Validity.{lookup-in}
+use Rattle.entry.specs.Program.{clearedPart, withClauseCells}
+use Rattle.verdict.specs.State.{State, rowsOf, derivations, clauseOf, rowOf, held}
+use Rattle.verdict.specs.Step.{step, unifyResolve, unifyFactor}
+use Rattle.inference.specs.Stepping.{tablesWith, BeforeStep, AtomOf, atomNamed, Resolving, Factoring, UnifiedTables, finished, withStep, stepFinished, HeldUpTo}
+use Rattle.verdict.specs.Tables.{Tables, bindingCells}
+use Rattle.verdict.proofs.Advance.{Standing}
+use Rattle.entry.proofs.Declaring.{bindings-here}
+use Rattle.entry.proofs.Filling.{filled-length}
+use Rattle.entry.proofs.Kept.{sizes, few-records, few-clauses}
+use Rattle.entry.proofs.KeptClauses as kept
+use Rattle.verdict.proofs.Standing.{below, ChainsEnd, InOrder, StateOk, room, known-of, held-links}
+use Rattle.verdict.proofs.Tabled.{all-bindings-length}
+use Rattle.unify.specs.declared.pairs.Unified.{Unified}
+use Rattle.unify.specs.declared.pairs.Unified.the-variants.{Done}
+use Rattle.unify.specs.declared.pairs.Unified.the-variants as unified-variants
+use Rattle.entry.specs.declared.entry.Entered.the-variants.{Stands, Refused}
+use Rattle.entry.specs.declared.entry.Counts.{Counts}
+use Rattle.inference.specs.declared.inference.Atom.{Atom}
+
+module _ {F : List ℕ} {k : ℕ} {n : Counts} {C B N A : List ℕ} (E : BeforeStep F k n C B N A) where
+  abbrev S : State
+  S = E .state
+
+  abbrev T : Tables
+  T = E .tablesBefore
+
+  abbrev Here : Tables
+  Here = tablesWith (E .symbols) (E .rows) C B
+
+  abbrev ws : List Row
+  ws = rowsOf (E .state)
+
+  abbrev L : ℕ
+  L = length (rowsOf (E .state))
+
+  few-inside : k ≤ recordCount F
+  few-inside = omega (arith, E .inside)
+
+  pub stand-of : Standing F k (E .state)
+  stand-of = kept.stand-of (E .kept) few-inside
+
+  pub ok-of : StateOk 4096 (E .state)
+  ok-of = kept.ok-of (E .kept) few-inside
+
+  pub small : k < 4096
+  small = few-records F T k S n Here N A (E .kept) (E .inside)
+
+  pub nodes-room : length N ≡ 32768
+  nodes-room = kept.nodes-room (E .kept) few-inside
+
+  pub nodes-fine : NodesOk N
+  nodes-fine = kept.nodes-fine (E .kept) few-inside
+
+  pub held-count : n .bindings ≡ held (E .state)
+  held-count = ap (λ (c : Counts). c .bindings) (E .kept .counts)
+
+  pub clause-count : n .clauses ≡ length (E .state .clauses)
+  clause-count = ap (λ (c : Counts). c .clauses) (E .kept .counts)
+
+  few-bindings : held (E .state) ≤ 8192
+  unfolding mostBindings
+  few-bindings = ok-of .heldOk
+
+  pub held-few : n .bindings ≤ 8192
+  held-few = omega (arith, held-count, few-bindings)
+
+  pub few-of : n .clauses < 4096
+  few-of = omega (arith, clause-count, few-clauses F T k S n Here N A (E .kept) (E .inside), small)
+
+  cells : length (bindingCells (derivations (E .state))) ≡ 4 * held (E .state)
+  unfolding held
+  cells = all-bindings-length (derivations (E .state))
+
+  pub room-of : 32768 ≤ length B
+  room-of =
+      let b = bindings-here F T k S n Here N A (E .kept) (E .inside) in
+      let z = sizes T (E .kept .long) in
+      let c : length (bindingCells (derivations S)) ≤ 32768 = omega (arith, cells, few-bindings) in
+      rw (ap length b ∙ filled-length 32768 (bindingCells (derivations S)) (T .bindings) c (z .bindings)) (z .bindings)
+
+  -- Clauses and rows, as for every state that the program keeps.
+  pub stored-of : (c : ℕ) (d : Derivation) → clauseOf (E .state) c ≡ some d → Stored F C B c d
+  stored-of c d q = kept.stored-of (E .kept) few-inside c d q
+
+  pub index-of : (c : ℕ) (d : Derivation) → clauseOf (E .state) c ≡ some d → indexCell C c ≡ maximumIndex d
+  index-of c d q = kept.index-of (E .kept) few-inside c d q
+
+  pub literals-of : (c : ℕ) (d : Derivation) → clauseOf (E .state) c ≡ some d → literalsCell C c ≡ length (literals d)
+  literals-of c d q = kept.literals-of (E .kept) few-inside c d q
+
+  pub order-in : (c : ℕ) (d : Derivation) → clauseOf (E .state) c ≡ some d → InOrder (rowsOf (E .state)) (held (E .state)) d
+  order-in c d q = kept.order-in (E .kept) few-inside c d q
+
+  agree : (r : ℕ) → r < length (rowsOf (E .state)) → nodeRow N r ≡ rowOf (E .state) r
+  agree r l = kept.agree (E .kept) few-inside r l
+
+  there : (r : ℕ) → r < length (rowsOf (E .state)) → HasRow N r
+  there r l = kept.there (E .kept) few-inside r l
+
+  pub bindings-in : (c : ℕ) (d : Derivation) → clauseOf (E .state) c ≡ some d → BindingsIn N d
+  bindings-in c d q = kept.bindings-in (E .kept) few-inside c d q
+
+  -- Following and unification over the node table.
+  node-ends : (h : ℕ) (ρ : Environment) → KnownEnvironment (length (rowsOf (E .state))) ρ → ChainsEnd (rowsOf (E .state)) h ρ → (e : Expression) → HasRow N (e .0) → Ends (follow (nodeRow N) h ρ e)
+  node-ends h ρ κ c e r = kept.node-ends (E .kept) few-inside h ρ κ c e r
+
+  node-below : (r s : ℕ) (xs : List ℕ) → nodeRow N r ≡ application s xs → r < length (rowsOf (E .state)) → Below (length (rowsOf (E .state))) xs
+  node-below r s xs q l = below 4096 S ok-of r s xs (sym (agree r l) ∙ q) l
+
+  node-unify : (h : ℕ) (ρ : Environment) (e d : Expression) → KnownEnvironment (length (rowsOf (E .state))) ρ → Known (length (rowsOf (E .state))) e → Known (length (rowsOf (E .state))) d → unify (nodeRow N) h ρ e d ≡ unify (rowOf (E .state)) h ρ e d
+  node-unify h ρ e d κ a b =
+      run-agree (Known L) (Known L) (nodeRow N) (rowOf S) (λ e l. agree (e .0) l) (known-variable L (nodeRow N) (nodeRow N) (λ r l. refl) node-below) (known-arguments L (nodeRow N) (nodeRow N) (λ r l. refl) node-below) mostLinks (noRoom h) ρ mostWork (unifying [] ((e, d) ∷ [])) (κ, (a, b, tt))
+
+  links-there : (h : ℕ) → h ≤ 8192 → h ≤ mostLinks
+  unfolding mostLinks
+  links-there h l = l
+
+  -- What a caller of `load` and `unify_literals` needs.
+  pub load-ready : (c o : ℕ) (d : Derivation) → clauseOf (E .state) c ≡ some d → o + maximumIndex d ≤ 4096 → (Q : List ℕ) → length Q ≡ 524416 → Loadable F C B N Q c o
+  load-ready c o d q f Q v = kept.load-ready (E .kept) few-inside c o d q f Q v
+
+  facing : (ρ : Environment) (top : ℕ) (Q : List ℕ) (e d : Expression) → Models N top Q ρ → KnownEnvironment (length (rowsOf (E .state))) ρ → ChainsEnd (rowsOf (E .state)) (held (E .state)) ρ → InStep N top e → InStep N top d → Facing N top Q (n .bindings) ρ e d
+  facing ρ top Q e d M κ c a b = record { models = M; short = subst (λ (h : ℕ). (x : Expression) → HasRow N (x .0) → Ends (follow (nodeRow N) h ρ x)) (sym held-count) (node-ends (held S) ρ κ c); left = a; right = b }
+
+  outcome-of : (ρ : Environment) (e d : Expression) → KnownEnvironment (length (rowsOf (E .state))) ρ → Known (length (rowsOf (E .state))) e → Known (length (rowsOf (E .state))) d → (o : Outcome) → unify (nodeRow N) (n .bindings) ρ e d ≡ o → unify (rowOf (E .state)) (held (E .state)) ρ e d ≡ o
+  outcome-of ρ e d κ a b o q = sym (node-unify (held S) ρ e d κ a b) ∙ ap (λ (h : ℕ). unify (nodeRow N) h ρ e d) (sym held-count) ∙ q
+
+  atom-known : (c r i : ℕ) (x : AtomOf (E .state) c r i) → Known (length (rowsOf (E .state))) (x .literal .1) × In (maximumIndex (x .clause)) (x .literal .1 .1)
+  atom-known c r i x =
+      let o = order-in c (x .clause) (x .isClause) in
+      (known-numbered L (x .clause) (o .known) (x .number) (x .literal) (x .isLiteral), each-numbered (LiteralIn (maximumIndex (x .clause))) (literals (x .clause)) (x .number) (x .literal) (x .isLiteral) (literals-in (x .clause)))
+
+  -- The two parents of a resolve.
+  module _ (a b c d e f : ℕ) (x : AtomOf (E .state) a b c) (y : AtomOf (E .state) d e f) (fits : maximumIndex (x .clause) + maximumIndex (y .clause) ≤ 4096) where
+    abbrev l : Derivation
+    l = x .clause
+
+    abbrev r : Derivation
+    r = y .clause
+
+    abbrev ρ : Environment
+    ρ = joined (maximumIndex (x .clause)) (lookup (x .clause)) (lookup (y .clause))
+
+    X : InOrder (rowsOf (E .state)) (held (E .state)) (x .clause)
+    X = order-in a l (x .isClause)
+
+    Y : InOrder (rowsOf (E .state)) (held (E .state)) (y .clause)
+    Y = order-in d r (y .isClause)
+
+    both-known : KnownEnvironment (length (rowsOf (E .state))) (joined (maximumIndex (x .clause)) (lookup (x .clause)) (lookup (y .clause)))
+    both-known = known-joined L (maximumIndex l) (lookup l) (lookup r) (known-of 4096 S ok-of l X) (known-of 4096 S ok-of r Y)
+
+    both-chains : ChainsEnd (rowsOf (E .state)) (held (E .state)) (joined (maximumIndex (x .clause)) (lookup (x .clause)) (lookup (y .clause)))
+    both-chains = short-joined (λ r. r < L) (rowOf S) (maximumIndex l) (maximumIndex r) (lookup l) (lookup r) (lookup-in (rowOf S) l (X .valid)) (lookup-in (rowOf S) r (Y .valid)) (held S) (X .chains) (Y .chains)
+
+    pub resolve-facing : (raised top : ℕ) → raised ≡ indexCell C a → top ≡ raised + indexCell C d → (A₁ A₂ A₃ : List ℕ) → Cleared A A₁ (128 * (top + 1)) → Loaded F C B N A₁ A₂ a 0 → Loaded F C B N A₂ A₃ d raised
+        → Facing N top A₃ (n .bindings) (joined (maximumIndex (x .clause)) (lookup (x .clause)) (lookup (y .clause))) (b, c) (e, raised + f)
+    resolve-facing raised top pr pt A₁ A₂ A₃ K U W =
+        let pl : raised ≡ maximumIndex l = pr ∙ index-of a l (x .isClause) in
+        let pq : top ≡ maximumIndex l + maximumIndex r = pt ∙ ap₂ _+_ pl (index-of d r (y .isClause)) in
+        let kx = atom-known a b c x in
+        let ky = atom-known d e f y in
+        let xr = x .isRow in
+        let xi = x .isIndex in
+        let yr = y .isRow in
+        let yi = y .isIndex in
+        let xin = kx .1 in
+        let yin = ky .1 in
+        facing ρ top A₃ (b, c) (e, raised + f)
+        (resolve-models nodes-fine (stored-of a l (x .isClause)) (bindings-in a l (x .isClause)) (stored-of d r (y .isClause)) (bindings-in d r (y .isClause)) pl (sym pq) (omega arith) (cleared-free N A A₁ top nodes-fine K) U W
+        (λ g h. short-le-node g h))
+        both-known both-chains
+        (record { row = there b (rw (← xr) (kx .0)); low = omega arith; high = omega arith })
+        (record { row = there e (rw (← yr) (ky .0)); low = omega arith; high = omega arith })
+      where
+        short-le-node : (g : Expression) → HasRow N (g .0) → Ends (follow (nodeRow N) mostLinks (joined (maximumIndex (x .clause)) (lookup (x .clause)) (lookup (y .clause))) g)
+        short-le-node g h = node-ends mostLinks ρ both-known (short-le (λ r. r < L) (rowOf S) (held S) mostLinks ρ (held-links 4096 S ok-of) both-chains) g h
+
+    pub resolve-outcome : (raised : ℕ) → raised ≡ indexCell C a → (o : Outcome) → unify (nodeRow N) (n .bindings) (joined (maximumIndex (x .clause)) (lookup (x .clause)) (lookup (y .clause))) (b, c) (e, raised + f) ≡ o → unifyResolve (E .state) (atomNamed x) (atomNamed y) ≡ o
+    resolve-outcome raised pr o q =
+        let pl : raised ≡ maximumIndex l = pr ∙ index-of a l (x .isClause) in
+        outcome-of ρ (x .literal .1) (raise (maximumIndex l) (y .literal .1)) both-known (atom-known a b c x .0) (atom-known d e f y .0) o
+        ((λ i. unify (nodeRow N) (n .bindings) ρ (x .isRow i, x .isIndex i) (y .isRow i, sym pl i + y .isIndex i)) ∙ q)
+
+  -- The parent of a factor.
+  module _ (a b c d e f : ℕ) (x : AtomOf (E .state) a b c) (y : AtomOf (E .state) d e f) (p : d ≡ a) where
+    abbrev m : Derivation
+    m = x .clause
+
+    O : InOrder (rowsOf (E .state)) (held (E .state)) (x .clause)
+    O = order-in a m (x .isClause)
+
+    same-clause : y .clause ≡ x .clause
+    same-clause = some-injective (sym (y .isClause) ∙ ap (clauseOf S) p ∙ x .isClause)
+
+    one-known : KnownEnvironment (length (rowsOf (E .state))) (lookup (x .clause))
+    one-known = known-of 4096 S ok-of m O
+
+    parent-small : maximumIndex (x .clause) ≤ 4096
+    parent-small = kept.index-fits (E .kept) few-inside a m (x .isClause)
+
+    pub factor-fits : 0 + maximumIndex (x .clause) ≤ 4096
+    factor-fits = omega (arith, parent-small)
+
+    pub factor-facing : (top : ℕ) → top ≡ indexCell C a → (A₁ A₂ : List ℕ) → Cleared A A₁ (128 * (top + 1)) → Loaded F C B N A₁ A₂ a 0 → Facing N top A₂ (n .bindings) (lookup (x .clause)) (b, c) (e, f)
+    factor-facing top pt A₁ A₂ K U =
+        let pq : top ≡ maximumIndex m = pt ∙ index-of a m (x .isClause) in
+        let kx = atom-known a b c x in
+        let ky = atom-known d e f y in
+        let xr = x .isRow in
+        let xi = x .isIndex in
+        let yr = y .isRow in
+        let yi = y .isIndex in
+        let xin = kx .1 in
+        let yin : In (maximumIndex m) (y .literal .1 .1) = subst (λ (z : Derivation). In (maximumIndex z) (y .literal .1 .1)) same-clause (ky .1) in
+        let s = parent-small in
+        facing (lookup m) top A₂ (b, c) (e, f)
+        (kept.clause-models (E .kept) few-inside a m (x .isClause) top pq A A₁ A₂ K U)
+        one-known (O .chains)
+        (record { row = there b (rw (← xr) (kx .0)); low = omega arith; high = omega arith })
+        (record { row = there e (rw (← yr) (ky .0)); low = omega arith; high = omega arith })
+
+    pub factor-outcome : (o : Outcome) → unify (nodeRow N) (n .bindings) (lookup (x .clause)) (b, c) (e, f) ≡ o → unifyFactor (E .state) (atomNamed x) (atomNamed y) ≡ o
+    factor-outcome o q =
+        outcome-of (lookup m) (x .literal .1) (y .literal .1) one-known (atom-known a b c x .0) (atom-known d e f y .0) o
+        ((λ i. unify (nodeRow N) (n .bindings) (lookup m) (x .isRow i, x .isIndex i) (y .isRow i, y .isIndex i)) ∙ q)
+
+  -- What unification is handed.
+  pub ready : (ρ : Environment) (top : ℕ) (Q : List ℕ) (e d : Expression) → Facing N top Q (n .bindings) ρ e d → Ready N Q B (n .bindings) e d
+  ready ρ top Q e d G = record { nodes = nodes-room; values = G .models .room; bindings = room-of; few = held-few; top = top; environment = ρ; facing = G }
+
+unified-tables : (N A₂ A₃ B B′ : List ℕ) (held : ℕ) (e d : Expression) (u : Unified) → Answered N A₂ A₃ B B′ held e d u → UnifiedTables B B′ A₃ held u
+unified-tables N A₂ A₃ B B′ held e d u W = record { values = W .values; bindings = W .bindings; before = W .before; counted = W .counted }
+
+-- The needs of the program's functions, one law for each.
+module _ {F : List ℕ} {k : ℕ} {n : Counts} {C B N A : List ℕ} {x y : Atom} where
+  pub factor-clear : (R : Factoring F k n C B N A x y) (top : ℕ) → top ≡ indexCell C (x .clause) → (length A ≡ 524416) × (top ≤ 4096)
+  factor-clear R top p =
+      let q = factor-fits (R .step) (x .clause) (x .row) (x .index) (y .clause) (y .row) (y .index) (R .kept) (R .deleted) (R .sameClause) in
+      (R .step .kept .values, omega (arith, p, index-of (R .step) (x .clause) (R .kept .clause) (R .kept .isClause), q))
+
+  pub factor-load : (R : Factoring F k n C B N A x y) (A₁ : List ℕ) → length A₁ ≡ 524416 → Loadable F C B N A₁ (x .clause) 0
+  factor-load R A₁ l = load-ready (R .step) (x .clause) 0 (R .kept .clause) (R .kept .isClause) (factor-fits (R .step) (x .clause) (x .row) (x .index) (y .clause) (y .row) (y .index) (R .kept) (R .deleted) (R .sameClause)) A₁ l
+
+  factor-faces : (R : Factoring F k n C B N A x y) (top : ℕ) → top ≡ indexCell C (x .clause) → (A₁ A₂ : List ℕ) → Cleared A A₁ (128 * (top + 1)) → Loaded F C B N A₁ A₂ (x .clause) 0 → Facing N top A₂ (n .bindings) (lookup (R .kept .clause)) (x .row, x .index) (y .row, y .index)
+  factor-faces R top p A₁ A₂ K L = factor-facing (R .step) (x .clause) (x .row) (x .index) (y .clause) (y .row) (y .index) (R .kept) (R .deleted) (R .sameClause) top p A₁ A₂ K L
+
+  pub factor-ready : (R : Factoring F k n C B N A x y) (top : ℕ) → top ≡ indexCell C (x .clause) → (A₁ A₂ : List ℕ) → Cleared A A₁ (128 * (top + 1)) → Loaded F C B N A₁ A₂ (x .clause) 0 → Ready N A₂ B (n .bindings) (x .row, x .index) (y .row, y .index)
+  factor-ready R top p A₁ A₂ K L = ready (R .step) (lookup (R .kept .clause)) top A₂ (x .row, x .index) (y .row, y .index) (factor-faces R top p A₁ A₂ K L)
+
+  pub factor-unified : (top : ℕ) → top ≡ indexCell C (x .clause) → (A₁ A₂ A₃ B′ : List ℕ) (u : Unified) → Cleared A A₁ (128 * (top + 1)) → Loaded F C B N A₁ A₂ (x .clause) 0 → Answered N A₂ A₃ B B′ (n .bindings) (x .row, x .index) (y .row, y .index) u
+      → ((R : Factoring F k n C B N A x y) → unifyFactor (R .step .state) (atomNamed (R .kept)) (atomNamed (R .deleted)) ≡ outcomeOf B′ (n .bindings) u) × UnifiedTables B B′ A₃ (n .bindings) u
+  factor-unified top p A₁ A₂ A₃ B′ u K L W = (
+    λ R. factor-outcome (R .step) (x .clause) (x .row) (x .index) (y .clause) (y .row) (y .index) (R .kept) (R .deleted) (R .sameClause) (outcomeOf B′ (n .bindings) u) (W .outcome top (lookup (R .kept .clause)) (factor-faces R top p A₁ A₂ K L)),
+    unified-tables N A₂ A₃ B B′ (n .bindings) (x .row, x .index) (y .row, y .index) u W,
+  )
+
+  pub resolve-top : (R : Resolving F k n C B N A x y) (raised other : ℕ) → raised ≡ indexCell C (x .clause) → other ≡ indexCell C (y .clause) → raised + other ≤ 4096
+  resolve-top R raised other p q = omega (arith, p ∙ index-of (R .step) (x .clause) (R .left .clause) (R .left .isClause), q ∙ index-of (R .step) (y .clause) (R .right .clause) (R .right .isClause), R .fits)
+
+  pub resolve-clear : (R : Resolving F k n C B N A x y) (raised other : ℕ) → raised ≡ indexCell C (x .clause) → other ≡ indexCell C (y .clause) → (length A ≡ 524416) × (raised + other ≤ 4096)
+  resolve-clear R raised other p q = (R .step .kept .values, resolve-top R raised other p q)
+
+  pub resolve-load : (R : Resolving F k n C B N A x y) (A₁ : List ℕ) → length A₁ ≡ 524416 → Loadable F C B N A₁ (x .clause) 0
+  resolve-load R A₁ l = load-ready (R .step) (x .clause) 0 (R .left .clause) (R .left .isClause) (omega (arith, R .fits)) A₁ l
+
+  pub resolve-load-right : (R : Resolving F k n C B N A x y) (raised : ℕ) → raised ≡ indexCell C (x .clause) → (A₂ : List ℕ) → length A₂ ≡ 524416 → Loadable F C B N A₂ (y .clause) raised
+  resolve-load-right R raised p A₂ l = load-ready (R .step) (y .clause) raised (R .right .clause) (R .right .isClause) (omega (arith, p ∙ index-of (R .step) (x .clause) (R .left .clause) (R .left .isClause), R .fits)) A₂ l
+
+  resolve-faces : (R : Resolving F k n C B N A x y) (raised other : ℕ) → raised ≡ indexCell C (x .clause) → other ≡ indexCell C (y .clause) → (A₁ A₂ A₃ : List ℕ) → Cleared A A₁ (128 * ((raised + other) + 1)) → Loaded F C B N A₁ A₂ (x .clause) 0 → Loaded F C B N A₂ A₃ (y .clause) raised
+      → Facing N (raised + other) A₃ (n .bindings) (joined (maximumIndex (R .left .clause)) (lookup (R .left .clause)) (lookup (R .right .clause))) (x .row, x .index) (y .row, raised + y .index)
+  resolve-faces R raised other p q A₁ A₂ A₃ K L M = resolve-facing (R .step) (x .clause) (x .row) (x .index) (y .clause) (y .row) (y .index) (R .left) (R .right) (R .fits) raised (raised + other) p (ap (λ (z : ℕ). raised + z) q) A₁ A₂ A₃ K L M
+
+  pub resolve-ready : (R : Resolving F k n C B N A x y) (raised other : ℕ) → raised ≡ indexCell C (x .clause) → other ≡ indexCell C (y .clause) → (A₁ A₂ A₃ : List ℕ) → Cleared A A₁ (128 * ((raised + other) + 1)) → Loaded F C B N A₁ A₂ (x .clause) 0 → Loaded F C B N A₂ A₃ (y .clause) raised
+      → Ready N A₃ B (n .bindings) (x .row, x .index) (y .row, raised + y .index)
+  resolve-ready R raised other p q A₁ A₂ A₃ K L M =
+      ready (R .step) (joined (maximumIndex (R .left .clause)) (lookup (R .left .clause)) (lookup (R .right .clause))) (raised + other) A₃ (x .row, x .index) (y .row, raised + y .index) (resolve-faces R raised other p q A₁ A₂ A₃ K L M)
+
+  -- The raised index of the right atom fits.
+  pub resolve-index : (R : Resolving F k n C B N A x y) (raised : ℕ) → raised ≡ indexCell C (x .clause) → raised + y .index ≤ 4096
+  resolve-index R raised p =
+      let i = atom-known (R .step) (y .clause) (y .row) (y .index) (R .right) .1 in
+      omega (arith, p ∙ index-of (R .step) (x .clause) (R .left .clause) (R .left .isClause), R .fits, i, R .right .isIndex)
+
+  pub resolve-unified : (raised other : ℕ) → raised ≡ indexCell C (x .clause) → other ≡ indexCell C (y .clause) → (A₁ A₂ A₃ A₄ B′ : List ℕ) (u : Unified) → Cleared A A₁ (128 * ((raised + other) + 1)) → Loaded F C B N A₁ A₂ (x .clause) 0 → Loaded F C B N A₂ A₃ (y .clause) raised
+      → Answered N A₃ A₄ B B′ (n .bindings) (x .row, x .index) (y .row, raised + y .index) u
+      → ((R : Resolving F k n C B N A x y) → unifyResolve (R .step .state) (atomNamed (R .left)) (atomNamed (R .right)) ≡ outcomeOf B′ (n .bindings) u) × UnifiedTables B B′ A₄ (n .bindings) u
+  resolve-unified raised other p q A₁ A₂ A₃ A₄ B′ u K L M W = (
+    λ R. resolve-outcome (R .step) (x .clause) (x .row) (x .index) (y .clause) (y .row) (y .index) (R .left) (R .right) (R .fits) raised p (outcomeOf B′ (n .bindings) u) (W .outcome (raised + other) (joined (maximumIndex (R .left .clause)) (lookup (R .left .clause)) (lookup (R .right .clause))) (resolve-faces R raised other p q A₁ A₂ A₃ K L M)),
+    unified-tables N A₃ A₄ B B′ (n .bindings) (x .row, x .index) (y .row, raised + y .index) u W,
+  )
+
+-- Finishing a step.
+pub finish-up : (held : ℕ) (u : Unified) (w h : ℕ) → u ≡ Done w h → HeldUpTo held u → (held ≤ h) × (h ≤ 8192)
+finish-up held u w h p q = subst (HeldUpTo held) p q
+
+pub finish-done : (u : Unified) (w h k : ℕ) (n : Counts) (l i : ℕ) (C C′ B : List ℕ) → u ≡ Done w h → C′ ≡ withClauseCells C (n .clauses) k l i (n .bindings) (h - n .bindings) → finished (Stands (withStep n h)) C′ B ≡ stepFinished u k n l i C B
+finish-done u w h k n l i C C′ B p q = ap (λ (x : List ℕ). finished (Stands (withStep n h)) x B) q ∙ sym (ap (λ (v : Unified). stepFinished v k n l i C B) p)
+
+pub finish-refused : (u : Unified) (q k : ℕ) (n : Counts) (l i : ℕ) (C B B′ : List ℕ) → u ≡ unified-variants.Refused q → B′ ≡ clearedPart (4 * n .bindings) 32768 B → finished (Refused q) C B′ ≡ stepFinished u k n l i C B
+finish-refused u q k n l i C B B′ p e = ap (λ (x : List ℕ). finished (Refused q) C x) e ∙ sym (ap (λ (v : Unified). stepFinished v k n l i C B) p)

@@ -1,0 +1,174 @@
+-- A resolve or a factor on literals that exist and fit: its limits, unification, and its end.
+use mathlib.Core.Path.{_≡_, refl, sym, ap, ap₂, _∙_, subst}
+use mathlib.Core.Bool.{Bool, true, false, _&&_}
+use mathlib.Core.Option.{Option, some}
+use mathlib.Core.List.{List, [], _∷_, map}
+use Prim.Native.Nat.{ℕ, zero, suc, _+_, _-_, _≤_, _<_}
+use native.Mathlib.Omega.{arith}
+use lib.Dec.{leb}
+use lib.ListN.{length, length-append, length-map}
+use borrow.Author.Tests.{le-leb, lt-leb}
+use Rattle.record.specs.Record.{Record, recordPart, decoded, resolveKind, factorKind, fieldA, fieldB, fieldC, fieldD}
+use Rattle.unification.specs.Environment.{Binding}
+use Rattle.unify.specs.Unifying.{outcomeOf}
+use Rattle.unification.proofs.Tests.{some-not-none, some-injective}
+use Rattle.derivation.specs.Derivation.{literals, Literal, Derivation, resolve, factor, numbered, without, raiseLiteral, maximumIndex}
+use Rattle.derivation.specs.Stored.{literalsCell, indexCell}
+use Rattle.verdict.specs.Refusal.{tooLarge, mostLiterals, mostIndex, isThere, onBoth, resultFits, withinLimits}
+use Rattle.verdict.specs.State.{State, clauseOf}
+use Rattle.verdict.specs.Step.{require, step, addClause, unifyResolve, unifyFactor, onNamed}
+use Rattle.inference.specs.Stepping.{atomNamed, Resolving, Factoring, UnifiedTables, finished, stepFinished, ResolveNamed, FactorNamed, StepRead}
+use Rattle.entry.proofs.Entering.{and-false}
+use Rattle.verdict.proofs.Inversions.{literal-named}
+use Rattle.inference.proofs.StepEnds.{step-ended}
+use Rattle.inference.proofs.StepLaws.{index-of, literals-of}
+use Rattle.inference.proofs.StepTests.{Step, refuse, index-small, literals-small, resolve-kind, factor-kind, step-tests}
+use Rattle.unify.specs.declared.pairs.Unified.{Unified}
+use Rattle.entry.specs.declared.entry.Counts.{Counts}
+use Rattle.entry.specs.declared.entry.Entered.{Entered}
+use Rattle.entry.specs.declared.entry.Entered.the-variants.{Refused}
+use Rattle.inference.specs.declared.inference.Atom.{Atom}
+
+-- Without a literal that exists there is one fewer.
+one-fewer : {A : Type 0} (xs : List A) (a : ℕ) (x : A) → numbered xs a ≡ some x → length (without xs a) + 1 ≡ length xs
+one-fewer [] a x q = absurd (some-not-none refl q)
+one-fewer (y ∷ ys) zero x q = absurd (some-not-none refl q)
+one-fewer (y ∷ ys) (suc zero) x q = omega arith
+one-fewer (y ∷ ys) (suc (suc a)) x q = let h = one-fewer ys (suc a) x q in omega arith
+
+module _ {F : List ℕ} {k : ℕ} {n : Counts} {C B N A : List ℕ} {x y : Atom} (R : ResolveNamed F k n C B N A x y) where
+  abbrev S : State
+  S = R .step .state
+
+  abbrev rec : Record
+  rec = decoded (recordPart F k)
+
+  abbrev l : Derivation
+  l = R .left .clause
+
+  abbrev r : Derivation
+  r = R .right .clause
+
+  abbrev result : List Binding → Derivation
+  result bs = resolve (R .left .clause) (fieldB (decoded (recordPart F k))) (R .right .clause) (fieldD (decoded (recordPart F k))) bs
+
+  left-fewer : length (without (literals (R .left .clause)) (fieldB (decoded (recordPart F k)))) + 1 ≡ length (literals (R .left .clause))
+  left-fewer = one-fewer (literals l) (fieldB rec) (R .left .literal) (literal-named S (fieldA rec) (fieldB rec) (atomNamed (R .left)) (R .isLeft) .1)
+
+  right-fewer : length (without (literals (R .right .clause)) (fieldD (decoded (recordPart F k)))) + 1 ≡ length (literals (R .right .clause))
+  right-fewer = one-fewer (literals r) (fieldD rec) (R .right .literal) (literal-named S (fieldC rec) (fieldD rec) (atomNamed (R .right)) (R .isRight) .1)
+
+  left-small : length (literals (R .left .clause)) ≤ 128
+  left-small = literals-small (R .step) (x .clause) l (R .left .isClause)
+
+  right-small : length (literals (R .right .clause)) ≤ 128
+  right-small = literals-small (R .step) (y .clause) r (R .right .isClause)
+
+  -- The cells that the program reads.
+  module _ (lc rc : ℕ) (pl : lc ≡ literalsCell C (x .clause)) (pr : rc ≡ literalsCell C (y .clause)) where
+    lc-is : lc ≡ length (literals (R .left .clause))
+    lc-is = pl ∙ literals-of (R .step) (x .clause) l (R .left .isClause)
+
+    rc-is : rc ≡ length (literals (R .right .clause))
+    rc-is = pr ∙ literals-of (R .step) (y .clause) r (R .right .isClause)
+
+    pub literals-sum : (2 ≤ lc + rc) × (lc + rc ≤ 256)
+    literals-sum = (omega (arith, lc-is, rc-is, left-fewer, right-fewer), omega (arith, lc-is, rc-is, left-small, right-small))
+
+    literals-result : (bs : List Binding) → (lc + rc) - 2 ≡ length (literals (result bs))
+    literals-result bs =
+        let a = length-append (without (literals l) (fieldB rec)) (map (raiseLiteral (maximumIndex l)) (without (literals r) (fieldD rec))) in
+        let b = length-map (without (literals r) (fieldD rec)) (raiseLiteral (maximumIndex l)) in
+        omega (arith, lc-is, rc-is, left-fewer, right-fewer, a, b)
+
+  module _ (li ri : ℕ) (pl : li ≡ indexCell C (x .clause)) (pr : ri ≡ indexCell C (y .clause)) where
+    li-is : li ≡ maximumIndex (R .left .clause)
+    li-is = pl ∙ index-of (R .step) (x .clause) l (R .left .isClause)
+
+    ri-is : ri ≡ maximumIndex (R .right .clause)
+    ri-is = pr ∙ index-of (R .step) (y .clause) r (R .right .isClause)
+
+    pub index-sum : li + ri ≤ 8192
+    index-sum = omega (arith, li-is, ri-is, index-small (R .step) (x .clause) l (R .left .isClause), index-small (R .step) (y .clause) r (R .right .isClause))
+
+    index-result : (bs : List Binding) → li + ri ≡ maximumIndex (result bs)
+    index-result bs = ap₂ _+_ li-is ri-is
+
+    pub resolving : li + ri ≤ 4096 → Resolving F k n C B N A x y
+    resolving m = record { step = R .step; left = R .left; right = R .right; fits = omega (arith, li-is, ri-is) }
+
+  -- What is left of the step.
+  limits : withinLimits (R .step .state) resolveKind (decoded (recordPart F k)) ≡ resultFits (result [])
+  limits = ap₂ (λ (o p : Option (Derivation × Literal)). onBoth (λ x y. resultFits (resolve (x .0) (fieldB rec) (y .0) (fieldD rec) [])) o p) (R .isLeft) (R .isRight)
+
+  limited : (d : Bool) → resultFits (result []) ≡ d → Step (R .step) resolveKind true true true d
+  limited d q = step-tests (R .step) resolveKind (resolve-kind (R .step) (R .isResolve)) refl refl refl true true true d (R .ranged) (ap₂ (λ (o p : Option (Derivation × Literal)). isThere o && isThere p) (R .isLeft) (R .isRight)) (R .signs) (limits ∙ q)
+
+  too-large : resultFits (result []) ≡ false → StepRead F k n C B N A (R .step) C B A (Refused 9)
+  unfolding require
+  too-large q = refuse (R .step) tooLarge (limited false q)
+
+  pub too-many-literals : (lc rc : ℕ) → lc ≡ literalsCell C (x .clause) → rc ≡ literalsCell C (y .clause) → 128 < (lc + rc) - 2 → StepRead F k n C B N A (R .step) C B A (Refused 9)
+  unfolding mostLiterals
+  too-many-literals lc rc pl pr m = too-large (ap (λ (b : Bool). b && leb (maximumIndex (result [])) mostIndex) (lt-leb (length (literals (result []))) 128 (subst (λ (z : ℕ). 128 < z) (literals-result lc rc pl pr []) m)))
+
+  pub too-high-index : (li ri : ℕ) → li ≡ indexCell C (x .clause) → ri ≡ indexCell C (y .clause) → 4096 < li + ri → StepRead F k n C B N A (R .step) C B A (Refused 9)
+  unfolding mostIndex
+  too-high-index li ri pl pr m = too-large (ap (λ (b : Bool). leb (length (literals (result []))) mostLiterals && b) (lt-leb (maximumIndex (result [])) 4096 (subst (λ (z : ℕ). 4096 < z) (index-result li ri pl pr []) m)) ∙ and-false (leb (length (literals (result []))) mostLiterals))
+
+  entered : resultFits (result []) ≡ true → step (R .step .state) k (decoded (recordPart F k)) ≡ addClause (R .step .state) k result (unifyResolve (R .step .state) (atomNamed (R .left)) (atomNamed (R .right)))
+  unfolding require
+  entered q = limited true q ∙ ap₂ (λ (o p : Option (Derivation × Literal)). onNamed (λ x y. addClause S k (resolve (x .0) (fieldB rec) (y .0) (fieldD rec)) (unifyResolve S x y)) o p) (R .isLeft) (R .isRight)
+
+  module _ (lc rc li ri : ℕ) (pl : lc ≡ literalsCell C (x .clause)) (pr : rc ≡ literalsCell C (y .clause)) (ql : li ≡ indexCell C (x .clause)) (qr : ri ≡ indexCell C (y .clause)) (few : (lc + rc) - 2 ≤ 128) (low : li + ri ≤ 4096) where
+    fits : resultFits (result []) ≡ true
+    unfolding mostLiterals mostIndex
+    fits = ap₂ (λ (a b : Bool). a && b) (le-leb (length (literals (result []))) 128 (subst (λ (z : ℕ). z ≤ 128) (literals-result lc rc pl pr []) few)) (le-leb (maximumIndex (result [])) 4096 (subst (λ (z : ℕ). z ≤ 4096) (index-result li ri ql qr []) low))
+
+    pub resolve-ended : (B′ A′ : List ℕ) (u : Unified) → ((Q : Resolving F k n C B N A x y) → unifyResolve (Q .step .state) (atomNamed (Q .left)) (atomNamed (Q .right)) ≡ outcomeOf B′ (n .bindings) u) → UnifiedTables B B′ A′ (n .bindings) u
+        → (e : Entered) (C₂ B₂ : List ℕ) → finished e C₂ B₂ ≡ stepFinished u k n ((lc + rc) - 2) (li + ri) C B′ → StepRead F k n C B N A (R .step) C₂ B₂ A′ e
+    unfolding resolving
+    resolve-ended B′ A′ u o U e C₂ B₂ q =
+        step-ended (R .step) result ((lc + rc) - 2) (li + ri) (literals-result lc rc pl pr) (index-result li ri ql qr) (λ bs. refl) B′ A′ u (entered fits ∙ ap (addClause S k result) (o (resolving li ri ql qr low))) U e C₂ B₂ q
+
+module _ {F : List ℕ} {k : ℕ} {n : Counts} {C B N A : List ℕ} {x y : Atom} (R : FactorNamed F k n C B N A x y) where
+  abbrev factored : List Binding → Derivation
+  factored bs = factor (R .kept .clause) (fieldB (decoded (recordPart F k))) (fieldC (decoded (recordPart F k))) bs
+
+  same-parent : R .deleted .clause ≡ R .kept .clause
+  same-parent = some-injective (sym (R .deleted .isClause) ∙ ap (clauseOf (R .step .state)) (R .sameClause) ∙ R .kept .isClause)
+
+  kept-fewer : length (without (literals (R .kept .clause)) (fieldC (decoded (recordPart F k)))) + 1 ≡ length (literals (R .kept .clause))
+  kept-fewer =
+      let d = literal-named (R .step .state) (fieldA (decoded (recordPart F k))) (fieldC (decoded (recordPart F k))) (atomNamed (R .deleted)) (R .isDeleted) .1 in
+      one-fewer (literals (R .kept .clause)) (fieldC (decoded (recordPart F k))) (R .deleted .literal) (ap (λ (c : Derivation). numbered (literals c) (fieldC (decoded (recordPart F k)))) (sym same-parent) ∙ d)
+
+  pub factoring : Factoring F k n C B N A x y
+  factoring = record { step = R .step; sameClause = R .sameClause; kept = R .kept; deleted = R .deleted }
+
+  factor-limits : withinLimits (R .step .state) factorKind (decoded (recordPart F k)) ≡ true
+  unfolding mostLiterals mostIndex
+  factor-limits =
+      let c = R .kept .clause in
+      let m : length (literals (factored [])) ≤ 128 = omega (arith, kept-fewer, literals-small (R .step) (x .clause) c (R .kept .isClause)) in
+      ap₂ (λ (o p : Option (Derivation × Literal)). onBoth (λ x y. resultFits (factor (x .0) (fieldB (decoded (recordPart F k))) (fieldC (decoded (recordPart F k))) [])) o p) (R .isKept) (R .isDeleted)
+      ∙ ap₂ (λ (a b : Bool). a && b) (le-leb (length (literals (factored []))) 128 m) (le-leb (maximumIndex c) 4096 (index-small (R .step) (x .clause) c (R .kept .isClause)))
+
+  factor-entered : step (R .step .state) k (decoded (recordPart F k)) ≡ addClause (R .step .state) k factored (unifyFactor (R .step .state) (atomNamed (R .kept)) (atomNamed (R .deleted)))
+  unfolding require
+  factor-entered =
+      step-tests (R .step) factorKind (factor-kind (R .step) (R .isFactor)) refl refl refl true true true true (R .ranged) (ap₂ (λ (o p : Option (Derivation × Literal)). isThere o && isThere p) (R .isKept) (R .isDeleted)) (R .signs) factor-limits
+      ∙ ap₂ (λ (o p : Option (Derivation × Literal)). onNamed (λ x y. addClause (R .step .state) k (factor (x .0) (fieldB (decoded (recordPart F k))) (fieldC (decoded (recordPart F k)))) (unifyFactor (R .step .state) x y)) o p) (R .isKept) (R .isDeleted)
+
+  module _ (lc : ℕ) (pl : lc ≡ literalsCell C (x .clause)) where
+    lc-kept : lc ≡ length (literals (R .kept .clause))
+    lc-kept = pl ∙ literals-of (R .step) (x .clause) (R .kept .clause) (R .kept .isClause)
+
+    pub factor-literals : 1 ≤ lc
+    factor-literals = omega (arith, lc-kept, kept-fewer)
+
+    pub factor-ended : (ix : ℕ) → ix ≡ indexCell C (x .clause) → (B′ A′ : List ℕ) (u : Unified) → ((Q : Factoring F k n C B N A x y) → unifyFactor (Q .step .state) (atomNamed (Q .kept)) (atomNamed (Q .deleted)) ≡ outcomeOf B′ (n .bindings) u) → UnifiedTables B B′ A′ (n .bindings) u
+        → (e : Entered) (C₂ B₂ : List ℕ) → finished e C₂ B₂ ≡ stepFinished u k n (lc - 1) ix C B′ → StepRead F k n C B N A (R .step) C₂ B₂ A′ e
+    unfolding factoring
+    factor-ended ix pi B′ A′ u o U e C₂ B₂ q =
+        step-ended (R .step) factored (lc - 1) ix (λ bs. omega (arith, lc-kept, kept-fewer)) (λ bs. pi ∙ index-of (R .step) (x .clause) (R .kept .clause) (R .kept .isClause)) (λ bs. refl) B′ A′ u (factor-entered ∙ ap (addClause (R .step .state) k factored) (o factoring)) U e C₂ B₂ q

@@ -1,0 +1,139 @@
+-- Resolve and factor in the program: the contracts of its inner functions. No demand needs this file.
+use mathlib.Core.Path.{_≡_}
+use mathlib.Core.Bool.{true}
+use mathlib.Core.Option.{Option, none, some}
+use mathlib.Core.List.{List}
+use Prim.Native.Nat.{ℕ, _+_, _-_, _*_, _≤_, _<_}
+use lib.ListN.{length, getD}
+use Rattle.record.specs.Record.{recordCount, recordPart, kindOf, decoded, resolveKind, factorKind}
+use Rattle.unify.specs.Unifying.{Counted}
+use Rattle.derivation.specs.Derivation.{literals, Literal, Derivation, numbered, maximumIndex}
+use Rattle.derivation.specs.Stored.{Stored}
+use Rattle.entry.specs.Program.{clearedPart, withClauseCells}
+use Rattle.entry.specs.Progress.{Kept, Next}
+use Rattle.verdict.specs.Refusal.{inRange, leftOf, rightOf, deletedOf, fittingSigns}
+use Rattle.verdict.specs.State.{State, clauseOf}
+use Rattle.verdict.specs.Tables.{Tables}
+use Rattle.unify.specs.declared.pairs.Unified.{Unified}
+use Rattle.unify.specs.declared.pairs.Unified.the-variants.{Done, Refused}
+use Rattle.entry.specs.declared.entry.Counts.{Counts}
+use Rattle.entry.specs.declared.entry.Entered.{Entered}
+use Rattle.entry.specs.declared.entry.Entered.the-variants.{Stands}
+use Rattle.entry.specs.declared.entry.Entered.the-variants as entered
+use Rattle.loading.specs.declared.literal.NamedLiteral.{NamedLiteral}
+use Rattle.loading.specs.declared.literal.NamedLiteral.the-variants.{Found, Absent}
+use Rattle.inference.specs.declared.inference.Atom.{Atom}
+
+-- The tables, of which a step reads and writes the clauses and the bindings.
+abbrev pub tablesWith : List ℕ → List ℕ → List ℕ → List ℕ → Tables
+tablesWith symbols rows C B = record { symbols = symbols; rows = rows; clauses = C; bindings = B }
+
+-- What a function on a step asks: what the program keeps before record k, for some tables of symbols and rows.
+pub record BeforeStep (F : List ℕ) (k : ℕ) (n : Counts) (C B N A : List ℕ) : Type 0 where
+  pub inside : k < recordCount F
+  pub tablesBefore : Tables
+  pub state : State
+  pub symbols : List ℕ
+  pub rows : List ℕ
+  pub kept : Kept F tablesBefore k state n (tablesWith symbols rows C B) N A
+
+-- A literal of clause c that exists, with the row and index of its atom.
+pub record AtomOf (S : State) (c r i : ℕ) : Type 0 where
+  pub clause : Derivation
+  pub literal : Literal
+  pub number : ℕ
+  pub isClause : clauseOf S c ≡ some clause
+  pub isLiteral : numbered (literals clause) number ≡ some literal
+  pub isRow : literal .1 .0 ≡ r
+  pub isIndex : literal .1 .1 ≡ i
+
+abbrev pub atomNamed : {S : State} {c r i : ℕ} → AtomOf S c r i → Derivation × Literal
+atomNamed x = (x .clause, x .literal)
+
+-- A resolve on two atoms whose result has a maximum index of at most 4,096.
+pub record Resolving (F : List ℕ) (k : ℕ) (n : Counts) (C B N A : List ℕ) (x y : Atom) : Type 0 where
+  pub step : BeforeStep F k n C B N A
+  pub left : AtomOf (step .state) (x .clause) (x .row) (x .index)
+  pub right : AtomOf (step .state) (y .clause) (y .row) (y .index)
+  pub fits : maximumIndex (left .clause) + maximumIndex (right .clause) ≤ 4096
+
+-- A factor on two atoms of one clause.
+pub record Factoring (F : List ℕ) (k : ℕ) (n : Counts) (C B N A : List ℕ) (x y : Atom) : Type 0 where
+  pub step : BeforeStep F k n C B N A
+  pub sameClause : y .clause ≡ x .clause
+  pub kept : AtomOf (step .state) (x .clause) (x .row) (x .index)
+  pub deleted : AtomOf (step .state) (y .clause) (y .row) (y .index)
+
+-- What unification leaves of the table of bindings and the array.
+pub record UnifiedTables (B B′ A′ : List ℕ) (held : ℕ) (u : Unified) : Type 0 where
+  pub values : length A′ ≡ 524416
+  pub bindings : length B′ ≡ length B
+  pub before : (j : ℕ) → j < 4 * held → getD B′ j 0 ≡ getD B j 0
+  pub counted : Counted B B′ held u
+
+-- The cells of a step that went through, or of a refused one cleared again.
+pub record Finished : Type 0 where
+  pub answer : Entered
+  pub clauses : List ℕ
+  pub bindings : List ℕ
+
+abbrev pub finished : Entered → List ℕ → List ℕ → Finished
+finished e C B = record { answer = e; clauses = C; bindings = B }
+
+abbrev pub withStep : Counts → ℕ → Counts
+withStep n h = record { symbols = n .symbols; rows = n .rows; clauses = n .clauses + 1; bindings = h }
+
+abbrev pub stepFinished : Unified → ℕ → Counts → ℕ → ℕ → List ℕ → List ℕ → Finished
+stepFinished (Done w h) k n literals index C B =
+    finished (Stands (withStep n h)) (withClauseCells C (n .clauses) k literals index (n .bindings) (h - n .bindings)) B
+stepFinished (Refused q) k n literals index C B = finished (entered.Refused q) C (clearedPart (4 * n .bindings) 32768 B)
+
+abbrev pub HeldUpTo : ℕ → Unified → Type 0
+HeldUpTo held (Done w h) = (held ≤ h) × (h ≤ 8192)
+HeldUpTo held (Refused q) = Unit {0}
+
+-- What finishing a step asks.
+pub record Finishing (n : Counts) (B : List ℕ) (u : Unified) : Type 0 where
+  pub clauses : n .clauses < 4096
+  pub held : n .bindings ≤ 8192
+  pub room : 32768 ≤ length B
+  pub upTo : HeldUpTo (n .bindings) u
+
+-- The clauses of a state as the tables store them, for looking up literals.
+pub record ClausesStored (F C : List ℕ) (count : ℕ) : Type 0 where
+  pub state : State
+  pub bindings : List ℕ
+  pub size : length (state .clauses) ≡ count
+  pub stored : (c : ℕ) (d : Derivation) → clauseOf state c ≡ some d → Stored F C bindings c d
+  pub fits : (c : ℕ) (d : Derivation) → clauseOf state c ≡ some d → maximumIndex d ≤ 4096
+
+-- A named literal as the program answers it.
+abbrev pub namedAnswer : Option (Derivation × Literal) → NamedLiteral
+namedAnswer none = Absent
+namedAnswer (some x) = Found (x .1 .0) (x .1 .1 .0) (x .1 .1 .1)
+
+-- A resolve or a factor whose tests up to 8 have passed.
+pub record ResolveNamed (F : List ℕ) (k : ℕ) (n : Counts) (C B N A : List ℕ) (x y : Atom) : Type 0 where
+  pub step : BeforeStep F k n C B N A
+  pub isResolve : kindOf (recordPart F k) ≡ 5
+  pub ranged : inRange resolveKind (decoded (recordPart F k)) ≡ true
+  pub left : AtomOf (step .state) (x .clause) (x .row) (x .index)
+  pub right : AtomOf (step .state) (y .clause) (y .row) (y .index)
+  pub isLeft : leftOf (step .state) (decoded (recordPart F k)) ≡ some (atomNamed left)
+  pub isRight : rightOf (step .state) (decoded (recordPart F k)) ≡ some (atomNamed right)
+  pub signs : fittingSigns (step .state) resolveKind (decoded (recordPart F k)) ≡ true
+
+pub record FactorNamed (F : List ℕ) (k : ℕ) (n : Counts) (C B N A : List ℕ) (x y : Atom) : Type 0 where
+  pub step : BeforeStep F k n C B N A
+  pub isFactor : kindOf (recordPart F k) ≡ 6
+  pub ranged : inRange factorKind (decoded (recordPart F k)) ≡ true
+  pub sameClause : y .clause ≡ x .clause
+  pub kept : AtomOf (step .state) (x .clause) (x .row) (x .index)
+  pub deleted : AtomOf (step .state) (y .clause) (y .row) (y .index)
+  pub isKept : leftOf (step .state) (decoded (recordPart F k)) ≡ some (atomNamed kept)
+  pub isDeleted : deletedOf (step .state) (decoded (recordPart F k)) ≡ some (atomNamed deleted)
+  pub signs : fittingSigns (step .state) factorKind (decoded (recordPart F k)) ≡ true
+
+-- What the program has after record k, by the state before it.
+pub record StepRead (F : List ℕ) (k : ℕ) (n : Counts) (C B N A : List ℕ) (E : BeforeStep F k n C B N A) (C′ B′ A′ : List ℕ) (e : Entered) : Type 0 where
+  pub next : Next F (E .tablesBefore) k (E .state) (tablesWith (E .symbols) (E .rows) C′ B′) N A′ e

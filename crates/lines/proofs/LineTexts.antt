@@ -1,0 +1,257 @@
+-- The literals of a clause, written one after another between its number and a line feed, are the clause's line.
+use mathlib.Core.Path.{_≡_, refl, sym, ap, _∙_, subst}
+use mathlib.Core.Bool.{Bool, true, false}
+use mathlib.Core.Option.{some}
+use mathlib.Core.List.{List, [], _∷_, _++_, append-assoc, append-nil, map}
+use Prim.Native.Nat.{ℕ, zero, suc, _+_, _*_, _≤_, _<_}
+use native.Mathlib.Numerals.{add-one}
+use native.Mathlib.Omega.{arith}
+use lib.Dec.{eqb}
+use lib.ListN.{length, drop, length-append, length-map}
+use Rattle.record.specs.Record.{pick}
+use Rattle.following.specs.Clearing.{Cleared}
+use Rattle.unification.specs.Environment.{Environment}
+use Rattle.unification.specs.Row.{Row, Variable, writtenOut}
+use Rattle.unification.specs.Term.{Term}
+use Rattle.unification.specs.Values.{InStep, Models}
+use Rattle.derivation.specs.Derivation.{literals, Literal, Derivation, numbered, maximumIndex, lookup}
+use Rattle.loading.specs.Loaded.{Loadable, Loaded}
+use Rattle.loading.specs.Named.{namedLiteral, StoredClause}
+use Rattle.derivation.specs.Stored.{literalsCell, indexCell, Stored}
+use Rattle.derivation.specs.Written.{substitution, writtenLiteral, written}
+use Rattle.loading.proofs.Numbers.{raise-named-zero}
+use Rattle.loading.proofs.Origins.{stored-cells}
+use Rattle.derivation.proofs.Values.{writes-out}
+use Rattle.loading.specs.declared.literal.NamedLiteral.{NamedLiteral}
+use Rattle.loading.specs.declared.literal.NamedLiteral.the-variants.{Found, Absent}
+use Rattle.verdict.specs.Refusal.{mostLiterals}
+use Rattle.verdict.specs.State.{State, entry, derivations, clauseOf, rowOf, termOf}
+use Rattle.verdict.specs.Tables.{Tables}
+use Rattle.verdict.proofs.Inversions.{not-equal}
+use Rattle.verdict.proofs.Reading.{term-of-row}
+use Rattle.verdict.proofs.Standing.{StateOk, order-of}
+use Rattle.checker.specs.Reader.{ReadTo}
+use Rattle.inference.specs.Stepping.{tablesWith}
+use Rattle.entry.proofs.Kept.{fitting-records}
+use Rattle.entry.proofs.KeptClauses as kept
+use Rattle.lines.specs.Lines.{AllWritable, WritesNumbered, WritesLiterals, LineReady, LineWritten}
+use Rattle.lines.specs.Literals.{listed, Collectable, Collected}
+use Rattle.lines.specs.Readout.{clauseLine}
+use Rattle.lines.specs.Text.{decimal, literalText, literalsText}
+use Rattle.lines.specs.Writing.{Wrote, Sized, WritesLiteral}
+use Rattle.lines.proofs.Decimals.{decimal-length}
+use Rattle.lines.proofs.LiteralTexts.{literals-text-short}
+use Rattle.lines.proofs.Positions.{wrote-nothing, wrote-then}
+
+-- The literal that the program found is the one with the number.
+module _ (F C N A T : List ℕ) (at c n : ℕ) (r : NamedLiteral) (G : (B : List ℕ) (d : Derivation) → Stored F C B c d → r ≡ namedLiteral (numbered (literals d) n)) where
+  same-literal : (positive : Bool) (row index : ℕ) (l : Literal) → Found positive row index ≡ namedLiteral (some l) → (positive, (row, index)) ≡ l
+  same-literal positive row index l e =
+      let p : positive ≡ l .0 = cc in
+      let q : row ≡ l .1 .0 = cc in
+      let k : index ≡ l .1 .1 = cc in
+      λ i. (p i, (q i, k i))
+
+  pub numbered-found : (positive : Bool) (row index : ℕ) → r ≡ Found positive row index → (A′ T′ : List ℕ) (end : ℕ) → WritesLiteral N A A′ T T′ at positive (row, index) end → WritesNumbered F C N A A′ T T′ at c n end
+  numbered-found positive row index q A′ T′ end W B d s l p =
+      subst (λ (x : Literal). WritesLiteral N A A′ T T′ at (x .0) (x .1) end) (same-literal positive row index l (sym q ∙ G B d s ∙ ap namedLiteral p)) W
+
+  pub numbered-absent : r ≡ Absent → WritesNumbered F C N A A T T at c n at
+  numbered-absent q B d s l p = absurd (no (sym q ∙ G B d s ∙ ap namedLiteral p))
+    where
+      no : Absent ≡ namedLiteral (some l) → ⊥
+      no e = let z : _≡_ {A = ℕ} 0 1 = cc in omega arith
+
+-- A clause that can be collected can be looked up.
+pub collectable-stored : {F C : List ℕ} {c : ℕ} → Collectable F C 0 c 0 → StoredClause F C c
+collectable-stored R = record { bindings = R .bindings; derivation = R .derivation; stored = R .stored; fits = omega (arith, R .fits) }
+
+-- There is room in the list for all literals.
+pub collected-few : {F C L L′ : List ℕ} {c count : ℕ} → Collectable F C 0 c 0 → Collected F C L L′ 0 c 0 count → count < 4352
+collected-few R K = omega (arith, R .few, K .last (R .bindings) (R .derivation) (R .stored))
+
+-- The literal that the program has in its list is the one with the number.
+pub numbered-listed : {F C L L′ : List ℕ} {c count : ℕ} → Collected F C L L′ 0 c 0 count → (n : ℕ) → 1 ≤ n → n ≤ count
+    → {N A A′ T T′ : List ℕ} {at end : ℕ} → WritesLiteral N A A′ T T′ at (listed L′ n .0) (listed L′ n .1) end → WritesNumbered F C N A A′ T T′ at c n end
+numbered-listed {L′ = L′} K n low high {N} {A} {A′} {T} {T′} {at} {end} W B d s l p =
+    let z : n ≡ 0 + n = omega arith in
+    let e : listed L′ n ≡ l =
+    some-same (ap (λ (k : ℕ). some (listed L′ k)) z ∙ K .holds B d s .literal n low (omega (arith, high, K .last B d s)) ∙ sym (raise-named-zero (numbered (literals d) n)) ∙ p) in
+    subst (λ (x : Literal). WritesLiteral N A A′ T T′ at (x .0) (x .1) end) e W
+  where
+    some-same : {x y : Literal} → some x ≡ some y → x ≡ y
+    some-same e = cc
+
+-- So many literals has clause c, whatever derivation it is: the number in its cell, and the number of those collected.
+abbrev pub HasLiterals : List ℕ → List ℕ → ℕ → ℕ → Type 0
+HasLiterals F C c count = (B : List ℕ) (d : Derivation) → Stored F C B c d → count ≡ length (literals d)
+
+pub cell-literals : {F C : List ℕ} {c count : ℕ} → count ≡ literalsCell C c → HasLiterals F C c count
+cell-literals e B d s = e ∙ stored-cells s .literalCount
+
+pub collected-literals : {F C L L′ : List ℕ} {c count : ℕ} → Collected F C L L′ 0 c 0 count → HasLiterals F C c count
+collected-literals K B d s = omega (arith, K .last B d s)
+
+-- The literal with the next number is the first of those left.
+record NextLiteral (ls : List Literal) (n : ℕ) : Type 0 where
+  next : Literal
+  isNumbered : numbered ls (suc n) ≡ some next
+  isFirst : drop n ls ≡ next ∷ drop (suc n) ls
+
+next-literal : (ls : List Literal) (n : ℕ) → n < length ls → NextLiteral ls n
+next-literal [] n h = absurd (omega arith)
+next-literal (l ∷ ls) zero h = record { next = l; isNumbered = refl; isFirst = refl }
+next-literal (l ∷ ls) (suc n) h = let x = next-literal ls n (omega arith) in record { next = x .next; isNumbered = x .isNumbered; isFirst = x .isFirst }
+
+none-left : (ls : List Literal) (n : ℕ) → length ls ≤ n → drop n ls ≡ []
+none-left [] zero h = refl
+none-left [] (suc n) h = refl
+none-left (l ∷ ls) zero h = absurd (omega arith)
+none-left (l ∷ ls) (suc n) h = none-left ls n (omega arith)
+
+-- After the text `before` what is left, from the literal after the n-th on, makes the text of all literals.
+pub record LiteralsSoFar (N : List ℕ) (top : ℕ) (A : List ℕ) (ρ : Environment) (row : ℕ → Row) (term : ℕ → Term ℕ) (σ : Variable → Term Variable) (T T′ : List ℕ) (at end n : ℕ) (ls : List Literal) : Type 0 where
+  pub models : Models N top A ρ
+  pub before : List ℕ
+  pub wrote : Wrote T T′ at end before
+  pub whole : before ++ literalsText row (map (writtenLiteral term σ) (drop n ls)) ≡ literalsText row (map (writtenLiteral term σ) ls)
+
+abbrev pub WritesSoFar : List ℕ → List ℕ → List ℕ → List ℕ → List ℕ → List ℕ → List ℕ → ℕ → ℕ → ℕ → ℕ → Type 0
+WritesSoFar F C N A A′ T T′ at c end n =
+    (B : List ℕ) (d : Derivation) → Stored F C B c d
+    → (top : ℕ) (ρ : Environment) (row : ℕ → Row) (term : ℕ → Term ℕ) (σ : Variable → Term Variable) → AllWritable N top A ρ row term σ (literals d)
+    → LiteralsSoFar N top A′ ρ row term σ T T′ at end n (literals d)
+
+module _ (F C N A T : List ℕ) (at c : ℕ) where
+  pub literals-start : WritesSoFar F C N A A T T at c at 0
+  literals-start B d s top ρ row term σ W = record { models = W .models; before = []; wrote = wrote-nothing T at; whole = refl }
+
+  module _ (A₁ T₁ : List ℕ) (end n count : ℕ) (S : WritesSoFar F C N A A₁ T T₁ at c end n) (counted : HasLiterals F C c count) where
+    pub literals-end : count ≤ n → WritesLiterals F C N A A₁ T T₁ at c end
+    literals-end h B d s top ρ row term σ W =
+        let S′ = S B d s top ρ row term σ W in
+        let none : drop n (literals d) ≡ [] = none-left (literals d) n (omega (arith, counted B d s)) in
+        let all : S′ .before ≡ literalsText row (map (writtenLiteral term σ) (literals d)) =
+        sym (append-nil (S′ .before)) ∙ ap (λ (ls : List Literal). S′ .before ++ literalsText row (map (writtenLiteral term σ) ls)) (sym none) ∙ S′ .whole in
+        record { models = S′ .models; wrote = subst (Wrote T T₁ at end) all (S′ .wrote) }
+
+    pub literals-next : n < count → (A₂ T₂ : List ℕ) (after : ℕ) → WritesNumbered F C N A₁ A₂ T₁ T₂ end c (n + 1) after → WritesSoFar F C N A A₂ T T₂ at c after (n + 1)
+    literals-next h A₂ T₂ after G B d s top ρ row term σ W =
+        let S′ = S B d s top ρ row term σ W in
+        let x = next-literal (literals d) n (omega (arith, counted B d s)) in
+        let l = x .next in
+        let isLiteral : numbered (literals d) (n + 1) ≡ some l = ap (numbered (literals d)) (add-one n) ∙ x .isNumbered in
+        let text : List ℕ = 32 ∷ literalText row (l .0, writtenOut term σ (l .1)) in
+        let isFirst : drop n (literals d) ≡ l ∷ drop (n + 1) (literals d) = x .isFirst ∙ ap (λ (m : ℕ). l ∷ drop m (literals d)) (sym (add-one n)) in
+        let w = G B d s l isLiteral top ρ row term σ (record { models = S′ .models; inStep = W .inStep (n + 1) l isLiteral; rows = W .rows; terms = W .terms; values = W .values }) in
+        record {
+          models = w .models;
+          before = S′ .before ++ text;
+          wrote = wrote-then T T₁ T₂ at end after (S′ .before) text (S′ .wrote) (w .wrote);
+          whole =
+              append-assoc (S′ .before) text (literalsText row (map (writtenLiteral term σ) (drop (n + 1) (literals d))))
+              ∙ ap (λ (ls : List Literal). S′ .before ++ literalsText row (map (writtenLiteral term σ) ls)) (sym isFirst) ∙ S′ .whole;
+        }
+
+-- The clause that a line is written of.
+pub record ClauseThere (S : State) (c : ℕ) : Type 0 where
+  pub clause : Derivation
+  pub isClause : clauseOf S c ≡ some clause
+
+pub clause-there : (S : State) (c : ℕ) → c < length (S .clauses) → ClauseThere S c
+clause-there S c h = let x = there (derivations S) (omega (arith, length-map (S .clauses) (λ (k : ℕ × Derivation). k .1))) in record { clause = x .0; isClause = x .1 }
+  where
+    there : (ds : List Derivation) → c < length ds → (d : Derivation) × (entry ds c ≡ some d)
+    there [] l = absurd (omega arith)
+    there (d ∷ ds) l = try (eqb c (length ds)) refl (λ k. there ds k)
+      where
+        try : (b : Bool) → eqb c (length ds) ≡ b → (c < length ds → (e : Derivation) × (entry ds c ≡ some e)) → (e : Derivation) × (pick b (some d) (entry ds c) ≡ some e)
+        try true q ih = (d, refl)
+        try false q ih = let ne : ¬ (c ≡ length ds) = not-equal c (length ds) (rw q) in ih (omega arith)
+
+-- What writing a line asks of its callees.
+module _ {F C B N A T : List ℕ} {c : ℕ} (R : LineReady F C B N A T c) where
+  here : ClauseThere (R .state) c
+  here = clause-there (R .state) c (R .inside)
+
+  index-small : maximumIndex (here .clause) ≤ 4096
+  index-small = kept.index-fits (R .read .kept) (R .read .few) c (here .clause) (here .isClause)
+
+  pub line-clear : (top : ℕ) → top ≡ indexCell C c → (length A ≡ 524416) × (top ≤ 4096)
+  line-clear top p = (R .read .kept .values, omega (arith, p, kept.index-of (R .read .kept) (R .read .few) c (here .clause) (here .isClause), index-small))
+
+  pub line-load : (A₁ : List ℕ) → length A₁ ≡ 524416 → Loadable F C B N A₁ c 0
+  line-load A₁ v = kept.load-ready (R .read .kept) (R .read .few) c 0 (here .clause) (here .isClause) (omega (arith, index-small)) A₁ v
+
+  -- There are at most 4,096 clauses, of at most 128 literals each.
+  few-clauses : length (R .state .clauses) ≤ 4096
+  few-clauses = omega (arith, kept.stand-of (R .read .kept) (R .read .few) .tally .total, R .read .few, fitting-records F (R .read .kept .fit))
+
+  few-literals : length (literals (here .clause)) ≤ 128
+  unfolding mostLiterals
+  few-literals = kept.order-in (R .read .kept) (R .read .few) c (here .clause) (here .isClause) .literalsFit
+
+  pub line-collect : Collectable F C 0 c 0
+  line-collect =
+      record {
+        bindings = B;
+        derivation = here .clause;
+        stored = kept.stored-of (R .read .kept) (R .read .few) c (here .clause) (here .isClause);
+        fits = omega (arith, index-small);
+        few = omega (arith, few-clauses, few-literals, R .inside);
+      }
+
+  pub line-nodes : length N ≡ 32768
+  line-nodes = kept.nodes-room (R .read .kept) (R .read .few)
+
+-- What the check left is left with any array in the array's place: between lines it does not matter what the array holds.
+pub read-again : (F : List ℕ) (t : Tables) (S : State) (here : Tables) (N A A′ : List ℕ) → ReadTo F t S here N A → length A′ ≡ 524416 → ReadTo F t S here N A′
+read-again F t S here N A A′ R v =
+    let K = R .kept in
+    record { count = R .count; few = R .few; counts = R .counts; kept = record { fit = K .fit; long = K .long; before = K .before; counts = K .counts; tables = K .tables; nodes = K .nodes; values = v } }
+
+-- The clause, loaded into a cleared array, can be written out.
+module _ {F C B N A : List ℕ} {t : Tables} {S : State} {symbols rows : List ℕ} (R : ReadTo F t S (tablesWith symbols rows C B) N A) (c : ℕ) (d : Derivation) (q : clauseOf S c ≡ some d) where
+  pub line-index : indexCell C c ≡ maximumIndex d
+  line-index = kept.index-of (R .kept) (R .few) c d q
+
+  pub line-writable : (top : ℕ) → top ≡ maximumIndex d → (A₁ A₂ : List ℕ) → Cleared A A₁ (128 * (top + 1)) → Loaded F C B N A₁ A₂ c 0 → AllWritable N top A₂ (lookup d) (rowOf S) (termOf S) (substitution (termOf S) d) (literals d)
+  line-writable top p A₁ A₂ K L =
+      let ok = kept.ok-of (R .kept) (R .few) in
+      record {
+        models = kept.clause-models (R .kept) (R .few) c d q top p A A₁ A₂ K L;
+        inStep = λ n l z. subst (λ (m : ℕ). InStep N m (l .1)) (sym p) (kept.literal-in-step (R .kept) (R .few) c d q n l z);
+        rows = λ r h. kept.agree (R .kept) (R .few) r (kept.inside-of (R .kept) (R .few) r h);
+        terms = term-of-row S ok;
+        values = writes-out (rowOf S) (termOf S) (term-of-row S ok) d (kept.order-in (R .kept) (R .few) c d q .valid);
+      }
+
+-- The parts of a line, one after another.
+pub line-written : (F C B N A T : List ℕ) (at c top : ℕ) → top ≡ indexCell C c → (A₁ A₂ A₃ : List ℕ) → Cleared A A₁ (128 * (top + 1)) → Loaded F C B N A₁ A₂ c 0
+    → (T₁ : List ℕ) (blank : ℕ) → Wrote T T₁ at blank (decimal c) → (T₂ : List ℕ) (index : ℕ) → Wrote T₁ T₂ blank index (32 ∷ []) → (T₃ : List ℕ) (first : ℕ) → Wrote T₂ T₃ index first (decimal top)
+    → (T₄ : List ℕ) (last : ℕ) → WritesLiterals F C N A₂ A₃ T₃ T₄ first c last → Sized N A₃ T₄ → (T₅ : List ℕ) (end : ℕ) → Wrote T₄ T₅ last end (10 ∷ []) → LineWritten F C B N A A₃ T T₅ at c end
+line-written F C B N A T at c top p A₁ A₂ A₃ K L T₁ blank v₁ T₂ index v₂ T₃ first v₃ T₄ last G Z T₅ end v₄ =
+    record { wrote = written-line; sized = record { nodes = Z .nodes; values = Z .values; text = v₄ .kept .room ∙ Z .text } }
+  where
+    written-line : (t : Tables) (S : State) (symbols rows : List ℕ) → ReadTo F t S (tablesWith symbols rows C B) N A → (d : Derivation) → clauseOf S c ≡ some d → Wrote T T₅ at end (clauseLine S c d)
+    written-line t S symbols rows R d q =
+        let m : top ≡ maximumIndex d = p ∙ line-index {t = t} {symbols = symbols} {rows = rows} R c d q in
+        let w = G B d (kept.stored-of (R .kept) (R .few) c d q) top (lookup d) (rowOf S) (termOf S) (substitution (termOf S) d) (line-writable R c d q top m A₁ A₂ K L) in
+        let x = literalsText (rowOf S) (written (termOf S) d) in
+        let y = decimal c ++ (32 ∷ decimal (maximumIndex d)) in
+        let index-text : Wrote T₂ T₃ index first (decimal (maximumIndex d)) = subst (λ (i : ℕ). Wrote T₂ T₃ index first (decimal i)) m v₃ in
+        wrote-then T T₄ T₅ at last end (y ++ x) (10 ∷ [])
+        (wrote-then T T₃ T₄ at first last y x
+        (wrote-then T T₁ T₃ at blank first (decimal c) (32 ∷ decimal (maximumIndex d)) v₁ (wrote-then T₁ T₂ T₃ blank index first (32 ∷ []) (decimal (maximumIndex d)) v₂ index-text))
+        (w .wrote))
+        v₄
+
+-- A line fits into the buffer: at most 128 literals of 834 bytes each, two numbers of five digits, a blank and a line feed.
+pub line-short : (S : State) → StateOk 4096 S → (c : ℕ) (d : Derivation) → clauseOf S c ≡ some d → length (clauseLine S c d) ≤ 106780
+unfolding mostLiterals
+line-short S H c d q =
+    let few = order-of 4096 S H c d q .literalsFit in
+    let number = decimal c in
+    let index : List ℕ = 32 ∷ decimal (maximumIndex d) in
+    let text = literalsText (rowOf S) (written (termOf S) d) in
+    omega (arith, length-append (number ++ index ++ text) (10 ∷ []), length-append (number ++ index) text, length-append number index, decimal-length c, decimal-length (maximumIndex d), literals-text-short (rowOf S) (written (termOf S) d), length-map (literals d) (writtenLiteral (termOf S) (substitution (termOf S) d)), few)

@@ -1,0 +1,64 @@
+-- After n literals, what was written and the literals that are left make the text of all.
+use Prim.Native.Nat.{_-_, _≤_}
+use native.Mathlib.Omega.{arith}
+use Rattle.lines.specs.Writing.{Sized}
+use Rattle.lines.proofs.LineTexts.{WritesSoFar, literals-start, literals-end, literals-next, collectable-stored, cell-literals}
+use borrow.Author.Needs.{needs}
+use Rattle.lines.proofs.line.write_found_literals.Statement.{statement}
+use Rattle.lines.proofs.line.write_found_literals.Tie as tie
+use Rattle.lines.proofs.line.write_found_literals.Reads as reads
+use Rattle.lines.proofs.line.write_found_literals.Lts as lts
+use Rattle.loading.proofs.literals_cell.Reads as literals-cell-reads
+use Rattle.lines.proofs.line.write_numbered.Reads as write-numbered-reads
+
+abbrev Inv-loop : tie.InvT-loop
+Inv-loop file clauses nodes values₀ text₀ at c count end₀ n₀ values text end n =
+    Sized nodes values text × (n ≤ count) × WritesSoFar file clauses nodes values₀ values text₀ text at c end n
+
+abbrev μ-loop : tie.MeasureT-loop
+μ-loop file clauses nodes values₀ text₀ at c count end₀ n₀ values text end n =
+    count - n
+
+literals-cell-requires : tie.Need-literals-cell-requires Inv-loop μ-loop
+literals-cell-requires c κs =
+    search needs
+
+loop-holds : tie.Need-loop-holds Inv-loop μ-loop
+loop-holds c =
+    (c .before .before .before .pre .1, omega arith, literals-start _ _ _ _ _ _ _)
+
+add-n : tie.Need-add-n Inv-loop μ-loop
+add-n c =
+    omega arith
+
+write-numbered-requires : tie.Need-write-numbered-requires Inv-loop μ-loop
+write-numbered-requires c κs =
+    (collectable-stored (c .before .before .before .before .before .before .before .pre .0), c .before .before .before .loop .inv .0)
+
+loop-less : tie.Need-loop-less Inv-loop μ-loop
+loop-less c =
+    omega arith
+
+loop-again : tie.Need-loop-again Inv-loop μ-loop
+loop-again c =
+    let l = c .before .before .before .before .loop in
+    (c .write-numbered .ensures .1, omega arith, literals-next _ _ _ _ _ _ _ _ _ (l .end) (l .n) _ (l .inv .2) (cell-literals (c .before .before .before .before .before .literals-cell .ensures)) (c .before .before .before .loop-test .taken) _ _ _ (c .write-numbered .ensures .0))
+
+returns : tie.Need-returns Inv-loop μ-loop
+returns c =
+    let l = c .before .loop in
+    (literals-end _ _ _ _ _ _ _ _ _ (l .end) (l .n) _ (l .inv .2) (cell-literals (c .before .before .literals-cell .ensures)) (omega arith), l .inv .0)
+
+pub write-found-literals-spec : {M : Type 1} → statement M
+write-found-literals-spec =
+    tie.close
+    (tie.spec
+    Inv-loop
+    μ-loop
+    literals-cell-requires
+    loop-holds
+    add-n
+    write-numbered-requires
+    loop-less
+    loop-again
+    returns)

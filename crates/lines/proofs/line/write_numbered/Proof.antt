@@ -1,0 +1,34 @@
+-- The literal found is the one with the number; where none is found, the clause has none.
+use Rattle.lines.proofs.LineTexts.{numbered-found, numbered-absent}
+use borrow.Author.Needs.{needs}
+use Rattle.lines.proofs.line.write_numbered.Statement.{statement}
+use Rattle.lines.proofs.line.write_numbered.Tie as tie
+use Rattle.lines.proofs.line.write_numbered.Reads as reads
+use Rattle.lines.proofs.line.write_numbered.Lts as lts
+use Rattle.loading.proofs.literal.literal.Reads as literal-reads
+use Rattle.lines.proofs.literal.write_literal.Reads as write-literal-reads
+
+literal-requires : tie.Need-literal-requires
+literal-requires c κs = search needs
+
+enum-known-l : tie.Need-enum-known-l
+enum-known-l c = search needs
+
+enum-told : tie.Need-enum-told
+enum-told c = search needs
+
+returns : tie.Need-returns
+returns c =
+    (numbered-absent _ _ _ (c .before .before .before .before .before .args .values .now) (c .before .before .before .before .before .args .text .now) _ _ _ _ (c .before .before .literal .ensures) (c .enum-told .given .1), c .before .before .before .before .before .pre .1)
+
+write-literal-requires : tie.Need-write-literal-requires
+write-literal-requires c κs = search needs
+
+returns-2 : tie.Need-returns-2
+returns-2 c =
+    (numbered-found _ _ _ _ _ _ _ _ _ (c .before .before .before .before .before .before .literal .ensures) _ _ _ (c .before .before .before .before .l .given .1) _ _ _ (c .write-literal .ensures .0), c .write-literal .ensures .1)
+
+pub write-numbered-spec : {M : Type 1} → statement M
+write-numbered-spec =
+    tie.close
+    (tie.spec literal-requires enum-known-l enum-told returns write-literal-requires returns-2)

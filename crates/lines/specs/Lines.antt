@@ -1,0 +1,74 @@
+-- The contracts of the functions that write the lines of the readout. What the lines are is in `Readout`; this file only says how the
+-- parts of the program fit together.
+use mathlib.Core.Path.{_≡_}
+use mathlib.Core.Option.{some}
+use mathlib.Core.List.{List, map}
+use Prim.Native.Nat.{ℕ, _<_}
+use lib.ListN.{length}
+use Rattle.unification.specs.Environment.{Environment}
+use Rattle.unification.specs.Nodes.{HasRow, nodeRow}
+use Rattle.unification.specs.Row.{Row, Variable, rowTerm}
+use Rattle.unification.specs.Term.{Term}
+use Rattle.unification.specs.Values.{InStep, Models}
+use Rattle.derivation.specs.Derivation.{literals, Literal, Derivation, numbered}
+use Rattle.derivation.specs.Stored.{Stored}
+use Rattle.derivation.specs.Written.{writtenLiteral, WritesOut}
+use Rattle.verdict.specs.State.{State, clauseOf}
+use Rattle.verdict.specs.Tables.{Tables}
+use Rattle.verdict.specs.Verdict.{Verdict, verdictNumbers}
+use Rattle.checker.specs.Given.{verdictGiven}
+use Rattle.checker.specs.Reader.{ReadTo}
+use Rattle.inference.specs.Stepping.{tablesWith}
+use Rattle.checker.specs.declared.answer.Verdict as given
+use Rattle.checker.specs.declared.answer.Verdict.the-variants as given-variants
+use Rattle.lines.specs.Readout.{acceptedText, openText, refusedText, verdictLine, clauseLine}
+use Rattle.lines.specs.Text.{literalsText}
+use Rattle.lines.specs.Writing.{Wrote, Sized, LiteralWritten, WritesLiteral}
+
+-- Every literal of a list can be written out, as `Writable` has it for one expression.
+pub record AllWritable (N : List ℕ) (top : ℕ) (A : List ℕ) (ρ : Environment) (row : ℕ → Row) (term : ℕ → Term ℕ) (σ : Variable → Term Variable) (ls : List Literal) : Type 0 where
+  pub models : Models N top A ρ
+  pub inStep : (n : ℕ) (l : Literal) → numbered ls n ≡ some l → InStep N top (l .1)
+  pub rows : (r : ℕ) → HasRow N r → nodeRow N r ≡ row r
+  pub terms : (r : ℕ) → term r ≡ rowTerm term r (row r)
+  pub values : WritesOut term ρ σ
+
+-- Literal n of clause c, where the clause has one.
+abbrev pub WritesNumbered : List ℕ → List ℕ → List ℕ → List ℕ → List ℕ → List ℕ → List ℕ → ℕ → ℕ → ℕ → ℕ → Type 0
+WritesNumbered F C N A A′ T T′ at c n end =
+    (B : List ℕ) (d : Derivation) → Stored F C B c d → (l : Literal) → numbered (literals d) n ≡ some l
+    → WritesLiteral N A A′ T T′ at (l .0) (l .1) end
+
+-- All literals of clause c, each after a blank.
+abbrev pub WritesLiterals : List ℕ → List ℕ → List ℕ → List ℕ → List ℕ → List ℕ → List ℕ → ℕ → ℕ → ℕ → Type 0
+WritesLiterals F C N A A′ T T′ at c end =
+    (B : List ℕ) (d : Derivation) → Stored F C B c d
+    → (top : ℕ) (ρ : Environment) (row : ℕ → Row) (term : ℕ → Term ℕ) (σ : Variable → Term Variable) → AllWritable N top A ρ row term σ (literals d)
+    → LiteralWritten N top A′ ρ T T′ at end (literalsText row (map (writtenLiteral term σ) (literals d)))
+
+-- What writing the line of clause c asks: what the check of the file left of some state, which has a clause c, and the buffer's length.
+pub record LineReady (F C B N A T : List ℕ) (c : ℕ) : Type 0 where
+  pub tablesBefore : Tables
+  pub state : State
+  pub symbols : List ℕ
+  pub rows : List ℕ
+  pub read : ReadTo F tablesBefore state (tablesWith symbols rows C B) N A
+  pub inside : c < length (state .clauses)
+  pub text : length T ≡ 131072
+
+-- What it says: the clause's line, whichever state the check left; and the lengths, which is all that the next line needs besides.
+pub record LineWritten (F C B N A A′ T T′ : List ℕ) (at c end : ℕ) : Type 0 where
+  pub wrote : (t : Tables) (S : State) (symbols rows : List ℕ) → ReadTo F t S (tablesWith symbols rows C B) N A
+      → (d : Derivation) → clauseOf S c ≡ some d → Wrote T T′ at end (clauseLine S c d)
+  pub sized : Sized N A′ T′
+
+-- The words of a verdict as the program gives it.
+abbrev pub givenText : given.Verdict → List ℕ
+givenText given-variants.Open = openText
+givenText (given-variants.Accepted n) = acceptedText n
+givenText (given-variants.Refused q k) = refusedText q k
+
+-- What writing the verdict says: the line of the definition's verdict that has the same three numbers, and the buffer's length.
+pub record VerdictWritten (v : given.Verdict) (T T′ : List ℕ) (at end : ℕ) : Type 0 where
+  pub wrote : (u : Verdict) → verdictGiven v ≡ verdictNumbers u → Wrote T T′ at end (verdictLine u)
+  pub room : length T′ ≡ 131072

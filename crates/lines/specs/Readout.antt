@@ -1,0 +1,58 @@
+-- Document 01, "The readout": a line for the verdict and a line for each clause that stands.
+use mathlib.Core.List.{List, [], _∷_, _++_}
+use Prim.Native.Nat.{ℕ}
+use lib.ListN.{length}
+use Rattle.record.specs.Record.{pick}
+use Rattle.derivation.specs.Derivation.{Derivation, maximumIndex}
+use Rattle.derivation.specs.Written.{written}
+use Rattle.verdict.specs.Refusal.{badLength, shortTable, reasonNumber}
+use Rattle.verdict.specs.State.{State, start, derivations, rowOf, termOf}
+use Rattle.verdict.specs.Step.{stateOf}
+use Rattle.verdict.specs.Verdict.{Verdict, refusal, accepted, undecided, verdictOf, Lengths, longEnough, fittingLength, ending}
+use Rattle.lines.specs.Text.{decimal, literalsText}
+
+-- `accepted N`, `open`, or `refused R at K`.
+abbrev pub acceptedText : ℕ → List ℕ
+acceptedText n = 97 ∷ 99 ∷ 99 ∷ 101 ∷ 112 ∷ 116 ∷ 101 ∷ 100 ∷ 32 ∷ decimal n
+
+abbrev pub openText : List ℕ
+openText = 111 ∷ 112 ∷ 101 ∷ 110 ∷ []
+
+abbrev pub refusedText : ℕ → ℕ → List ℕ
+refusedText r k = (114 ∷ 101 ∷ 102 ∷ 117 ∷ 115 ∷ 101 ∷ 100 ∷ 32 ∷ decimal r) ++ (32 ∷ 97 ∷ 116 ∷ 32 ∷ decimal k)
+
+abbrev pub verdictText : Verdict → List ℕ
+verdictText (accepted n) = acceptedText n
+verdictText undecided = openText
+verdictText (refusal reason k) = refusedText (reasonNumber reason) k
+
+abbrev pub verdictLine : Verdict → List ℕ
+verdictLine v = verdictText v ++ (10 ∷ [])
+
+-- A clause: its number, its maximum index and its literals, parted by one blank.
+abbrev pub clauseLine : State → ℕ → Derivation → List ℕ
+clauseLine S n c = decimal n ++ (32 ∷ decimal (maximumIndex c)) ++ literalsText (rowOf S) (written (termOf S) c) ++ (10 ∷ [])
+
+-- The lines of the clauses, clause 0 first.
+abbrev pub clauseLines : State → List Derivation → List (List ℕ)
+clauseLines S [] = []
+clauseLines S (c ∷ cs) = clauseLines S cs ++ (clauseLine S (length cs) c ∷ [])
+
+abbrev pub linesOf : Verdict → State → List (List ℕ)
+linesOf v S = verdictLine v ∷ clauseLines S (derivations S)
+
+-- The readout of a file, line by line and as a whole. It goes by the check of the file, whatever the tables held before.
+unfoldable pub readoutLines : List ℕ → Lengths → List (List ℕ)
+readoutLines file lengths =
+    pick (fittingLength (length file))
+    (pick (longEnough lengths)
+    (linesOf (verdictOf (ending file)) (stateOf (ending file)))
+    (linesOf (refusal shortTable 0) start))
+    (linesOf (refusal badLength 0) start)
+
+abbrev pub joinedLines : List (List ℕ) → List ℕ
+joinedLines [] = []
+joinedLines (l ∷ ls) = l ++ joinedLines ls
+
+abbrev pub readout : List ℕ → Lengths → List ℕ
+readout file lengths = joinedLines (readoutLines file lengths)

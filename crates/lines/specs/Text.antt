@@ -1,0 +1,50 @@
+-- Document 01, "The readout": the text of a literal, as bytes.
+use mathlib.Core.Bool.{Bool, true, false}
+use mathlib.Core.List.{List, [], _∷_, _++_}
+use Prim.Native.Nat.{ℕ, zero, suc, _+_, _/_, _%_}
+use lib.Dec.{leb, ltb}
+use Rattle.record.specs.Record.{pick}
+use Rattle.unification.specs.Row.{variable, Row, application, Variable}
+use Rattle.unification.specs.Term.{Term, Terms, var, app, nil, cons, occurrences}
+use Rattle.derivation.specs.Written.{Clause}
+
+-- A number in decimal; five digits are enough for 16 bits.
+abbrev pub digits : ℕ → ℕ → List ℕ → List ℕ
+digits zero n rest = rest
+digits (suc k) n rest = pick (ltb n 10) ((48 + n) ∷ rest) (digits k (n / 10) ((48 + n % 10) ∷ rest))
+
+abbrev pub decimal : ℕ → List ℕ
+decimal n = digits 5 n []
+
+-- The number of the variable in a row.
+abbrev pub variableNumber : Row → ℕ
+variableNumber (variable v) = v
+variableNumber (application s xs) = 0
+
+-- The sign of a literal: `+` or `-`.
+abbrev pub signText : Bool → ℕ
+signText true = 43
+signText false = 45
+
+-- A term: `v`, number, dot and index; or `s`, number, and arguments in parentheses, with commas and no blanks.
+module _ (row : ℕ → Row) where
+  abbrev mutual
+    pub termText : Term Variable → List ℕ
+    termText (var x) = 118 ∷ (decimal (variableNumber (row (x .0))) ++ (46 ∷ decimal (x .1)))
+    termText (app s ts) = 115 ∷ (decimal s ++ argumentsText ts)
+
+    pub argumentsText : Terms Variable → List ℕ
+    argumentsText nil = []
+    argumentsText (cons t ts) = 40 ∷ (termText t ++ furtherText ts)
+
+    pub furtherText : Terms Variable → List ℕ
+    furtherText nil = 41 ∷ []
+    furtherText (cons t ts) = 44 ∷ (termText t ++ furtherText ts)
+
+  -- A literal's text is defined on its value: its sign, and its atom; or `~` for one with more than 64 occurrences.
+  abbrev pub literalText : Bool × Term Variable → List ℕ
+  literalText l = signText (l .0) ∷ pick (leb (occurrences (l .1)) 64) (termText (l .1)) (126 ∷ [])
+
+  abbrev pub literalsText : Clause → List ℕ
+  literalsText [] = []
+  literalsText (l ∷ ls) = 32 ∷ (literalText l ++ literalsText ls)

@@ -1,0 +1,156 @@
+// A line of the readout: a clause written out, with its number, its maximum index and its literals.
+use super::literal::write_literal;
+use super::literals::collect;
+use super::text::put_byte;
+use super::text::put_decimal;
+use following::values::clear;
+use loading::index_cell;
+use loading::literal::NamedLiteral;
+use loading::literal::literal;
+use loading::literals_cell;
+use loading::load::load;
+ghost use mathlib.Core.Path.{_≡_};
+ghost use Prim.Native.Nat.{_<_};
+ghost use lib.ListN.{length};
+ghost use Rattle.loading.specs.Named.{StoredClause};
+ghost use Rattle.lines.specs.Lines.{WritesNumbered, WritesLiterals, LineReady, LineWritten};
+ghost use Rattle.lines.specs.Literals.{listed, Collectable};
+ghost use Rattle.lines.specs.Writing.{Sized, WritesLiteral};
+
+// A clause with at most so many literals has each of them looked up. One with more has them collected in one walk, which takes as long
+// however few they are.
+const FEW: u16 = 6;
+
+// Literal n of clause c, from 1, looked up and written after a blank. The array holds the clause.
+fn write_numbered(
+    file: &[u8],
+    clauses: &[u16],
+    nodes: &[u16; 32768],
+    values: &mut [u16; 524416],
+    text: &mut [u8; 131072],
+    at: usize,
+    c: u16,
+    n: u16,
+) -> usize
+    requires { ⌜ StoredClause (now file) (now clauses) c ⌝ }
+    requires { ⌜ Sized (now nodes) (now values) (now text) ⌝ }
+    ensures { λ end. ⌜ WritesNumbered (now (file .entry)) (now (clauses .entry)) (now (nodes .entry)) (now (values .entry)) (now (values .exit)) (now (text .entry)) (now (text .exit)) at c n end × Sized (now (nodes .entry)) (now (values .exit)) (now (text .exit)) ⌝ }
+{
+    let l = literal(file, clauses, c, n);
+    let NamedLiteral::Found(positive, row, index) = l else {
+        return at;
+    };
+    write_literal(nodes, values, text, at, positive, row, index)
+}
+
+// All literals of clause c, each looked up by its number.
+fn write_found_literals(
+    file: &[u8],
+    clauses: &[u16],
+    nodes: &[u16; 32768],
+    values: &mut [u16; 524416],
+    text: &mut [u8; 131072],
+    at: usize,
+    c: u16,
+) -> usize
+    requires { ⌜ Collectable (now file) (now clauses) 0 c 0 ⌝ }
+    requires { ⌜ Sized (now nodes) (now values) (now text) ⌝ }
+    ensures { λ end. ⌜ WritesLiterals (now (file .entry)) (now (clauses .entry)) (now (nodes .entry)) (now (values .entry)) (now (values .exit)) (now (text .entry)) (now (text .exit)) at c end × Sized (now (nodes .entry)) (now (values .exit)) (now (text .exit)) ⌝ }
+{
+    let count = literals_cell(clauses, c);
+    let mut end = at;
+    let mut n: u16 = 0;
+    while n < count {
+        n += 1;
+        end = write_numbered(file, clauses, nodes, values, text, end, c, n);
+    }
+    end
+}
+
+// Literal n of the list, after a blank.
+fn write_listed(
+    nodes: &[u16; 32768],
+    values: &mut [u16; 524416],
+    text: &mut [u8; 131072],
+    at: usize,
+    list: &[u16; 8704],
+    n: usize,
+) -> usize
+    requires { ⌜ Sized (now nodes) (now values) (now text) ⌝ }
+    requires { ⌜ length (now list) ≡ 8704 ⌝ }
+    requires { ⌜ n < 4352 ⌝ }
+    ensures { λ end. ⌜ WritesLiteral (now (nodes .entry)) (now (values .entry)) (now (values .exit)) (now (text .entry)) (now (text .exit)) at (listed (now (list .entry)) n .0) (listed (now (list .entry)) n .1) end × Sized (now (nodes .entry)) (now (values .exit)) (now (text .exit)) ⌝ }
+{
+    let code = list[2 * n];
+    let index = list[2 * n + 1];
+    write_literal(nodes, values, text, at, code % 2 == 1, code / 2, index)
+}
+
+// All literals of clause c, collected in a list first.
+fn write_collected_literals(
+    file: &[u8],
+    clauses: &[u16],
+    nodes: &[u16; 32768],
+    values: &mut [u16; 524416],
+    text: &mut [u8; 131072],
+    at: usize,
+    c: u16,
+) -> usize
+    requires { ⌜ Collectable (now file) (now clauses) 0 c 0 ⌝ }
+    requires { ⌜ Sized (now nodes) (now values) (now text) ⌝ }
+    ensures { λ end. ⌜ WritesLiterals (now (file .entry)) (now (clauses .entry)) (now (nodes .entry)) (now (values .entry)) (now (values .exit)) (now (text .entry)) (now (text .exit)) at c end × Sized (now (nodes .entry)) (now (values .exit)) (now (text .exit)) ⌝ }
+{
+    let mut list = [0u16; 8704];
+    let count = collect(file, clauses, &mut list, 0, c, 0);
+    let mut end = at;
+    let mut n: usize = 0;
+    while n < count {
+        n += 1;
+        end = write_listed(nodes, values, text, end, &list, n);
+    }
+    end
+}
+
+// All literals of clause c, each after a blank. The array holds the clause.
+fn write_literals(
+    file: &[u8],
+    clauses: &[u16],
+    nodes: &[u16; 32768],
+    values: &mut [u16; 524416],
+    text: &mut [u8; 131072],
+    at: usize,
+    c: u16,
+) -> usize
+    requires { ⌜ Collectable (now file) (now clauses) 0 c 0 ⌝ }
+    requires { ⌜ Sized (now nodes) (now values) (now text) ⌝ }
+    ensures { λ end. ⌜ WritesLiterals (now (file .entry)) (now (clauses .entry)) (now (nodes .entry)) (now (values .entry)) (now (values .exit)) (now (text .entry)) (now (text .exit)) at c end × Sized (now (nodes .entry)) (now (values .exit)) (now (text .exit)) ⌝ }
+{
+    if literals_cell(clauses, c) <= FEW {
+        return write_found_literals(file, clauses, nodes, values, text, at, c);
+    }
+    write_collected_literals(file, clauses, nodes, values, text, at, c)
+}
+
+// The line of clause c. The array is cleared as far as the clause reaches, and then the clause is loaded.
+pub fn write_line(
+    file: &[u8],
+    clauses: &[u16],
+    bindings: &[u16],
+    nodes: &[u16; 32768],
+    values: &mut [u16; 524416],
+    text: &mut [u8; 131072],
+    at: usize,
+    c: u16,
+) -> usize
+    requires { ⌜ LineReady (now file) (now clauses) (now bindings) (now nodes) (now values) (now text) c ⌝ }
+    ensures { λ end. ⌜ LineWritten (now (file .entry)) (now (clauses .entry)) (now (bindings .entry)) (now (nodes .entry)) (now (values .entry)) (now (values .exit)) (now (text .entry)) (now (text .exit)) at c end ⌝ }
+{
+    let top = index_cell(clauses, c);
+    clear(values, top);
+    load(file, clauses, bindings, nodes, values, c, 0);
+    let blank = put_decimal(text, at, c);
+    let index = put_byte(text, blank, b' ');
+    let first = put_decimal(text, index, top);
+    let last = write_literals(file, clauses, nodes, values, text, first, c);
+    put_byte(text, last, b'\n')
+}

@@ -1,0 +1,111 @@
+// All literals of a clause, collected in one walk through its parents. The list of them has two cells for each literal, 2n and 2n + 1 for
+// number n, from 1: the number that an input clause has for it (2 × row, plus 1 if positive), and its index.
+use loading::index_cell;
+use loading::literals_cell;
+use loading::record_cell;
+ghost use mathlib.Core.Path.{_≡_};
+ghost use Prim.Native.Nat.{_≤_, _<_};
+ghost use lib.ListN.{length};
+ghost use Rattle.derivation.specs.Stored.{recordOf};
+ghost use Rattle.lines.specs.Literals.{Placed, Moved, Deleted, Collectable, Collected};
+
+// The cells of literal n.
+fn place(list: &mut [u16; 8704], n: usize, code: u16, index: u16)
+    requires { ⌜ length (now list) ≡ 8704 ⌝ }
+    requires { ⌜ n < 4352 ⌝ }
+    ensures { λ _. ⌜ Placed (now (list .entry)) (now (list .exit)) n code index ⌝ }
+{
+    list[2 * n] = code;
+    list[2 * n + 1] = index;
+}
+
+// Every literal after number n, as far as number `end`, gets the number before its own.
+fn move_down(list: &mut [u16; 8704], n: usize, end: usize)
+    requires { ⌜ length (now list) ≡ 8704 ⌝ }
+    requires { ⌜ n ≤ end ⌝ }
+    requires { ⌜ end < 4352 ⌝ }
+    ensures { λ _. ⌜ Moved (now (list .entry)) (now (list .exit)) n end ⌝ }
+{
+    let mut k = n;
+    while k < end {
+        let next = k + 1;
+        let code = list[2 * next];
+        let index = list[2 * next + 1];
+        place(list, k, code, index);
+        k = next;
+    }
+}
+
+// Of the literals after number `base`, as far as number `end`, the a-th is taken out, if there is one. Answers the number of the last one.
+fn delete(list: &mut [u16; 8704], base: usize, end: usize, a: u16) -> usize
+    requires { ⌜ length (now list) ≡ 8704 ⌝ }
+    requires { ⌜ base ≤ end ⌝ }
+    requires { ⌜ end < 4352 ⌝ }
+    ensures { λ r. ⌜ Deleted (now (list .entry)) (now (list .exit)) base end a r ⌝ }
+{
+    if a == 0 {
+        return end;
+    }
+    let n = base + (a as usize);
+    if end < n {
+        return end;
+    }
+    move_down(list, n, end);
+    end - 1
+}
+
+// The literals of an input clause, after number `base`: the fields of its record.
+fn collect_input(
+    file: &[u8],
+    clauses: &[u16],
+    list: &mut [u16; 8704],
+    base: usize,
+    c: u16,
+    offset: u16,
+) -> usize
+    requires { ⌜ length (now list) ≡ 8704 ⌝ }
+    requires { ⌜ Collectable (now file) (now clauses) base c offset ⌝ }
+    requires { ⌜ recordOf (now file) (now clauses) c .kind ≡ 4 ⌝ }
+    ensures { λ end. ⌜ Collected (now (file .entry)) (now (clauses .entry)) (now (list .entry)) (now (list .exit)) base c offset end ⌝ }
+{
+    let part = record::record_part(file, record_cell(clauses, c) as usize);
+    let count = literals_cell(clauses, c);
+    let mut n: u16 = 0;
+    while n < count {
+        let code = record::field(part, n as u8);
+        n += 1;
+        place(list, base + (n as usize), code, offset + 1);
+    }
+    base + (n as usize)
+}
+
+// The literals of clause c, after number `base`, with their indices raised by the offset: those of its parents, the right one's raised by
+// the left maximum index, without the literals that the step names. Answers the number of the last one.
+pub fn collect(
+    file: &[u8],
+    clauses: &[u16],
+    list: &mut [u16; 8704],
+    base: usize,
+    c: u16,
+    offset: u16,
+) -> usize
+    requires { ⌜ length (now list) ≡ 8704 ⌝ }
+    requires { ⌜ Collectable (now file) (now clauses) base c offset ⌝ }
+    ensures { λ end. ⌜ Collected (now (file .entry)) (now (clauses .entry)) (now (list .entry)) (now (list .exit)) base c offset end ⌝ }
+{
+    let part = record::record_part(file, record_cell(clauses, c) as usize);
+    let kind = record::kind(part);
+    if kind == 4 {
+        return collect_input(file, clauses, list, base, c, offset);
+    }
+    let left = record::field(part, 0);
+    let second = record::field(part, 2);
+    let all = collect(file, clauses, list, base, left, offset);
+    if kind != 5 {
+        return delete(list, base, all, second);
+    }
+    let kept = delete(list, base, all, record::field(part, 1));
+    let above = offset + index_cell(clauses, left);
+    let last = collect(file, clauses, list, kept, second, above);
+    delete(list, kept, last, record::field(part, 3))
+}

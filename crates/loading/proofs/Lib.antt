@@ -1,0 +1,6 @@
+pub mod Numbers
+pub mod Origins
+pub mod Loading
+pub mod ValidBindings
+pub mod LoadedModels
+pub mod Putting

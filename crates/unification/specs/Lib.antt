@@ -1,0 +1,10 @@
+pub mod Term
+pub mod Row
+pub mod Environment
+pub mod Substitution
+pub mod Unification
+pub mod Failing
+pub mod Unifier
+pub mod Nodes
+pub mod Values
+pub mod Bindings
