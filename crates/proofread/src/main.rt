@@ -4,47 +4,12 @@ use checker::answer::Answer;
 use checker::check_with;
 use libc::STDIN_FILENO;
 use libc::STDOUT_FILENO;
-use readout::piece::Rest;
-use readout::piece::write_piece;
-ghost use mathlib.Core.Path.{_≡_};
-ghost use lib.ListN.{length};
+use readout::unit::unit_count;
+use readout::unit::write_unit;
 ghost use Rattle.readout.specs.Units.{AfterCheck};
-ghost use Rattle.proofread.specs.Printing.{Onward};
 
-// Prints the piece that begins with a clause, and answers the clause to go on with, or that there is nothing more to do.
-fn print_piece(
-    file: &[u8],
-    clauses: &[u16],
-    bindings: &[u16],
-    nodes: &[u16; 32768],
-    values: &mut [u16; 524416],
-    a: Answer,
-    clause: u16,
-) -> Rest
-    requires { ⌜ AfterCheck (now file) (now clauses) (now bindings) (now nodes) (now values) a ⌝ }
-    ensures { λ r. ⌜ Onward clause r × (length (now (values .exit)) ≡ 524416) ⌝ }
-{
-    let mut output = [0u8; 131072];
-    let p = write_piece(
-        file,
-        clauses,
-        bindings,
-        nodes,
-        values,
-        a,
-        clause,
-        &mut output,
-    );
-    let n = p.written;
-    if io::write_all(STDOUT_FILENO, &output[..n]) {
-        p.rest
-    } else {
-        Rest::Complete
-    }
-}
-
-// Prints piece after piece, from clause 0 on. Every piece begins with a later clause than the one before.
-fn print_pieces(
+// Prints line after line, the first one with that of clause 0.
+fn print_lines(
     file: &[u8],
     clauses: &[u16],
     bindings: &[u16],
@@ -54,14 +19,15 @@ fn print_pieces(
 )
     requires { ⌜ AfterCheck (now file) (now clauses) (now bindings) (now nodes) (now values) a ⌝ }
 {
-    let mut clause: u16 = 0;
-    let mut more = true;
-    while more {
-        match print_piece(file, clauses, bindings, nodes, values, a, clause) {
-            Rest::GoOn(n) => clause = n,
-            Rest::Complete => more = false,
-            Rest::TooShort(_) => more = false,
+    let mut text = [0u8; 131072];
+    let count = unit_count(a.clauses);
+    let mut n: u16 = 0;
+    while n < count {
+        let end = write_unit(file, clauses, bindings, nodes, values, &mut text, 0, a, n);
+        if !io::write_all(STDOUT_FILENO, &text[..end]) {
+            return;
         }
+        n += 1;
     }
 }
 
@@ -82,7 +48,7 @@ fn print_readout(file: &[u8]) {
         &mut nodes,
         &mut values,
     );
-    print_pieces(file, &clauses, &bindings, &nodes, &mut values, a);
+    print_lines(file, &clauses, &bindings, &nodes, &mut values, a);
 }
 
 fn main() {

@@ -6,7 +6,7 @@ use borrow.Author.Needs.{needs}
 use Rattle.proofread.proofs.print_readout.Statement.{statement}
 use Rattle.proofread.proofs.print_readout.Tie as tie
 use Rattle.checker.proofs.check_with.Reads as check-with-reads
-use Rattle.proofread.proofs.print_pieces.Reads as print-pieces-reads
+use Rattle.proofread.proofs.print_lines.Reads as print-lines-reads
 
 slice-aggregate-check-with : tie.Need-slice-aggregate-check-with
 slice-aggregate-check-with c = search needs
@@ -24,14 +24,14 @@ check-with-requires : tie.Need-check-with-requires
 check-with-requires c κs =
     record { nodes = refl; values = length-replicate {A = ℕ} 524416 0 }
 
-slice-aggregate-print-pieces : tie.Need-slice-aggregate-print-pieces
-slice-aggregate-print-pieces c = search needs
+slice-aggregate-print-lines : tie.Need-slice-aggregate-print-lines
+slice-aggregate-print-lines c = search needs
 
-slice-aggregate-print-pieces-2 : tie.Need-slice-aggregate-print-pieces-2
-slice-aggregate-print-pieces-2 c = search needs
+slice-aggregate-print-lines-2 : tie.Need-slice-aggregate-print-lines-2
+slice-aggregate-print-lines-2 c = search needs
 
-print-pieces-requires : tie.Need-print-pieces-requires
-print-pieces-requires c κs =
+print-lines-requires : tie.Need-print-lines-requires
+print-lines-requires c κs =
     record { before = _; symbols = _; rows = _; checked = c .before .before .before .before .before .before .before .before .check-with .ensures }
 
 returns : tie.Need-returns
@@ -46,7 +46,7 @@ print-readout-spec =
     slice-aggregate-check-with-3
     slice-aggregate-check-with-4
     check-with-requires
-    slice-aggregate-print-pieces
-    slice-aggregate-print-pieces-2
-    print-pieces-requires
+    slice-aggregate-print-lines
+    slice-aggregate-print-lines-2
+    print-lines-requires
     returns)
