@@ -1,6 +1,7 @@
 -- The program's walk over pairs and the machine's come to the same.
 use mathlib.Core.Path.{_≡_, refl, sym, ap, ap₂, _∙_, subst}
 use mathlib.Core.Bool.{Bool, true, false}
+use mathlib.Core.Option.{none}
 use mathlib.Core.List.{List, [], _∷_}
 use Prim.Native.Nat.{ℕ, suc, _+_, _-_, _%_, _≤_, _<_}
 use native.Mathlib.Omega.{arith}
@@ -16,8 +17,8 @@ use Rattle.unification.specs.Row.{Expression, same}
 use Rattle.unification.specs.Unification.{mostLinks, failureNumber, clash, occurs, overwork, Outcome, unified, failed, unifying, testing, goOn, noRoom, withWork, run}
 use Rattle.unify.specs.Unifying.{failureOf}
 use Rattle.unification.specs.Values.{slot, put, InStep, Models}
-use Rattle.following.specs.Walks.{viewOf, Walked, Follows, absent, broken, testedOf, thenRun, PairRuns, ArgumentsRun, TestRuns, Looking, Looked}
-use Rattle.unify.specs.Pairs.{LeavesLess, LeavesNoMore, Filed, bindingsOnto, outcomeOnto, Stand, Stands, Settled, isApplication, isOther, Alike, Pairing, Paired, Bound, Met, Argued, Meets, sameVariable, leftToVariable, leftToApplication, rightVariable, sameApplication, otherSymbol, noArguments, someArguments, Matching, Matched, ArguedBefore}
+use Rattle.following.specs.Walks.{viewOf, endOf, EndsAt, Walked, Follows, absent, broken, testedOf, thenRun, PairRuns, MeetRuns, ArgumentsRun, TestRuns, Looking, Looked}
+use Rattle.unify.specs.Pairs.{LeavesLess, LeavesNoMore, Filed, bindingsOnto, outcomeOnto, Stand, Stands, Settled, isApplication, isOther, Alike, Pairing, Paired, Bound, Argued, Meets, sameVariable, leftToVariable, leftToApplication, rightVariable, sameApplication, otherSymbol, noArguments, someArguments, Matching, Matched, ArguedBefore}
 use Rattle.unify.proofs.BindingsAdded.{added-then, added-below, onto-none, onto-then, onto-push, length-push}
 use Rattle.unification.proofs.Chains.{Short, short-le, Firm, short-with}
 use Rattle.following.proofs.Halving.{walked-app, walked-var, walked-ends}
@@ -35,6 +36,17 @@ use Rattle.unify.specs.declared.pairs.Meeting.{Meeting}
 use Rattle.unify.specs.declared.pairs.Meeting.the-variants.{Bind, Nothing, Clash, Arguments}
 use Rattle.unify.specs.declared.pairs.Unified.{Unified}
 use Rattle.unify.specs.declared.pairs.Unified.the-variants.{Done, Refused}
+
+-- A free variable x and what the other side ends on.
+module _ (N : List ℕ) (top : ℕ) (A B : List ℕ) (first : ℕ) (base : Environment) (bs : List Binding) (held : ℕ) where
+  pub record MetRuns (x : Expression) (y : Followed) (w : ℕ) (u : Unified) : Type 0 where
+    pub ok : MeetRuns (nodeRow N) mostLinks (noRoom first) base w bs (unbound (part N (x .0) 0) x) (viewOf N y) (outcomeOnto u B held bs)
+    pub after : Stands N top A B first base bs held u
+
+abbrev pub Met : List ℕ → List ℕ → List ℕ → List ℕ → List ℕ → ℕ → Expression → Followed → ℕ → Unified → Type 0
+Met N A A′ B B′ held x y w u =
+    (top first : ℕ) (base : Environment) (bs : List Binding) → Stand N top A B first base bs held → InStep N top x → isVariable N (x .0) ≡ true → extend base bs x ≡ none
+    → InStep N top (endOf y) → EndsAt N (extend base bs) y → MetRuns N top A′ B′ first base bs held x y w u
 
 pub leaves-less : (w v : ℕ) (u : Unified) → v < w → LeavesNoMore v u → LeavesLess w u
 leaves-less w v (Done l h) p q = omega arith

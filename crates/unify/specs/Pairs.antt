@@ -20,7 +20,7 @@ use Rattle.unify.specs.declared.pairs.Meeting.{Meeting}
 use Rattle.unify.specs.declared.pairs.Meeting.the-variants.{Bind, Nothing, Clash, Arguments}
 use Rattle.unify.specs.declared.pairs.Unified.{Unified}
 use Rattle.unify.specs.declared.pairs.Unified.the-variants.{Done, Refused}
-use Rattle.following.specs.Walks.{viewOf, endOf, EndsAt, Tested, PairRuns, MeetRuns, ArgumentsRun, TestRuns, bindOutcome}
+use Rattle.following.specs.Walks.{Tested, PairRuns, ArgumentsRun, TestRuns, bindOutcome}
 
 abbrev pub LeavesLess : ℕ → Unified → Type 0
 LeavesLess w (Done l h) = l < w
@@ -93,10 +93,6 @@ module _ (N : List ℕ) (top : ℕ) (A B : List ℕ) (first : ℕ) (base : Envir
     pub res : bindOutcome (nodeRow N) mostLinks (noRoom first) base tested bs x d ≡ outcomeOnto u B held bs
     pub after : Stands N top A B first base bs held u
 
-  pub record MetRuns (x : Expression) (y : Followed) (w : ℕ) (u : Unified) : Type 0 where
-    pub ok : MeetRuns (nodeRow N) mostLinks (noRoom first) base w bs (unbound (part N (x .0) 0) x) (viewOf N y) (outcomeOnto u B held bs)
-    pub after : Stands N top A B first base bs held u
-
   pub record Arguing (v a t b w : ℕ) (u : Unified) : Type 0 where
     pub ok : ArgumentsRun (nodeRow N) mostLinks (noRoom first) base w bs (argumentsFrom N v (nodeArity N v) 1) a (argumentsFrom N t (nodeArity N t) 1) b (outcomeOnto u B held bs)
     pub after : Stands N top A B first base bs held u
@@ -106,11 +102,6 @@ Paired N A A′ B B′ held e d w u = (top first : ℕ) (base : Environment) (bs
 
 abbrev pub Bound : List ℕ → List ℕ → List ℕ → List ℕ → List ℕ → ℕ → Expression → Expression → ℕ → Unified → Type 0
 Bound N A A′ B B′ held x d w u = (top first : ℕ) (base : Environment) (bs : List Binding) → Stand N top A B first base bs held → InStep N top x → isVariable N (x .0) ≡ true → InStep N top d → extend base bs x ≡ none → Settled N (extend base bs) x d → Tying N top A′ B′ first base bs held x d w u
-
-abbrev pub Met : List ℕ → List ℕ → List ℕ → List ℕ → List ℕ → ℕ → Expression → Followed → ℕ → Unified → Type 0
-Met N A A′ B B′ held x y w u =
-    (top first : ℕ) (base : Environment) (bs : List Binding) → Stand N top A B first base bs held → InStep N top x → isVariable N (x .0) ≡ true → extend base bs x ≡ none
-    → InStep N top (endOf y) → EndsAt N (extend base bs) y → MetRuns N top A′ B′ first base bs held x y w u
 
 abbrev pub Argued : List ℕ → List ℕ → List ℕ → List ℕ → List ℕ → ℕ → ℕ → ℕ → ℕ → ℕ → ℕ → Unified → Type 0
 Argued N A A′ B B′ held v a t b w u = (top first : ℕ) (base : Environment) (bs : List Binding) → Stand N top A B first base bs held → Alike N top v a t b → Arguing N top A′ B′ first base bs held v a t b w u
