@@ -252,8 +252,8 @@ match-last N A A₁ B B₁ held v a t b w n last left total p q K =
 pub meets-as : {N : List ℕ} {x y x′ y′ : Followed} {m : Meeting} → x ≡ x′ → y ≡ y′ → Meets N x′ y′ m → Meets N x y m
 meets-as {N} {x} {y} {x′} {y′} {m} p q h = subst (λ (z : Followed). Meets N z y m) (sym p) (subst (λ (z : Followed). Meets N x′ z m) (sym q) h)
 
-pub meets-last : {N : List ℕ} {x y : Followed} {f a g b last : ℕ} → Meets N x y (Arguments f a g b last) → (last ≡ nodeArity N f) × (1 ≤ last)
-meets-last (someArguments q s isLast some) = (isLast, some)
+pub meets-last : {N : List ℕ} {x y : Followed} {f a g b : ℕ} → Meets N x y (Arguments f a g b) → 1 ≤ nodeArity N f
+meets-last (someArguments q s some) = some
 
 -- The ways out of a pair whose sides were followed, by what is to be done with them.
 module _ (N A B : List ℕ) (held : ℕ) (e d : Expression) (w : ℕ) (A₁ A₂ : List ℕ) (nz : w ≡ 0 → ⊥) (f g : Followed) (W₁ : Follows N A A₁ e f) (W₂ : Follows N A₁ A₂ d g) where
@@ -273,8 +273,8 @@ module _ (N A B : List ℕ) (held : ℕ) (e d : Expression) (w : ℕ) (A₁ A₂
   paired-bind (rightVariable {f = v} {a} {t} {b}) pf pg A₃ B₃ u K = paired-right N A B held e d w A₁ A₂ nz f g W₁ W₂ A₃ B₃ u v a t b pf pg K
 
   -- The arguments were refused.
-  pub paired-refused : {f′ g′ : Followed} {v a t b last : ℕ} → Meets N f′ g′ (Arguments v a t b last) → f ≡ f′ → g ≡ g′ → (A₃ B₃ : List ℕ) (u : Unified) (n : ℕ) → u ≡ Refused n → ArguedBefore N A₂ A₃ B B₃ held v a t b (w - 1) u → Paired N A A₃ B B₃ held e d w (Refused n)
-  paired-refused (someArguments {f = v} {a} {g = t} {b} q s l m) pf pg A₃ B₃ u n isRefused K =
+  pub paired-refused : {f′ g′ : Followed} {v a t b : ℕ} → Meets N f′ g′ (Arguments v a t b) → f ≡ f′ → g ≡ g′ → (A₃ B₃ : List ℕ) (u : Unified) (n : ℕ) → u ≡ Refused n → ArguedBefore N A₂ A₃ B B₃ held v a t b (w - 1) u → Paired N A A₃ B B₃ held e d w (Refused n)
+  paired-refused (someArguments {f = v} {a} {g = t} {b} q s m) pf pg A₃ B₃ u n isRefused K =
       paired-args N A B held e d w A₁ A₂ nz f g W₁ W₂ A₃ B₃ (Refused n) v a t b pf pg false (sym q) refl (part N v 0) (part N t 0) refl refl s
       (subst (ArguedBefore N A₂ A₃ B B₃ held v a t b (w - 1)) isRefused K)
 
@@ -318,9 +318,9 @@ module _ (N A A₁ B B₁ : List ℕ) (held : ℕ) (e d : Expression) (w : ℕ) 
 
   -- The last arguments of two applications are next.
   module _ (nz : left ≡ 0 → ⊥) (A₂ A₃ : List ℕ) (f g : Followed) (W₁ : Follows N A₁ A₂ c f) (W₂ : Follows N A₂ A₃ k g) where
-    pub pursued-next : {f′ g′ : Followed} {v a t b last : ℕ} → Meets N f′ g′ (Arguments v a t b last) → f ≡ f′ → g ≡ g′ → (A₄ B₄ : List ℕ) (l h : ℕ) (u : Unified) → u ≡ Done l h → ArguedBefore N A₃ A₄ B₁ B₄ total v a t b (left - 1) u → Added B₁ B₄ total h
-        → (p q : ℕ) → p ≡ part N v last → q ≡ part N t last → Pursued N A A₄ B B₄ held e d w (p, a) (q, b) l h
-    pursued-next (someArguments {f = v} {a} {g = t} {b} {last} isApart symbol isLast some) pf pg A₄ B₄ l h u isDone K K₂ p q pp pq top first base bs S ge gd =
+    pub pursued-next : {f′ g′ : Followed} {v a t b : ℕ} → Meets N f′ g′ (Arguments v a t b) → f ≡ f′ → g ≡ g′ → (A₄ B₄ : List ℕ) (l h : ℕ) (u : Unified) → u ≡ Done l h → ArguedBefore N A₃ A₄ B₁ B₄ total v a t b (left - 1) u → Added B₁ B₄ total h
+        → (p q last : ℕ) → last ≡ nodeArity N v → p ≡ part N v last → q ≡ part N t last → Pursued N A A₄ B B₄ held e d w (p, a) (q, b) l h
+    pursued-next (someArguments {f = v} {a} {g = t} {b} isApart symbol any) pf pg A₄ B₄ l h u isDone K K₂ p q last isLast pp pq top first base bs S ge gd =
         record {
           stand = subst (λ (z : List Binding). Stand N top A₄ B₄ first base z h) j (M .stand);
           goodLeft = arg-good N top v last 1 (omega arith) p pp a some (omega arith) T (x .good) (alike .leftRow);
@@ -333,6 +333,9 @@ module _ (N A A₁ B B₁ : List ℕ) (held : ℕ) (e d : Expression) (w : ℕ) 
               (M .whole o (pairs-as o r))));
         }
       where
+        some : 1 ≤ last
+        some = subst (λ (n : ℕ). 1 ≤ n) (sym isLast) any
+
         bs₁ : List Binding
         bs₁ = bindingsOnto B₁ held (total - held) bs
 

@@ -78,7 +78,7 @@ pub data Meets (N : List ℕ) : Followed → Followed → Meeting → Type 0 whe
   sameApplication : {f a g b : ℕ} → same (f, a) (g, b) ≡ true → Meets N (Application f a) (Application g b) Nothing
   otherSymbol : {f a g b : ℕ} → same (f, a) (g, b) ≡ false → ¬ (part N f 0 ≡ part N g 0) → Meets N (Application f a) (Application g b) Clash
   noArguments : {f a g b : ℕ} → same (f, a) (g, b) ≡ false → part N f 0 ≡ part N g 0 → 0 ≡ nodeArity N f → Meets N (Application f a) (Application g b) Nothing
-  someArguments : {f a g b last : ℕ} → same (f, a) (g, b) ≡ false → part N f 0 ≡ part N g 0 → last ≡ nodeArity N f → 1 ≤ last → Meets N (Application f a) (Application g b) (Arguments f a g b last)
+  someArguments : {f a g b : ℕ} → same (f, a) (g, b) ≡ false → part N f 0 ≡ part N g 0 → 1 ≤ nodeArity N f → Meets N (Application f a) (Application g b) (Arguments f a g b)
 
 -- The machine at a pair, at a binding to be made, at an unbound variable on the left, and at the arguments of two applications; and
 -- where the step stands afterwards.

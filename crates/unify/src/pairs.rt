@@ -23,12 +23,12 @@ pub enum Unified {
 }
 
 // What is to be done with two followed sides: a variable is bound to the other side, first row and index the variable's; nothing; the
-// symbols clash; or the arguments of two applications are unified, the rows with their indices and the number of arguments.
+// symbols clash; or the arguments of two applications, of which there are some, are unified, the rows with their indices.
 enum Meeting {
     Bind(u16, u16, u16, u16),
     Nothing,
     Clash,
-    Arguments(u16, u16, u16, u16, u16),
+    Arguments(u16, u16, u16, u16),
 }
 
 // The variable v at index i is bound to t at index j, if it does not occur there and there is room for a binding.
@@ -76,11 +76,10 @@ fn meet_applications(nodes: &[u16; 32768], f: u16, a: u16, g: u16, b: u16) -> Me
     if part_of(nodes, f, 0) != part_of(nodes, g, 0) {
         return Meeting::Clash;
     }
-    let last = arity_of(nodes, f);
-    if last == 0 {
+    if arity_of(nodes, f) == 0 {
         return Meeting::Nothing;
     }
-    Meeting::Arguments(f, a, g, b, last)
+    Meeting::Arguments(f, a, g, b)
 }
 
 // The case of two followed sides. An unbound variable on the left comes before one on the right.
@@ -107,7 +106,7 @@ fn meet(nodes: &[u16; 32768], x: Followed, y: Followed) -> Meeting
 }
 
 // Unifies l at index i with r at index j. Both sides are followed and meet; the last arguments of two applications are taken up by the
-// loop, so that only nesting in arguments before the last takes calls and stack.
+// loop, so that only nesting in arguments before the last takes calls and stack. They are read before those calls, which so keep less.
 pub fn unify_pair(
     nodes: &[u16; 32768],
     values: &mut [u16; 524416],
@@ -133,7 +132,12 @@ pub fn unify_pair(
             }
             Meeting::Nothing => return Unified::Done(work, held),
             Meeting::Clash => return Unified::Refused(10),
-            Meeting::Arguments(f, a, g, b, last) => {
+            Meeting::Arguments(f, a, g, b) => {
+                let last = arity_of(nodes, f);
+                l = part_of(nodes, f, last);
+                i = a;
+                r = part_of(nodes, g, last);
+                j = b;
                 match unify_before(nodes, values, bindings, held, f, a, g, b, last, work) {
                     Unified::Done(w, h) => {
                         work = w;
@@ -141,10 +145,6 @@ pub fn unify_pair(
                     }
                     Unified::Refused(q) => return Unified::Refused(q),
                 }
-                l = part_of(nodes, f, last);
-                i = a;
-                r = part_of(nodes, g, last);
-                j = b;
             }
         }
     }

@@ -18,6 +18,9 @@ pub fn examples() -> Vec<Example> {
         Example::new("deep-factors-right-parents", right_derivation(100)),
         Example::new("deep-twelve-doublings", doublings(12)),
         Example::new("deep-thirteen-doublings", doublings(13)),
+        Example::new("deep-nested-first", two_first()),
+        Example::new("deep-occurrence-first", occurrence_first()),
+        Example::new("deep-derivation-two-derived", two_derived(4000)),
         Example::new("deep-exponential-refused", exponential_refused()),
         Example::new("deep-exponential-value", exponential_value(60)),
     ]
@@ -76,6 +79,58 @@ pub fn two_rules(size: usize) -> Vec<u8> {
         (0..11).fold(rule, |rule, _| file.resolve(rule, 2, rule, 1))
     });
     file.resolve(doubled[0], 2, doubled[1], 2);
+    file.finish()
+}
+
+/// A term as the first of two arguments, some number of times.
+fn nested_first(symbol: u16, constant: u16, times: usize, inner: Term) -> Term {
+    (0..times).fold(inner, |term, _| app(symbol, [term, app(constant, [])]))
+}
+
+/// The rule ∓q(x) ±q(t) where t is x nested 16,384 deep in the first of two arguments: 14,336 by
+/// doublings of one rule, 2,048 by doublings of another.
+fn first_rule(file: &mut FileBuilder, [q, f, a]: [u16; 3], positive: bool) -> u16 {
+    let [long, short] = [112, 16].map(|size| {
+        let deep = app(q, [nested_first(f, a, size, var(0))]);
+        let rule = file.clause(&[(!positive, app(q, [var(0)])), (positive, deep)]);
+        (0..7).fold(rule, |rule, _| file.resolve(rule, 2, rule, 1))
+    });
+    file.resolve(long, 1, short, 2)
+}
+
+/// Two terms nested 16,384 deep in first arguments, unified: the walk goes as deep as its work lets it.
+fn two_first() -> Vec<u8> {
+    let mut file = FileBuilder::new();
+    let symbols = [1, 2, 0].map(|arity| file.symbol(arity));
+    let [left, right] = [true, false].map(|positive| first_rule(&mut file, symbols, positive));
+    file.resolve(left, 1, right, 1);
+    file.finish()
+}
+
+/// A variable bound to a term nested 16,384 deep in first arguments: so does the occurrence test.
+fn occurrence_first() -> Vec<u8> {
+    let mut file = FileBuilder::new();
+    let symbols = [1, 2, 0].map(|arity| file.symbol(arity));
+    let left = first_rule(&mut file, symbols, true);
+    let right = file.clause(&[neg(app(symbols[0], [var(0)]))]);
+    file.resolve(left, 1, right, 1);
+    file.finish()
+}
+
+/// A count upward by a derived rule, so that both parents of every step are derived.
+fn two_derived(steps: u16) -> Vec<u8> {
+    let mut file = FileBuilder::new();
+    let [q, f, a] = symbols(&mut file);
+    let mut known = file.clause(&[pos(app(q, [app(a, [])]))]);
+    let rule = file.clause(&[
+        neg(app(q, [var(0)])),
+        pos(app(q, [app(f, [var(0)])])),
+        pos(app(q, [app(f, [var(0)])])),
+    ]);
+    let rule = file.factor(rule, 2, 3);
+    for _ in 0..steps {
+        known = file.resolve(known, 1, rule, 1);
+    }
     file.finish()
 }
 

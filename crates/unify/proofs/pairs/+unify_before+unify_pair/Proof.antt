@@ -7,8 +7,8 @@ use Rattle.unification.specs.Bindings.{Added}
 use Rattle.unify.specs.Pairs.{Matched}
 use Rattle.unify.proofs.BindingsAdded.{added-none, added-as-below, added-then, added-below}
 use Rattle.unify.proofs.PairWalk.{leaves-less, less-done, no-more-done, filed-done, filed-refused, filed-then, paired-spent, paired-nothing, paired-clashing, paired-bind, paired-refused, meets-last, Pursued, pursued-start, pursued-then, pursued-next, match-start, match-last, match-refused, match-next}
-use borrow.Author.Needs.{needs}
 use Prim.Native.Nat.{ℕ, _+_, _-_, _*_, _≤_, _<_}
+use borrow.Author.Needs.{needs}
 use borrow.Fn.Kinds.{In}
 use borrow.Fn.PlainCycle.{Measures, is, falls, and}
 use Rattle.unify.proofs.pairs.unify_before.Reads as unify-before
@@ -18,6 +18,7 @@ use Rattle.unify.proofs.pairs.unify_pair.Reads as unify-pair
 use Rattle.unify.proofs.pairs.unify_pair.Kinds as unify-pair-kinds
 use Rattle.unify.proofs.pairs.+unify_before+unify_pair.Lts-unify_pair as unify-pair-lts
 use Rattle.following.proofs.follow.follow.Reads as follow-reads
+use Rattle.following.proofs.nodes.arity_of.Reads as arity-of-reads
 use Rattle.following.proofs.nodes.part_of.Reads as part-of-reads
 use Rattle.unify.proofs.pairs.bind.Reads as bind-reads
 use Rattle.unify.proofs.pairs.meet.Reads as meet-reads
@@ -66,7 +67,7 @@ unify-before-told t = (part-of-reads.Asked, part-of-reads.Learnt, unify-pair-bel
 
 -- what the callees of `unify-pair` say, its own calls below t
 abbrev unify-pair-told : ℕ → unify-pair-lts.Claims
-unify-pair-told t = (follow-reads.Asked, follow-reads.Learnt, meet-reads.Asked, meet-reads.Learnt, bind-reads.Asked, bind-reads.Learnt, unify-before-below t, unify-before.Post, part-of-reads.Asked, part-of-reads.Learnt)
+unify-pair-told t = (follow-reads.Asked, follow-reads.Learnt, meet-reads.Asked, meet-reads.Learnt, bind-reads.Asked, bind-reads.Learnt, arity-of-reads.Asked, arity-of-reads.Learnt, part-of-reads.Asked, part-of-reads.Learnt, unify-before-below t, unify-before.Post)
 
 unify-before-loop-holds : (t : ℕ) → unify-before-lts.Need-loop-holds (unify-before-told t) (unify-before-at t) unify-before.Post unify-before-Inv-loop unify-before-μ-loop
 unify-before-loop-holds t c =
@@ -190,48 +191,54 @@ unify-pair-returns-3 t c =
 unify-pair-enum-known-f : (t : ℕ) → unify-pair-lts.Need-enum-known-f (unify-pair-told t) (unify-pair-at t) unify-pair.Post unify-pair-Inv-loop unify-pair-μ-loop
 unify-pair-enum-known-f t c = search needs
 
+unify-pair-arity-of-requires : (t : ℕ) → unify-pair-lts.Need-arity-of-requires (unify-pair-told t) (unify-pair-at t) unify-pair.Post unify-pair-Inv-loop unify-pair-μ-loop
+unify-pair-arity-of-requires t c κs =
+    c .before .before .before .before .before .before .before .before .before .before .before .pre .1 .0
+
+unify-pair-part-of-requires : (t : ℕ) → unify-pair-lts.Need-part-of-requires (unify-pair-told t) (unify-pair-at t) unify-pair.Post unify-pair-Inv-loop unify-pair-μ-loop
+unify-pair-part-of-requires t c κs =
+    c .before .before .before .before .before .before .before .before .before .before .before .before .pre .1 .0
+
+unify-pair-part-of-requires-2 : (t : ℕ) → unify-pair-lts.Need-part-of-requires-2 (unify-pair-told t) (unify-pair-at t) unify-pair.Post unify-pair-Inv-loop unify-pair-μ-loop
+unify-pair-part-of-requires-2 t c κs =
+    c .before .before .before .before .before .before .before .before .before .before .before .before .before .pre .1 .0
+
 unify-pair-unify-before-requires : (t : ℕ) → unify-pair-lts.Need-unify-before-requires (unify-pair-told t) (unify-pair-at t) unify-pair.Post unify-pair-Inv-loop unify-pair-μ-loop
 unify-pair-unify-before-requires t c κs =
-    let m = meets-last (rw (c .before .before .before .f .given .1) at (c .before .before .before .before .before .meet .ensures)) in
-    (omega (arith, c .before .before .before .before .before .before .before .before .before .before .before .before .before .pre .0, c .before .before .before .before .before .before .before .before .before .before .before .loop .inv .2, c .before .before .before .before .before .before .before .before .before .before .loop-test .taken), ((c .before .before .before .before .before .before .before .before .before .before .before .before .before .pre .1 .0, c .before .before .before .before .before .before .follow2 .ensures .1), m))
+    let m = meets-last (rw (c .before .before .before .before .before .before .f .given .1) at (c .before .before .before .before .before .before .before .before .meet .ensures)) in
+    let n = c .before .before .before .before .arity-of .ensures .0 in
+    (omega (arith, c .before .before .before .before .before .before .before .before .before .before .before .before .before .before .before .before .pre .0, c .before .before .before .before .before .before .before .before .before .before .before .before .before .before .loop .inv .2, c .before .before .before .before .before .before .before .before .before .before .before .before .before .loop-test .taken), ((c .before .before .before .before .before .before .before .before .before .before .before .before .before .before .before .before .pre .1 .0, c .before .before .before .before .before .before .before .before .before .follow2 .ensures .1), (n, omega (arith, m, n))))
 
 unify-pair-enum-known-w : (t : ℕ) → unify-pair-lts.Need-enum-known-w (unify-pair-told t) (unify-pair-at t) unify-pair.Post unify-pair-Inv-loop unify-pair-μ-loop
 unify-pair-enum-known-w t c = search needs
+
+unify-pair-loop-less : (t : ℕ) → unify-pair-lts.Need-loop-less (unify-pair-told t) (unify-pair-at t) unify-pair.Post unify-pair-Inv-loop unify-pair-μ-loop
+unify-pair-loop-less t c =
+    let d = no-more-done _ _ _ _ (c .before .w .given .1) (c .before .before .before .before .before .unify-before .ensures .1 .1) in
+    omega (arith, d, c .before .before .before .before .before .before .before .before .before .before .before .before .before .before .before .before .before .before .before .loop-test .taken)
+
+unify-pair-loop-again : (t : ℕ) → unify-pair-lts.Need-loop-again (unify-pair-told t) (unify-pair-at t) unify-pair.Post unify-pair-Inv-loop unify-pair-μ-loop
+unify-pair-loop-again t c =
+    let l = c .before .before .before .before .before .before .before .before .before .before .before .before .before .before .before .before .before .before .before .before .loop in
+    let m = rw (c .before .before .before .before .before .before .before .before .before .before .before .before .f .given .1) at (c .before .before .before .before .before .before .before .before .before .before .before .before .before .before .meet .ensures) in
+    let d = no-more-done _ _ _ _ (c .before .w .given .1) (c .before .before .before .before .before .unify-before .ensures .1 .1) in
+    let k = filed-done _ _ (l .held) _ _ _ (c .before .w .given .1) (c .before .before .before .before .before .unify-before .ensures .1 .0) in
+    (c .before .before .before .before .before .unify-before .ensures .1 .2, c .before .before .before .before .before .unify-before .kept .1 .1 .0 ∙ l .inv .1, omega (arith, d, l .inv .2), added-then (l .inv .3) k, pursued-next _ _ _ _ _ _ _ _ _ _ _ _ _ (l .inv .4) (l .inv .3) (omega (arith, c .before .before .before .before .before .before .before .before .before .before .before .before .before .before .before .before .before .before .before .loop-test .taken)) _ _ _ _ (c .before .before .before .before .before .before .before .before .before .before .before .before .before .before .before .before .before .follow .ensures .0) (c .before .before .before .before .before .before .before .before .before .before .before .before .before .before .before .follow2 .ensures .0) m refl refl _ _ _ _ _ (c .before .w .given .1) (c .before .before .before .before .before .unify-before .ensures .0) k _ _ _ (c .before .before .before .before .before .before .before .before .before .before .arity-of .ensures .0) (c .before .before .before .before .before .before .before .before .before .part-of .ensures) (c .before .before .before .before .before .before .before .before .part-of2 .ensures))
 
 unify-pair-enum-known-q : (t : ℕ) → unify-pair-lts.Need-enum-known-q (unify-pair-told t) (unify-pair-at t) unify-pair.Post unify-pair-Inv-loop unify-pair-μ-loop
 unify-pair-enum-known-q t c = search needs
 
 unify-pair-same-length-4 : (t : ℕ) → unify-pair-lts.Need-same-length-4 (unify-pair-told t) (unify-pair-at t) unify-pair.Post unify-pair-Inv-loop unify-pair-μ-loop
-unify-pair-same-length-4 t c = search needs
+unify-pair-same-length-4 t c =
+    c .before .before .before .before .before .unify-before .kept .1 .1 .0 ∙ c .before .before .before .before .before .before .before .before .before .before .before .before .before .before .before .before .before .before .before .before .loop .inv .1
 
 unify-pair-returns-4 : (t : ℕ) → unify-pair-lts.Need-returns-4 (unify-pair-told t) (unify-pair-at t) unify-pair.Post unify-pair-Inv-loop unify-pair-μ-loop
 unify-pair-returns-4 t c =
-    let l = c .before .before .before .before .before .before .before .before .before .before .before .before .before .before .before .before .before .loop in
-    let m = rw (c .before .before .before .before .before .before .before .before .before .f .given .1) at (c .before .before .before .before .before .before .before .before .before .before .before .meet .ensures) in
+    let l = c .before .before .before .before .before .before .before .before .before .before .before .before .before .before .before .before .before .before .before .before .loop in
+    let m = rw (c .before .before .before .before .before .before .before .before .before .before .before .before .f .given .1) at (c .before .before .before .before .before .before .before .before .before .before .before .before .before .before .meet .ensures) in
     let k = filed-refused _ _ (l .held) _ _ (c .before .q .given .1) (c .before .before .before .before .before .unify-before .ensures .1 .0) in
-    let d = paired-refused _ _ _ _ _ _ _ _ _ (omega (arith, c .before .before .before .before .before .before .before .before .before .before .before .before .before .before .before .before .loop-test .taken)) _ _ (c .before .before .before .before .before .before .before .before .before .before .before .before .before .before .follow .ensures .0) (c .before .before .before .before .before .before .before .before .before .before .before .before .follow2 .ensures .0) m refl refl _ _ _ _ (c .before .q .given .1) (c .before .before .before .before .before .unify-before .ensures .0) in
+    let d = paired-refused _ _ _ _ _ _ _ _ _ (omega (arith, c .before .before .before .before .before .before .before .before .before .before .before .before .before .before .before .before .before .before .before .loop-test .taken)) _ _ (c .before .before .before .before .before .before .before .before .before .before .before .before .before .before .before .before .before .follow .ensures .0) (c .before .before .before .before .before .before .before .before .before .before .before .before .before .before .before .follow2 .ensures .0) m refl refl _ _ _ _ (c .before .q .given .1) (c .before .before .before .before .before .unify-before .ensures .0) in
     (pursued-then _ _ _ _ _ _ _ _ _ _ _ _ _ (l .inv .4) (l .inv .3) _ _ _ d k, ((added-below (l .inv .3) (k .0), k .1), tt, c .before .before .before .before .before .unify-before .ensures .1 .2))
-
-unify-pair-part-of-requires : (t : ℕ) → unify-pair-lts.Need-part-of-requires (unify-pair-told t) (unify-pair-at t) unify-pair.Post unify-pair-Inv-loop unify-pair-μ-loop
-unify-pair-part-of-requires t c κs =
-    c .before .before .before .before .before .before .before .before .before .before .before .before .before .before .before .before .before .before .before .pre .1 .0
-
-unify-pair-part-of-requires-2 : (t : ℕ) → unify-pair-lts.Need-part-of-requires-2 (unify-pair-told t) (unify-pair-at t) unify-pair.Post unify-pair-Inv-loop unify-pair-μ-loop
-unify-pair-part-of-requires-2 t c κs =
-    c .before .before .before .before .before .before .before .before .before .before .before .before .before .before .before .before .before .before .before .before .pre .1 .0
-
-unify-pair-loop-less : (t : ℕ) → unify-pair-lts.Need-loop-less (unify-pair-told t) (unify-pair-at t) unify-pair.Post unify-pair-Inv-loop unify-pair-μ-loop
-unify-pair-loop-less t c =
-    let d = no-more-done _ _ _ _ (c .before .before .before .w .given .1) (c .before .before .before .before .before .before .before .unify-before .ensures .1 .1) in
-    omega (arith, d, c .before .before .before .before .before .before .before .before .before .before .before .before .before .before .before .before .before .before .loop-test .taken)
-
-unify-pair-loop-again : (t : ℕ) → unify-pair-lts.Need-loop-again (unify-pair-told t) (unify-pair-at t) unify-pair.Post unify-pair-Inv-loop unify-pair-μ-loop
-unify-pair-loop-again t c =
-    let l = c .before .before .before .before .before .before .before .before .before .before .before .before .before .before .before .before .before .before .before .loop in
-    let m = rw (c .before .before .before .before .before .before .before .before .before .before .before .f .given .1) at (c .before .before .before .before .before .before .before .before .before .before .before .before .before .meet .ensures) in
-    let d = no-more-done _ _ _ _ (c .before .before .before .w .given .1) (c .before .before .before .before .before .before .before .unify-before .ensures .1 .1) in
-    let k = filed-done _ _ (l .held) _ _ _ (c .before .before .before .w .given .1) (c .before .before .before .before .before .before .before .unify-before .ensures .1 .0) in
-    (c .before .before .before .before .before .before .before .unify-before .ensures .1 .2, c .before .before .before .before .before .before .before .unify-before .kept .1 .1 .0 ∙ l .inv .1, omega (arith, d, l .inv .2), added-then (l .inv .3) k, pursued-next _ _ _ _ _ _ _ _ _ _ _ _ _ (l .inv .4) (l .inv .3) (omega (arith, c .before .before .before .before .before .before .before .before .before .before .before .before .before .before .before .before .before .before .loop-test .taken)) _ _ _ _ (c .before .before .before .before .before .before .before .before .before .before .before .before .before .before .before .before .follow .ensures .0) (c .before .before .before .before .before .before .before .before .before .before .before .before .before .before .follow2 .ensures .0) m refl refl _ _ _ _ _ (c .before .before .before .w .given .1) (c .before .before .before .before .before .before .before .unify-before .ensures .0) k _ _ (c .before .part-of .ensures) (c .part-of2 .ensures))
 
 unify-pair-same-length-5 : (t : ℕ) → unify-pair-lts.Need-same-length-5 (unify-pair-told t) (unify-pair-at t) unify-pair.Post unify-pair-Inv-loop unify-pair-μ-loop
 unify-pair-same-length-5 t c = search needs
@@ -272,10 +279,12 @@ pub +unify-before+unify-pair-spec : {M : Type 1} → statement M
       meet-reads.Learnt,
       bind-reads.Asked,
       bind-reads.Learnt,
-      unify-before-below t,
-      unify-before.Post,
+      arity-of-reads.Asked,
+      arity-of-reads.Learnt,
       part-of-reads.Asked,
       part-of-reads.Learnt,
+      unify-before-below t,
+      unify-before.Post,
     )
     (unify-pair-at t)
     unify-pair.Post
@@ -297,14 +306,15 @@ pub +unify-before+unify-pair-spec : {M : Type 1} → statement M
     (unify-pair-same-length-3 t)
     (unify-pair-returns-3 t)
     (unify-pair-enum-known-f t)
+    (unify-pair-arity-of-requires t)
+    (unify-pair-part-of-requires t)
+    (unify-pair-part-of-requires-2 t)
     (unify-pair-unify-before-requires t)
     (unify-pair-enum-known-w t)
+    (unify-pair-loop-less t)
+    (unify-pair-loop-again t)
     (unify-pair-enum-known-q t)
     (unify-pair-same-length-4 t)
     (unify-pair-returns-4 t)
-    (unify-pair-part-of-requires t)
-    (unify-pair-part-of-requires-2 t)
-    (unify-pair-loop-less t)
-    (unify-pair-loop-again t)
     (unify-pair-same-length-5 t)
     (unify-pair-returns-5 t)

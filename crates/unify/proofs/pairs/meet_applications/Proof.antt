@@ -35,7 +35,7 @@ returns-3 c =
 
 returns-4 : tie.Need-returns-4
 returns-4 c =
-    someArguments (sym (c .before .before .before .before .before .before .is-same .ensures) ∙ c .before .before .before .before .before .if1 .left) (sym (c .before .before .before .before .part-of .ensures) ∙ c .before .before .if2 .left ∙ c .before .before .before .part-of2 .ensures) (c .before .arity-of .ensures .0) (omega (arith, c .if3 .left))
+    someArguments (sym (c .before .before .before .before .before .before .is-same .ensures) ∙ c .before .before .before .before .before .if1 .left) (sym (c .before .before .before .before .part-of .ensures) ∙ c .before .before .if2 .left ∙ c .before .before .before .part-of2 .ensures) (omega (arith, c .if3 .left, c .before .arity-of .ensures .0))
 
 pub meet-applications-spec : {M : Type 1} → statement M
 meet-applications-spec =
