@@ -1,6 +1,6 @@
 -- A call takes up one pair, so the measures are 2w for a pair and 2w + 1 for the arguments before the last. What is left of the loop has the
 -- same outcome as the whole.
-use mathlib.Core.Path.{_≡_, refl, sym, _∙_}
+use mathlib.Core.Path.{_≡_, refl, _∙_}
 use native.Mathlib.Omega.{arith}
 use lib.ListN.{length}
 use Rattle.unification.specs.Bindings.{Added}
