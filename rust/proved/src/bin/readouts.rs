@@ -32,6 +32,7 @@ fn main() {
         "{:36} {:>12} {:>12} {:>6} {:>12} {:>8}",
         "files", "proofread", "second", "ratio", "bytes", "MB/s"
     );
+    let (mut all_ours, mut all_theirs) = (Duration::ZERO, Duration::ZERO);
     for (name, examples) in files {
         let paths: Vec<String> = examples.iter().map(|example| write(folder, example)).collect();
         let (mut ours, mut theirs) = (Duration::MAX, Duration::MAX);
@@ -43,7 +44,18 @@ fn main() {
         let ratio = ours.as_secs_f64() / theirs.as_secs_f64();
         let speed = bytes as f64 / 1e6 / ours.as_secs_f64();
         println!("{name:36} {:>12} {:>12} {ratio:>6.2} {bytes:>12} {speed:>8.0}", shown(ours), shown(theirs));
+        if paths.len() > 1 {
+            all_ours += ours;
+            all_theirs += theirs;
+        }
     }
+    let ratio = all_ours.as_secs_f64() / all_theirs.as_secs_f64();
+    println!(
+        "{:36} {:>12} {:>12} {ratio:>6.2}",
+        "stored vectors together",
+        shown(all_ours),
+        shown(all_theirs)
+    );
 }
 
 /// The slow files one by one, and the stored vectors by group.
