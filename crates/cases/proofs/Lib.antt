@@ -1,4 +1,1 @@
-pub mod HashLaws
 pub mod PackLaws
-pub mod DigestLaws
-pub mod OutcomeLaws

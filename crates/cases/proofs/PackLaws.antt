@@ -1,16 +1,14 @@
 -- What stands in a pack, and counting its files.
 use mathlib.Core.Bool.{Bool, true, false}
 use mathlib.Core.List.{List}
-use mathlib.Core.Path.{_≡_, refl, sym, ap, subst, _∙_}
+use mathlib.Core.Path.{_≡_, refl, sym, subst}
 use Prim.Native.Nat.{ℕ, zero, suc, _+_, _*_, _≤_, _<_}
-use native.Mathlib.Nat.{add-suc, add-zero, zero-add}
-use native.Mathlib.Numerals.{add-one}
+use native.Mathlib.Nat.{add-zero, zero-add}
 use native.Mathlib.Omega.{arith}
 use borrow.Author.Tests.{lt-leb, le-leb, leb-true}
 use lib.Dec.{leb}
 use lib.ListN.{length, getD}
 use Rattle.cases.specs.Pack.{pickEntry, numberAt, fileOf, entryAt, FilesFrom, none, one}
-use Rattle.cases.specs.declared.pack.Entry.{Entry}
 use Rattle.cases.specs.declared.pack.Entry.the-variants.{File, Short}
 
 -- Four bytes as the program reads them.

@@ -1,4 +1,1 @@
-pub mod Hash
 pub mod Pack
-pub mod Digest
-pub mod Outcome

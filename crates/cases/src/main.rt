@@ -1,12 +1,9 @@
 // Runs every stored vector through the check and prints, for each file, the answer, a hash of each table, and the length and
 // the hash of its readout. The packs are in data/, and stdout has what the second implementation gives for the same files (`rust/vectors/README.md`).
-mod digest;
-mod hash;
-mod outcome;
 mod pack;
 mod print;
 
-use outcome::outcome_of;
+use outcomes::outcome::outcome_of;
 use pack::Counted;
 use pack::Entry;
 use pack::count_files;

@@ -1,9 +1,9 @@
 // Lines on standard output.
-use crate::digest::Digest;
-use crate::outcome::Hashes;
-use crate::outcome::Outcome;
-use crate::outcome::numbers_of;
+use answer::numbers::verdict_numbers;
 use libc::STDOUT_FILENO;
+use outcomes::digest::Digest;
+use outcomes::outcome::Hashes;
+use outcomes::outcome::Outcome;
 
 // Bytes as they are.
 pub fn text(t: &[u8]) {
@@ -46,7 +46,7 @@ fn digest(d: Digest) {
 pub fn line(place: usize, o: Outcome) {
     let a = o.answer;
     let v = a.verdict;
-    let n = numbers_of(v);
+    let n = verdict_numbers(v);
     count(place);
     number(n.kind);
     number(n.what);

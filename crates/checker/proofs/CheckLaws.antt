@@ -1,57 +1,32 @@
 -- The whole check: its two tests before the first record, the tables cleared, and the answer of what was read.
 use mathlib.Core.Path.{_≡_, refl, sym, ap, ap₂, _∙_, subst}
-use mathlib.Core.Bool.{Bool, false, _&&_}
+use mathlib.Core.Bool.{Bool}
 use mathlib.Core.Option.{Option, none, some}
 use mathlib.Core.List.{List, [], _∷_, _++_, map, append-assoc}
-use Prim.Native.Nat.{ℕ, suc, _+_, _-_, _%_, _≤_, _<_}
+use Prim.Native.Nat.{ℕ, suc, _+_, _-_}
 use native.Mathlib.Omega.{arith}
-use lib.Dec.{eqb, leb}
+use lib.Dec.{eqb}
 use lib.ListN.{length, getD, drop, replicate, length-map}
 use lib.Seq.{getD-append-add}
-use borrow.Author.Tests.{ne-eqb, le-leb, lt-leb}
+use borrow.Author.Tests.{ne-eqb}
 use Rattle.record.specs.Record.{pick}
 use Rattle.derivation.specs.Derivation.{literals, Derivation}
 use Rattle.derivation.specs.Stored.{literalsCell}
-use Rattle.checker.specs.Given.{answerGiven, numbersWith, firstZero, standingNumbers, endedNumbers}
-use Rattle.entry.specs.Program.{clearedPart}
-use Rattle.entry.specs.Progress.{nodeTableOf, countsOf}
-use Rattle.checker.specs.Reader.{Begun, EndsAs, EndedWith, RecordsRead, Readable, FileRead, FileReadWith, ReadTo}
+use Rattle.answer.specs.Given.{answerGiven, numbersWith, firstZero, standingNumbers, endedNumbers}
+use Rattle.tables.specs.Cells.{clearedPart}
+use Rattle.entry.specs.Progress.{nodeTableOf, countsOf, ReadTo, tablesWith}
+use Rattle.checker.specs.Reader.{Begun, EndsAs, EndedWith, Readable, FileRead, FileReadWith}
 use Rattle.verdict.specs.Refusal.{Reason, reasonNumber}
 use Rattle.verdict.specs.State.{State, bindingsOf}
-use Rattle.verdict.specs.Step.{read, Ending, allStand, refusedAt, stateOf}
-use Rattle.inference.specs.Stepping.{tablesWith}
+use Rattle.verdict.specs.Step.{Ending, allStand, refusedAt, stateOf}
 use Rattle.verdict.specs.Tables.{Tables, cellsOfClause, clauseCells, filledTables}
-use Rattle.verdict.specs.Verdict.{verdictNumbers, answerNumbers, isEmpty, firstEmpty, standing, verdictOf, answerOf, Lengths, longEnough, fittingLength, ending}
+use Rattle.verdict.specs.Verdict.{verdictNumbers, answerNumbers, isEmpty, firstEmpty, standing, verdictOf, answerOf, ending}
 use Rattle.verdict.proofs.Acceptance.{cells-length}
 use Rattle.entry.proofs.Kept.{Sizes, sizes}
 use Rattle.entry.specs.declared.entry.Counts.{Counts}
-use Rattle.checker.specs.declared.reader.Ended.{Ended}
-use Rattle.checker.specs.declared.reader.Ended.the-variants.{All, Refused}
-use Rattle.checker.specs.declared.answer.Answer.{Answer}
-use Rattle.checker.specs.declared.answer.Verdict.the-variants as verdict
-
--- The two tests.
-pub length-low : (n : ℕ) → n ≤ 65536 → eqb (n % 16) 0 ≡ fittingLength n
-length-low n l = sym (ap (λ (b : Bool). b && eqb (n % 16) 0) (le-leb n 65536 l))
-
-pub length-high : (n : ℕ) → 65536 < n → false ≡ fittingLength n
-length-high n l = sym (ap (λ (b : Bool). b && eqb (n % 16) 0) (lt-leb n 65536 l))
-
-abbrev lengths : ℕ → ℕ → ℕ → ℕ → Lengths
-lengths s r c b = record { symbols = s; rows = r; clauses = c; bindings = b }
-
-module _ (s r c b : ℕ) where
-  pub symbols-short : s < 4096 → false ≡ longEnough (lengths s r c b)
-  symbols-short l = sym (ap (λ (x : Bool). x && leb 4096 r && leb 20480 c && leb 32768 b) (lt-leb 4096 s l))
-
-  pub rows-short : 4096 ≤ s → r < 4096 → false ≡ longEnough (lengths s r c b)
-  rows-short m l = sym (ap₂ (λ (x y : Bool). x && y && leb 20480 c && leb 32768 b) (le-leb 4096 s m) (lt-leb 4096 r l))
-
-  pub clauses-short : 4096 ≤ s → 4096 ≤ r → c < 20480 → false ≡ longEnough (lengths s r c b)
-  clauses-short m k l = sym (λ i. le-leb 4096 s m i && le-leb 4096 r k i && lt-leb 20480 c l i && leb 32768 b)
-
-  pub three-long : 4096 ≤ s → 4096 ≤ r → 20480 ≤ c → leb 32768 b ≡ longEnough (lengths s r c b)
-  three-long m k l = sym (λ i. le-leb 4096 s m i && le-leb 4096 r k i && le-leb 20480 c l i && leb 32768 b)
+use Rattle.answer.specs.declared.Ended.{Ended}
+use Rattle.answer.specs.declared.Ended.the-variants.{All, Refused}
+use Rattle.answer.specs.declared.Answer.{Answer}
 
 -- Before the first record.
 module _ {F : List ℕ} {s r C B : List ℕ} (R : Readable F (tablesWith s r C B)) where

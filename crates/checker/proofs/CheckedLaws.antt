@@ -10,7 +10,7 @@ use Rattle.unification.specs.Row.{Variable}
 use Rattle.unification.proofs.Tests.{true-not-false, some-injective}
 use Rattle.derivation.specs.Derivation.{Derivation, maximumIndex}
 use Rattle.checker.specs.Contract.{Checked, CheckedWith, stateLeft}
-use Rattle.checker.specs.Given.{verdictGiven, answerGiven, untouchedNumbers}
+use Rattle.answer.specs.Given.{verdictGiven, answerGiven, untouchedNumbers}
 use Rattle.checker.specs.Reader.{Readable, FileRead, Unwritten, FileReadWith}
 use Rattle.entry.specs.Progress.{nodeTableOf}
 use Rattle.verdict.specs.Refusal.{Reason, badLength, shortTable}
@@ -23,9 +23,9 @@ use Rattle.verdict.proofs.Acceptance.{cells-length}
 use Rattle.verdict.proofs.Demanded.{check-length, check-tables, check-reads, tables-length, tables-short, tables-read, demand1, demand2, demand3}
 use Rattle.verdict.proofs.Inversions.{entry-below}
 use Rattle.inference.proofs.StepTests.{not-false, not-true}
-use Rattle.checker.specs.declared.answer.Answer.{Answer}
-use Rattle.checker.specs.declared.answer.Verdict.{Verdict}
-use Rattle.checker.specs.declared.answer.Verdict.the-variants as verdict
+use Rattle.answer.specs.declared.Answer.{Answer}
+use Rattle.answer.specs.declared.Verdict.{Verdict}
+use Rattle.answer.specs.declared.Verdict.the-variants as verdict
 
 -- An answer whose numbers say accepted is one.
 accepted-number : (v : verdicts.Verdict) (rest counts : List ℕ) (n : ℕ) → (1 ∷ n ∷ 0 ∷ rest) ≡ verdictNumbers v ++ counts → v ≡ accepted n

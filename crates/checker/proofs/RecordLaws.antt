@@ -6,14 +6,14 @@ use native.Mathlib.Omega.{arith}
 use lib.ListN.{length}
 use Rattle.record.specs.Record.{recordPart, kindOf, decoded, otherKind, kindNumbered}
 use Rattle.entry.specs.Program.{symbolLeft, symbolEntered, rowLeft, variableEntered, applicationEntered, inputLeft, inputEntered}
-use Rattle.entry.specs.Progress.{Reading, RecordRead}
+use Rattle.entry.specs.Progress.{Reading, RecordRead, tablesWith}
 use Rattle.verdict.specs.Refusal.{badKind, kindOfRecord}
 use Rattle.verdict.specs.State.{State}
 use Rattle.verdict.specs.Step.{require}
-use Rattle.inference.specs.Stepping.{tablesWith, BeforeStep, StepRead}
+use Rattle.inference.specs.Stepping.{BeforeStep, StepRead}
 use Rattle.verdict.specs.Tables.{Tables}
 use Rattle.entry.proofs.Declaring.{symbol-read, variable-read, application-read, input-read}
-use Rattle.entry.proofs.FieldLaws.{kind-other}
+use Rattle.fields.proofs.FieldLaws.{kind-other}
 use Rattle.entry.proofs.Kept.{few-records, few-symbols, few-rows, few-clauses, nodes-length}
 use Rattle.verdict.proofs.Resolution.{at-kind}
 use Rattle.entry.specs.declared.entry.Counts.{Counts}

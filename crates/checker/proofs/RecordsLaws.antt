@@ -14,9 +14,8 @@ use Rattle.entry.proofs.Kept.{standing-of, fitting-records}
 use Rattle.entry.specs.declared.entry.Counts.{Counts}
 use Rattle.entry.specs.declared.entry.Entered.{Entered}
 use Rattle.entry.specs.declared.entry.Entered.the-variants.{Stands, Refused}
-use Rattle.checker.specs.declared.reader.Ended.{Ended}
-use Rattle.checker.specs.declared.reader.Ended.the-variants.{All}
-use Rattle.checker.specs.declared.reader.Ended.the-variants as ended-variants
+use Rattle.answer.specs.declared.Ended.the-variants.{All}
+use Rattle.answer.specs.declared.Ended.the-variants as ended-variants
 
 pub record ReadUpTo (F : List ℕ) (t : Tables) (k : ℕ) (n : Counts) (here : Tables) (N A : List ℕ) : Type 0 where
   pub few : k ≤ recordCount F

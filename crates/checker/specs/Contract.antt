@@ -9,15 +9,14 @@ use Rattle.record.specs.Record.{pick}
 use Rattle.unification.specs.Row.{Variable}
 use Rattle.derivation.specs.Derivation.{Derivation, maximumIndex}
 use Rattle.verdict.specs.Demands.{Demand1, Demand2, Demand3}
-use Rattle.checker.specs.Given.{answerGiven}
-use Rattle.entry.specs.Progress.{nodeTableOf}
-use Rattle.checker.specs.Reader.{ReadTo}
+use Rattle.answer.specs.Given.{answerGiven}
+use Rattle.entry.specs.Progress.{nodeTableOf, ReadTo}
 use Rattle.verdict.specs.State.{State, start, rowsOf, clauseOf}
 use Rattle.verdict.specs.Step.{stateOf}
 use Rattle.verdict.specs.Tables.{Tables, lengthsOf, tablesAfter}
 use Rattle.verdict.specs.Verdict.{check, answerNumbers, Lengths, longEnough, fittingLength, ending}
-use Rattle.checker.specs.declared.answer.Answer.{Answer}
-use Rattle.checker.specs.declared.answer.Verdict.the-variants as verdict
+use Rattle.answer.specs.declared.Answer.{Answer}
+use Rattle.answer.specs.declared.Verdict.the-variants as verdict
 
 pub record Checked (file : List ℕ) (before : Tables) (a : Answer) (after : Tables) : Type 0 where
   -- The seven numbers of the answer, and each table at exit, cell by cell.

@@ -2,20 +2,18 @@
 use mathlib.Core.Path.{_≡_}
 use mathlib.Core.Bool.{true}
 use mathlib.Core.List.{List, []}
-use Prim.Native.Nat.{ℕ, _≤_}
+use Prim.Native.Nat.{ℕ}
 use lib.ListN.{length}
-use Rattle.record.specs.Record.{recordCount}
-use Rattle.checker.specs.Given.{answerGiven}
-use Rattle.entry.specs.Progress.{nodeTableOf, countsOf, Kept}
+use Rattle.answer.specs.Given.{answerGiven}
+use Rattle.entry.specs.Progress.{nodeTableOf, countsOf, ReadTo}
 use Rattle.verdict.specs.Refusal.{Reason, reasonNumber}
 use Rattle.verdict.specs.State.{State, start}
 use Rattle.verdict.specs.Step.{allStand, refusedAt, stateOf}
 use Rattle.verdict.specs.Tables.{Tables, lengthsOf, filledTables}
 use Rattle.verdict.specs.Verdict.{answerNumbers, verdictOf, answerOf, longEnough, fittingLength, ending}
-use Rattle.entry.specs.declared.entry.Counts.{Counts}
-use Rattle.checker.specs.declared.reader.Ended.{Ended}
-use Rattle.checker.specs.declared.answer.Answer.{Answer}
-use Rattle.checker.specs.declared.reader.Ended.the-variants.{All, Refused}
+use Rattle.answer.specs.declared.Ended.{Ended}
+use Rattle.answer.specs.declared.Answer.{Answer}
+use Rattle.answer.specs.declared.Ended.the-variants.{All, Refused}
 
 -- Before the first record: the length fits, the named parts of the tables `tablesBefore` are cleared, and the node table is empty.
 pub record Begun (F : List ℕ) (here : Tables) (N A : List ℕ) : Type 0 where
@@ -30,13 +28,6 @@ pub record Begun (F : List ℕ) (here : Tables) (N A : List ℕ) : Type 0 where
 abbrev pub EndsAs : List ℕ → State → Ended → Type 0
 EndsAs F S (All n) = (n ≡ countsOf S) × (ending F ≡ allStand S)
 EndsAs F S (Refused q k n) = (n ≡ countsOf S) × ((reason : Reason) × (ending F ≡ refusedAt S reason k) × (q ≡ reasonNumber reason))
-
--- What is left when reading has ended: what the program keeps of the state S that some number of records leave.
-pub record ReadTo (F : List ℕ) (t : Tables) (S : State) (here : Tables) (N A : List ℕ) : Type 0 where
-  pub count : ℕ
-  pub few : count ≤ recordCount F
-  pub counts : Counts
-  pub kept : Kept F t count S counts here N A
 
 pub record EndedWith (F : List ℕ) (t : Tables) (e : Ended) (here : Tables) (N A : List ℕ) : Type 0 where
   pub state : State

@@ -1,43 +1,18 @@
 // The check of a proof file. The definitions are in the crate verdict: `Verdict` and `Tables` have what the check answers, `Demands`
 // what is demanded of it. In specs/, `Contract` has what `check` promises, and `Reader` says how this program goes about it. Single
 // records are read by the crates entry and inference.
-pub mod answer;
 pub mod reader;
 
 use answer::Answer;
 use answer::ended_answer;
+use answer::lengths::fitting_length;
+use answer::lengths::long_enough;
 use answer::untouched;
-use entry::tables::clear;
 use reader::read_records;
-ghost use mathlib.Core.Path.{_≡_};
-ghost use lib.ListN.{length};
+use tables::clear;
 ghost use Rattle.checker.specs.Contract.{Checked, CheckedWith};
 ghost use Rattle.checker.specs.Reader.{Readable, FileRead, Unwritten, ReadableWith, FileReadWith};
-ghost use Rattle.inference.specs.Stepping.{tablesWith};
-ghost use Rattle.verdict.specs.Verdict.{fittingLength, longEnough};
-
-// Whether a file's length is at most 65,536 and a multiple of 16.
-fn fitting_length(n: usize) -> bool
-    ensures { λ b. ⌜ b ≡ fittingLength n ⌝ }
-{
-    if n <= 65536 { n % 16 == 0 } else { false }
-}
-
-// Whether each table has at least its named part.
-fn long_enough(symbols: usize, rows: usize, clauses: usize, bindings: usize) -> bool
-    ensures { λ b. ⌜ b ≡ longEnough (record { symbols = symbols; rows = rows; clauses = clauses; bindings = bindings }) ⌝ }
-{
-    if symbols < 4096 {
-        return false;
-    }
-    if rows < 4096 {
-        return false;
-    }
-    if clauses < 20480 {
-        return false;
-    }
-    32768 <= bindings
-}
+ghost use Rattle.entry.specs.Progress.{tablesWith};
 
 // The named parts cleared, and all records read. The rows go to the node table as well.
 fn read_tables(

@@ -1,23 +1,17 @@
 // Records one after another: each by its kind.
+use answer::Ended;
 use entry::entry::Counts;
 use entry::entry::Entered;
 use entry::entry::application_record;
 use entry::entry::input_record;
 use entry::entry::symbol_record;
 use entry::entry::variable_record;
-use inference::inference::factor_record;
-use inference::inference::resolve_record;
+use factoring::factor_record;
 use record::kind;
 use record::record_part;
-ghost use Rattle.entry.specs.Progress.{Reading, RecordRead};
+use resolution::resolve_record;
+ghost use Rattle.entry.specs.Progress.{Reading, RecordRead, tablesWith};
 ghost use Rattle.checker.specs.Reader.{Begun, RecordsRead};
-ghost use Rattle.inference.specs.Stepping.{tablesWith};
-
-// All records stand, with the counts after the last; or one is refused: its reason's number, its own, and the counts before it.
-pub enum Ended {
-    All(Counts),
-    Refused(u8, u16, Counts),
-}
 
 // Record k, by its kind. A kind that no record has is refused before anything else.
 pub fn read_record(

@@ -5,9 +5,9 @@ use Prim.Native.Nat.{ℕ, _<_, _≤_}
 use native.Mathlib.Omega.{arith}
 use lib.ListN.{length, drop, set}
 use Rattle.checker.specs.Contract.{Checked}
-use Rattle.checker.specs.Given.{verdictGiven, answerGiven}
+use Rattle.answer.specs.Given.{verdictGiven, answerGiven}
 use Rattle.verdict.specs.Tables.{Tables}
-use Rattle.checker.specs.declared.answer.Answer.{Answer}
+use Rattle.answer.specs.declared.Answer.{Answer}
 use Rattle.checker_c.specs.Exported.{Exported}
 
 -- Seven stores put seven numbers before the rest.

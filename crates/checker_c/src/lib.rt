@@ -1,13 +1,13 @@
 // The check of a proof file and its readout for C. The definitions are in specs/: `Exported` says what `checker_check` promises,
 // `ExportedReadout` what `checker_readout` does, and checker.h has their declarations.
-mod answer;
+mod cells;
 mod progress;
 
-use answer::put;
+use cells::put;
 use checker::check;
 use progress::put_progress;
 use readout::readout_piece;
-ghost use Rattle.inference.specs.Stepping.{tablesWith};
+ghost use Rattle.entry.specs.Progress.{tablesWith};
 ghost use Rattle.checker_c.specs.Exported.{Exported};
 ghost use Rattle.checker_c.specs.ExportedReadout.{ExportedReadout};
 

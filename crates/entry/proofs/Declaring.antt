@@ -16,7 +16,9 @@ use Rattle.unification.specs.Row.{variable, Row, application}
 use Rattle.unification.proofs.Lists.{Each}
 use Rattle.unification.proofs.Tests.{to-T, both-true, true-not-false}
 use Rattle.derivation.specs.Derivation.{literals, input, RowLiteral, literalOf, inputLiterals, Derivation, placed, maximumIndex, ownBindings}
-use Rattle.entry.specs.Program.{withClauseCells, nodeCells, withNode, isRepeated, arityIn, noVariable, moreSymbols, moreRows, moreClauses, SymbolLeft, symbolLeft, symbolEntered, RowLeft, rowLeft, rowEntered, variableEntered, applicationThere, applicationEntered, InputLeft, inputLeft, inputEntered}
+use Rattle.entry.specs.Program.{nodeCells, withNode, isRepeated, noVariable, moreSymbols, moreRows, moreClauses, SymbolLeft, symbolLeft, symbolEntered, RowLeft, rowLeft, rowEntered, variableEntered, applicationThere, applicationEntered, InputLeft, inputLeft, inputEntered}
+use Rattle.tables.specs.Cells.{withClauseCells}
+use Rattle.fields.specs.Fields.{arityIn}
 use Rattle.entry.specs.Progress.{cellsOfRow, nodeTableOf, countsOf, Kept, Next}
 use Rattle.verdict.specs.Refusal.{outOfRange, notThere, repeatedRow, variableLiteral, reasonNumber, kindOfRecord, zeros, inRange, argumentRows, hasArity, allBelow, allThere, differsFromAll, allApplications}
 use Rattle.verdict.specs.State.{arities, State, withSymbol, withRow, withClause, entry, rowsOf, derivations, arityOf, rowOf, bindingsOf, held}

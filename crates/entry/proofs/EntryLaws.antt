@@ -7,18 +7,19 @@ use Prim.Native.Nat.{ℕ, _+_, _≤_}
 use native.Mathlib.Omega.{arith}
 use lib.Dec.{leb, T}
 use lib.ListN.{drop, set}
-use borrow.Author.Tests.{eq-eqb, ne-eqb}
+use borrow.Author.Tests.{eq-eqb, ne-eqb, leb-true, not-true, not-false}
 use Rattle.record.specs.Record.{pick, countOf, fieldOf, decoded, symbolKind, variableKind, applicationKind, inputKind}
 use Rattle.unification.specs.Nodes.{part}
 use Rattle.unification.proofs.Tests.{both-true}
 use Rattle.derivation.specs.Derivation.{inputLiterals}
-use Rattle.entry.specs.Program.{withClauseCells, nodeCells, withNode, isRepeated, arityIn, noVariable, arityAnswer, moreSymbols, moreRows, moreClauses, symbolLeft, symbolEntered, RowLeft, rowLeft, rowEntered, variableEntered, applicationThere, applicationEntered, inputLeft, inputEntered}
+use Rattle.entry.specs.Program.{nodeCells, withNode, isRepeated, noVariable, moreSymbols, moreRows, moreClauses, symbolLeft, symbolEntered, RowLeft, rowLeft, rowEntered, variableEntered, applicationThere, applicationEntered, inputLeft, inputEntered}
+use Rattle.tables.specs.Cells.{withClauseCells}
+use Rattle.fields.specs.Fields.{arityIn, arityAnswer}
 use Rattle.verdict.specs.Refusal.{zeros, inRange, argumentRows, hasArity, allBelow}
-use borrow.Author.Tests.{leb-true, not-true, not-false}
 use Rattle.entry.specs.declared.entry.Counts.{Counts}
 use Rattle.entry.specs.declared.entry.Entered.the-variants.{Stands, Refused}
-use Rattle.entry.specs.declared.fields.Arity.{Arity}
-use Rattle.entry.specs.declared.fields.Arity.the-variants.{Is, Missing}
+use Rattle.fields.specs.declared.Arity.{Arity}
+use Rattle.fields.specs.declared.Arity.the-variants.{Is, Missing}
 
 -- What a test picks, the code's test being the definition's.
 pass : {A : Type 0} {b t : Bool} {x : A} (y z : A) → b ≡ t → b ≡ true → x ≡ y → x ≡ pick t y z

@@ -11,7 +11,7 @@ use lib.Seq.{getD-append-add, ext-getD, set-at, append-snoc, getD-take, getD-dro
 use Rattle.unification.specs.Bindings.{bindingsFrom}
 use Rattle.unification.specs.Unification.{full}
 use Rattle.unification.proofs.Tests.{to-T}
-use Rattle.entry.specs.Program.{clearedPart, withClauseCells}
+use Rattle.tables.specs.Cells.{clearedPart, withClauseCells}
 use Rattle.verdict.specs.State.{held}
 use Rattle.verdict.specs.Tables.{cellsOfBindings, filled}
 use Rattle.verdict.proofs.Inversions.{not-below}

@@ -1,10 +1,7 @@
 pub mod NodeTable
 pub mod Filling
-pub mod ClearedCells
-pub mod FieldLaws
 pub mod NodeLaws
 pub mod Entering
 pub mod EntryLaws
 pub mod Kept
-pub mod KeptClauses
 pub mod Declaring

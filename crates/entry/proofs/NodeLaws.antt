@@ -1,18 +1,20 @@
 -- Rows of the node table, written and compared cell by cell.
 use mathlib.Core.Path.{_≡_, sym, ap, ap₂, _∙_}
 use mathlib.Core.Bool.{Bool, true, false}
-use mathlib.Core.List.{List, [], _∷_, append-assoc}
-use Prim.Native.Nat.{ℕ, zero, suc, _+_, _-_, _*_, _≤_, _<_}
+use mathlib.Core.List.{List, [], _∷_, append-assoc, map}
+use Prim.Native.Nat.{ℕ, zero, suc, _+_, _-_, _*_, _/_, _≤_, _<_}
 use native.Mathlib.Numerals.{add-one}
 use native.Mathlib.Omega.{arith}
-use lib.ListN.{length, getD, take, drop, set}
+use lib.ListN.{length, getD, take, drop, set, drop-of-length-le}
 use borrow.Author.Tests.{eq-eqb, ne-eqb}
 use Rattle.record.specs.Record.{pick, fieldOf, fieldsOf}
-use Rattle.entry.specs.Program.{nodeCells, nodeAt, withNode, isRepeated}
+use Rattle.unification.specs.Nodes.{isVariable}
+use Rattle.derivation.specs.Derivation.{literalOf}
+use Rattle.entry.specs.Program.{nodeCells, nodeAt, withNode, isRepeated, noVariable}
+use Rattle.fields.proofs.FieldLaws.{field-next-to}
 use Rattle.verdict.specs.Refusal.{equalLists}
 use Rattle.verdict.proofs.Standing.{room}
 use native.Mathlib.Nat.{not-suc-le-zero}
-use lib.ListN.{drop-of-length-le}
 use lib.Seq.{drop-cons, sets-eq}
 
 -- The first i fields of a record stored after the code of a row whose cells start at `at`.
@@ -94,3 +96,11 @@ pub seven-fields : (p : List ℕ) {a b d e f g h : ℕ}
     → a ≡ fieldOf p 0 → b ≡ fieldOf p 1 → d ≡ fieldOf p 2 → e ≡ fieldOf p 3 → f ≡ fieldOf p 4 → g ≡ fieldOf p 5 → h ≡ fieldOf p 6
     → a ∷ b ∷ d ∷ e ∷ f ∷ g ∷ h ∷ [] ≡ fieldsOf p
 seven-fields p a b d e f g h = rw (a, b, d, e, f, g, h)
+
+-- Literals on variable rows, off the node table.
+module _ (N : List ℕ) (p : List ℕ) (i to : ℕ) {n : ℕ} {b : Bool} (l : i < to) (h : to ≤ 7) (e : n ≡ fieldOf p i) (t : b ≡ isVariable N (n / 2)) where
+  pub variable-stop : b ≡ true → noVariable N (map literalOf (take (to - i) (drop i (fieldsOf p)))) ≡ false
+  variable-stop z = rw (field-next-to p i to l h, ← e, ← t, z)
+
+  pub variable-on : b ≡ false → noVariable N (map literalOf (take (to - i) (drop i (fieldsOf p)))) ≡ noVariable N (map literalOf (take (to - (i + 1)) (drop (i + 1) (fieldsOf p))))
+  variable-on z = rw (field-next-to p i to l h, ← e, ← t, z)

@@ -2,7 +2,7 @@
 use mathlib.Core.Path.{_≡_}
 use mathlib.Core.Bool.{true}
 use mathlib.Core.List.{List, [], _∷_, _++_}
-use Prim.Native.Nat.{ℕ, suc, _+_, _-_, _*_, _<_}
+use Prim.Native.Nat.{ℕ, suc, _+_, _-_, _*_, _≤_, _<_}
 use lib.Dec.{T}
 use lib.ListN.{length, take, replicate}
 use Rattle.record.specs.Record.{records, recordCount, recordPart, decoded}
@@ -32,6 +32,10 @@ nodeTableOf ws = nodeList ws ++ replicate (32768 - 8 * length ws) 0
 abbrev pub countsOf : State → Counts
 countsOf S = record { symbols = length (S .symbols); rows = length (S .rows); clauses = length (S .clauses); bindings = held S }
 
+-- The four tables.
+abbrev pub tablesWith : List ℕ → List ℕ → List ℕ → List ℕ → Tables
+tablesWith symbols rows C B = record { symbols = symbols; rows = rows; clauses = C; bindings = B }
+
 -- What the program has after k records of the file F, begun on the tables t: the counts, tables and node table of the state that these
 -- records leave. What the array of values holds between steps does not matter.
 pub record Kept (F : List ℕ) (t : Tables) (k : ℕ) (S : State) (n : Counts) (here : Tables) (N A : List ℕ) : Type 0 where
@@ -57,3 +61,10 @@ Next F t k S here N A (Refused q) = (reason : Reason) × (step S k (decoded (rec
 
 pub record RecordRead (F : List ℕ) (k : ℕ) (n : Counts) (here : Tables) (N A : List ℕ) (e : Entered) (here′ : Tables) (N′ A′ : List ℕ) : Type 0 where
   pub next : (t : Tables) (S : State) → Kept F t k S n here N A → Next F t k S here′ N′ A′ e
+
+-- What is left when reading has ended: what the program keeps of the state S that some number of records leave.
+pub record ReadTo (F : List ℕ) (t : Tables) (S : State) (here : Tables) (N A : List ℕ) : Type 0 where
+  pub count : ℕ
+  pub few : count ≤ recordCount F
+  pub counts : Counts
+  pub kept : Kept F t count S counts here N A

@@ -14,7 +14,7 @@ use Rattle.unification.specs.Nodes.{isVariable, part, nodeArity, argumentsFrom,
 use Rattle.unification.specs.Row.{variable, application, Expression}
 use Rattle.unification.specs.Unification.{mostLinks}
 use Rattle.unification.specs.Values.{slot, put, cellOf, indexOf, InStep, Onward, Models}
-use Rattle.following.specs.Walks.{halved, EndsAt, Walked}
+use Rattle.following.specs.Walks.{halved, Walked}
 use Rattle.unification.proofs.Limits.{links-8192}
 use Rattle.following.proofs.Links.{onward-trans, onward-in-step, onward-follow, EndsIn, ends-onward}
 use Rattle.unification.proofs.Meaning.{Ended, follow-ends, follow-unb, follow-appl}
@@ -103,6 +103,11 @@ module _ (N : List ℕ) (top : ℕ) (A : List ℕ) (ρ : Environment) (e : Expre
 
   pub walked-var : Walked N top A ρ e (Variable r i) → (isVariable N r ≡ true) × (ρ (r, i) ≡ none)
   walked-var W = let h : Ended (nodeRow N) ρ (unbound (part N r 0) (r, i)) = rw (W .seen) at (follow-ends (nodeRow N) mostLinks ρ e) in (row-var N r _ (isVariable N r) refl (h .0), h .1)
+
+-- What is known of where following ends.
+abbrev pub EndsAt : List ℕ → Environment → Followed → Type 0
+EndsAt N ρ (Variable r i) = (isVariable N r ≡ true) × (ρ (r, i) ≡ none)
+EndsAt N ρ (Application r i) = isVariable N r ≡ false
 
 pub walked-ends : (N : List ℕ) (top : ℕ) (A : List ℕ) (ρ : Environment) (e : Expression) (x : Followed) → Walked N top A ρ e x → EndsAt N ρ x
 walked-ends N top A ρ e (Variable r i) W = walked-var N top A ρ e r i W

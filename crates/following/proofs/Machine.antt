@@ -8,7 +8,7 @@ use Rattle.record.specs.Record.{pick}
 use Rattle.unification.specs.Environment.{follow, Binding, Environment, extend, unbound, link, View, applied, Ends}
 use Rattle.unification.specs.Row.{Row, Expression, same}
 use Rattle.unification.specs.Unification.{Failure, clash, occurs, overwork, full, Outcome, unified, failed, Pair, Task, unifying, testing, Turn, goOn, stop, arguments, argumentPairs, meet, testRest, testOne, withoutWork, withWork, run}
-use Rattle.following.specs.Walks.{absent, Tested, broken, thenRun, thenTest, PairRuns, MeetRuns, ArgumentsRun, TestRuns, TestsRun, bindOutcome}
+use Rattle.following.specs.Walks.{absent, Tested, broken, thenRun, thenTest, PairRuns, ArgumentsRun, TestRuns, TestsRun, bindOutcome}
 use Rattle.unification.proofs.Meaning.{expressionOf}
 use Rattle.unification.proofs.Tests.{from-T}
 
@@ -64,6 +64,10 @@ module _ (row : ℕ → Row) (links : ℕ) (isFull : List Binding → Bool) (bas
       pair-turn n bs e d (applied s xs e′) (applied t ys d′) p q ps
       ∙ ap₂ (λ b c. withWork (λ t. R n t) (suc n) (pick b (goOn (unifying bs ps)) (pick c (goOn (unifying bs (argumentPairs xs (e′ .1) ys (d′ .1) ps))) (stop clash)))) z y
 
+  -- The machine on a pair whose sides were followed.
+  abbrev pub MeetRuns : ℕ → List Binding → View → View → Outcome → Type 0
+  MeetRuns n bs v w r = (ps : List Pair) → withWork (λ s. R n s) (suc n) (meet v w bs ps) ≡ thenRun row links isFull base r ps
+
   -- The left side is an unbound variable: what the occurrence test comes to decides.
   bind-then : (o : Tested) (bs : List Binding) (x : Expression) (d : Expression) (ps : List Pair) → thenTest row links isFull base o bs x d [] ps ≡ thenRun row links isFull base (bindOutcome row links isFull base o bs x d) ps
   bind-then (absent n) bs x d ps = try (isFull bs)
@@ -74,7 +78,7 @@ module _ (row : ℕ → Row) (links : ℕ) (isFull : List Binding → Bool) (bas
   bind-then (broken r) bs x d ps = refl
 
   pub meet-left : (n : ℕ) (bs : List Binding) (v : ℕ) (e′ : Expression) (w : View) → Ends w → same e′ (expressionOf w) ≡ false → (o : Tested) → TestRuns row links isFull base n bs e′ (expressionOf w) (expressionOf w) o
-      → MeetRuns row links isFull base n bs (unbound v e′) w (bindOutcome row links isFull base o bs e′ (expressionOf w))
+      → MeetRuns n bs (unbound v e′) w (bindOutcome row links isFull base o bs e′ (expressionOf w))
   meet-left n bs v e′ (unbound u d′) z y o h ps =
       ap (λ b. withWork (λ t. R n t) (suc n) (pick b (goOn (unifying bs ps)) (goOn (testing bs e′ d′ d′ [] ps)))) y ∙ h [] ps ∙ bind-then o bs e′ d′ ps
   meet-left n bs v e′ (applied t ys d′) z y o h ps = h [] ps ∙ bind-then o bs e′ d′ ps

@@ -12,7 +12,7 @@ use Rattle.unification.specs.Nodes.{isVariable, part, nodeArity, HasRow, argume
 use Rattle.unification.specs.Row.{Expression, same}
 use Rattle.unification.specs.Unification.{mostLinks, Failure, occurs, overwork, failed, Pair, Turn, arguments, testRest, testOne, withoutWork, run}
 use Rattle.unification.specs.Values.{InStep, Models}
-use Rattle.following.specs.Walks.{viewOf, Walked, Follows, absent, Tested, broken, testedOf, TestLeavesLess, TestLeavesNoMore, TestRuns, TestsRun, Looked, LookedArgs, Scanning, Scanned, LookedBefore, metVariable}
+use Rattle.following.specs.Walks.{viewOf, Walked, Follows, absent, Tested, broken, testedOf, TestLeavesLess, TestLeavesNoMore, TestRuns, TestsRun, Looked, LookedArgs, Scanned, LookedBefore, metVariable}
 use Rattle.following.proofs.Halving.{walked-app}
 use Rattle.following.proofs.Machine.{test-found, test-other, test-into, tests-none, tests-next, tests-broken}
 use Rattle.following.specs.declared.follow.Followed.{Followed}

@@ -2,16 +2,15 @@
 -- contract is stated for every environment that the array stands for, and for every rest of the machine's task.
 use mathlib.Core.Path.{_≡_}
 use mathlib.Core.Bool.{Bool, true, false}
-use mathlib.Core.Option.{none}
 use mathlib.Core.List.{List, _∷_}
-use Prim.Native.Nat.{ℕ, suc, _+_, _≤_, _<_}
+use Prim.Native.Nat.{ℕ, _+_, _≤_, _<_}
 use lib.Dec.{eqb}
 use lib.ListN.{getD}
 use Rattle.record.specs.Record.{pick}
 use Rattle.unification.specs.Environment.{follow, Binding, Environment, extend, unbound, View, applied}
 use Rattle.unification.specs.Nodes.{isVariable, part, nodeArity, argumentsFrom, nodeRow}
 use Rattle.unification.specs.Row.{Row, Expression}
-use Rattle.unification.specs.Unification.{mostLinks, Failure, occurs, overwork, full, Outcome, unified, failed, Pair, unifying, testing, arguments, argumentPairs, meet, testRest, withWork, run}
+use Rattle.unification.specs.Unification.{mostLinks, Failure, occurs, overwork, full, Outcome, unified, failed, Pair, unifying, testing, arguments, argumentPairs, testRest, withWork, run}
 use Rattle.unification.specs.Values.{slot, put, InStep, Models}
 use Rattle.following.specs.declared.follow.Followed.{Followed}
 use Rattle.following.specs.declared.follow.Followed.the-variants.{Variable, Application}
@@ -30,11 +29,6 @@ endOf (Application r i) = (r, i)
 -- The cells at `at` hold t at index k. Where that is a bound variable, they are set to what its own cells hold.
 unfoldable pub halved : List ℕ → List ℕ → ℕ → ℕ → ℕ → List ℕ
 halved N A at t k = pick (isVariable N t) (pick (eqb (getD A (slot N t k) 0) 0) A (put A at (getD A (slot N t k) 0) (getD A (slot N t k + 1) 0))) A
-
--- What is known of where following ends.
-abbrev pub EndsAt : List ℕ → Environment → Followed → Type 0
-EndsAt N ρ (Variable r i) = (isVariable N r ≡ true) × (ρ (r, i) ≡ none)
-EndsAt N ρ (Application r i) = isVariable N r ≡ false
 
 -- Following e ended on x, and the array, shortened, still stands for ρ.
 pub record Walked (N : List ℕ) (top : ℕ) (A : List ℕ) (ρ : Environment) (e : Expression) (x : Followed) : Type 0 where
@@ -76,12 +70,9 @@ module _ (row : ℕ → Row) (links : ℕ) (isFull : List Binding → Bool) (bas
   thenTest (absent n) bs x e os ps = withWork (λ s. run row links isFull base n s) 0 (testRest isFull bs x e os ps)
   thenTest (broken r) bs x e os ps = failed r
 
-  -- One pair, a pair whose sides were followed, and the arguments of two applications.
+  -- One pair, and the arguments of two applications.
   abbrev pub PairRuns : ℕ → List Binding → Expression → Expression → Outcome → Type 0
   PairRuns n bs e d r = (ps : List Pair) → run row links isFull base n (unifying bs ((e, d) ∷ ps)) ≡ thenRun r ps
-
-  abbrev pub MeetRuns : ℕ → List Binding → View → View → Outcome → Type 0
-  MeetRuns n bs v w r = (ps : List Pair) → withWork (λ s. run row links isFull base n s) (suc n) (meet v w bs ps) ≡ thenRun r ps
 
   abbrev pub ArgumentsRun : ℕ → List Binding → List ℕ → ℕ → List ℕ → ℕ → Outcome → Type 0
   ArgumentsRun n bs xs i ys j r = (ps : List Pair) → run row links isFull base n (unifying bs (argumentPairs xs i ys j ps)) ≡ thenRun r ps

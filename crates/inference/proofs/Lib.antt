@@ -1,3 +1,4 @@
+pub mod KeptClauses
 pub mod StepLaws
 pub mod StepTests
 pub mod StepEnds

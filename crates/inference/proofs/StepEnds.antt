@@ -10,12 +10,12 @@ use Rattle.unification.specs.Bindings.{bindingsFrom}
 use Rattle.unification.specs.Environment.{Binding}
 use Rattle.unify.specs.Unifying.{failureOf, outcomeOf, Counted}
 use Rattle.derivation.specs.Derivation.{literals, Derivation, maximumIndex, ownBindings}
-use Rattle.entry.specs.Program.{clearedPart, withClauseCells}
-use Rattle.entry.specs.Progress.{countsOf}
+use Rattle.tables.specs.Cells.{clearedPart, withClauseCells}
+use Rattle.entry.specs.Progress.{countsOf, tablesWith}
 use Rattle.verdict.specs.Refusal.{unification}
 use Rattle.verdict.specs.State.{State, withClause, derivations, held}
 use Rattle.verdict.specs.Step.{step, addClause}
-use Rattle.inference.specs.Stepping.{tablesWith, BeforeStep, UnifiedTables, Finished, finished, withStep, stepFinished, HeldUpTo, Finishing, StepRead}
+use Rattle.inference.specs.Stepping.{BeforeStep, UnifiedTables, Finished, finished, withStep, stepFinished, HeldUpTo, Finishing, StepRead}
 use Rattle.verdict.specs.Tables.{Tables, cellsOfBindings, bindingCells, filled, filledTables}
 use Rattle.entry.proofs.Declaring.{symbols-here, rows-here, clauses-here, bindings-here, clause-table}
 use Rattle.entry.proofs.Filling.{bindings-count, bindings-added, bindings-cleared}

@@ -26,16 +26,17 @@ use Rattle.derivation.proofs.Known.{Known, KnownEnvironment, known-numbered, kn
 use Rattle.derivation.proofs.Literals.{In, each-numbered, LiteralIn, literals-in}
 use Rattle.loading.proofs.LoadedModels.{cleared-free, resolve-models}
 use Rattle.derivation.proofs.Validity.{lookup-in}
-use Rattle.entry.specs.Program.{clearedPart, withClauseCells}
+use Rattle.tables.specs.Cells.{clearedPart, withClauseCells}
 use Rattle.verdict.specs.State.{State, rowsOf, derivations, clauseOf, rowOf, held}
 use Rattle.verdict.specs.Step.{step, unifyResolve, unifyFactor}
-use Rattle.inference.specs.Stepping.{tablesWith, BeforeStep, AtomOf, atomNamed, Resolving, Factoring, UnifiedTables, finished, withStep, stepFinished, HeldUpTo}
+use Rattle.inference.specs.Stepping.{BeforeStep, AtomOf, atomNamed, Resolving, Factoring, UnifiedTables, finished, withStep, stepFinished, HeldUpTo}
+use Rattle.entry.specs.Progress.{tablesWith}
 use Rattle.verdict.specs.Tables.{Tables, bindingCells}
 use Rattle.verdict.proofs.Advance.{Standing}
 use Rattle.entry.proofs.Declaring.{bindings-here}
 use Rattle.entry.proofs.Filling.{filled-length}
 use Rattle.entry.proofs.Kept.{sizes, few-records, few-clauses}
-use Rattle.entry.proofs.KeptClauses as kept
+use Rattle.inference.proofs.KeptClauses as kept
 use Rattle.verdict.proofs.Standing.{below, ChainsEnd, InOrder, StateOk, room, known-of, held-links}
 use Rattle.verdict.proofs.Tabled.{all-bindings-length}
 use Rattle.unify.specs.declared.pairs.Unified.{Unified}
@@ -43,7 +44,7 @@ use Rattle.unify.specs.declared.pairs.Unified.the-variants.{Done}
 use Rattle.unify.specs.declared.pairs.Unified.the-variants as unified-variants
 use Rattle.entry.specs.declared.entry.Entered.the-variants.{Stands, Refused}
 use Rattle.entry.specs.declared.entry.Counts.{Counts}
-use Rattle.inference.specs.declared.inference.Atom.{Atom}
+use Rattle.inference.specs.declared.Atom.{Atom}
 
 module _ {F : List ℕ} {k : ℕ} {n : Counts} {C B N A : List ℕ} (E : BeforeStep F k n C B N A) where
   abbrev S : State

@@ -27,7 +27,7 @@ use Rattle.unify.specs.declared.pairs.Unified.{Unified}
 use Rattle.entry.specs.declared.entry.Counts.{Counts}
 use Rattle.entry.specs.declared.entry.Entered.{Entered}
 use Rattle.entry.specs.declared.entry.Entered.the-variants.{Refused}
-use Rattle.inference.specs.declared.inference.Atom.{Atom}
+use Rattle.inference.specs.declared.Atom.{Atom}
 
 -- Without a literal that exists there is one fewer.
 one-fewer : {A : Type 0} (xs : List A) (a : ℕ) (x : A) → numbered xs a ≡ some x → length (without xs a) + 1 ≡ length xs

@@ -11,9 +11,9 @@ use borrow.Author.Tests.{eq-eqb, ne-eqb}
 use Rattle.record.specs.Record.{pick, Record, recordPart, kindOf, fieldOf, decoded, Kind, resolveKind, factorKind, kindNumbered, fieldA, fieldB, fieldC, fieldD}
 use Rattle.unification.proofs.Tests.{true-not-false}
 use Rattle.derivation.specs.Derivation.{literals, Literal, Derivation, numbered, maximumIndex}
-use Rattle.loading.specs.Named.{namedLiteral, StoredClause}
+use Rattle.clauses.specs.Named.{namedLiteral, StoredClause}
 use Rattle.derivation.specs.Stored.{Stored}
-use Rattle.entry.specs.Program.{stepInRange}
+use Rattle.fields.specs.Fields.{stepInRange}
 use Rattle.verdict.specs.Refusal.{Reason, badKind, outOfRange, notThere, repeatedRow, variableLiteral, wrongSigns, tooLarge, reasonNumber, mostLiterals, mostIndex, kindOfRecord, knownKind, inRange, literalIn, literalNamed, leftOf, rightOf, deletedOf, isThere, allThere, isNew, onApplications, equalSigns, onBoth, fittingSigns, withinLimits}
 use Rattle.verdict.specs.State.{State, entry, derivations, clauseOf}
 use Rattle.verdict.specs.Step.{refused, require, step, enter}
@@ -22,15 +22,12 @@ use Rattle.entry.proofs.Entering.{and-false}
 use Rattle.verdict.proofs.Inversions.{literal-named, not-equal, entry-none}
 use Rattle.verdict.proofs.Resolution.{at-kind}
 use Rattle.inference.proofs.StepLaws.{clause-count, stored-of, order-in}
-use Rattle.loading.specs.declared.literal.NamedLiteral.{NamedLiteral}
-use Rattle.loading.specs.declared.literal.NamedLiteral.the-variants.{Found, Absent}
-use Rattle.unify.specs.declared.pairs.Unified.{Unified}
-use Rattle.unify.specs.declared.pairs.Unified.the-variants.{Done}
-use Rattle.unify.specs.declared.pairs.Unified.the-variants as unified-variants
+use Rattle.clauses.specs.declared.literal.NamedLiteral.{NamedLiteral}
+use Rattle.clauses.specs.declared.literal.NamedLiteral.the-variants.{Found, Absent}
 use Rattle.entry.specs.declared.entry.Counts.{Counts}
 use Rattle.entry.specs.declared.entry.Entered.{Entered}
-use Rattle.entry.specs.declared.entry.Entered.the-variants.{Stands, Refused}
-use Rattle.inference.specs.declared.inference.Atom.{Atom}
+use Rattle.entry.specs.declared.entry.Entered.the-variants.{Refused}
+use Rattle.inference.specs.declared.Atom.{Atom}
 
 -- A clause below the number of clauses exists.
 entry-some : {A : Type 0} (xs : List A) (n : ℕ) → n < length xs → (a : A) × (entry xs n ≡ some a)

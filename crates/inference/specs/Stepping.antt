@@ -9,8 +9,8 @@ use Rattle.record.specs.Record.{recordCount, recordPart, kindOf, decoded, resol
 use Rattle.unify.specs.Unifying.{Counted}
 use Rattle.derivation.specs.Derivation.{literals, Literal, Derivation, numbered, maximumIndex}
 use Rattle.derivation.specs.Stored.{Stored}
-use Rattle.entry.specs.Program.{clearedPart, withClauseCells}
-use Rattle.entry.specs.Progress.{Kept, Next}
+use Rattle.tables.specs.Cells.{clearedPart, withClauseCells}
+use Rattle.entry.specs.Progress.{Kept, Next, tablesWith}
 use Rattle.verdict.specs.Refusal.{inRange, leftOf, rightOf, deletedOf, fittingSigns}
 use Rattle.verdict.specs.State.{State, clauseOf}
 use Rattle.verdict.specs.Tables.{Tables}
@@ -20,13 +20,9 @@ use Rattle.entry.specs.declared.entry.Counts.{Counts}
 use Rattle.entry.specs.declared.entry.Entered.{Entered}
 use Rattle.entry.specs.declared.entry.Entered.the-variants.{Stands}
 use Rattle.entry.specs.declared.entry.Entered.the-variants as entered
-use Rattle.loading.specs.declared.literal.NamedLiteral.{NamedLiteral}
-use Rattle.loading.specs.declared.literal.NamedLiteral.the-variants.{Found, Absent}
-use Rattle.inference.specs.declared.inference.Atom.{Atom}
-
--- The tables, of which a step reads and writes the clauses and the bindings.
-abbrev pub tablesWith : List ℕ → List ℕ → List ℕ → List ℕ → Tables
-tablesWith symbols rows C B = record { symbols = symbols; rows = rows; clauses = C; bindings = B }
+use Rattle.clauses.specs.declared.literal.NamedLiteral.{NamedLiteral}
+use Rattle.clauses.specs.declared.literal.NamedLiteral.the-variants.{Found, Absent}
+use Rattle.inference.specs.declared.Atom.{Atom}
 
 -- What a function on a step asks: what the program keeps before record k, for some tables of symbols and rows.
 pub record BeforeStep (F : List ℕ) (k : ℕ) (n : Counts) (C B N A : List ℕ) : Type 0 where

@@ -10,10 +10,10 @@ use lib.ListN.{length, length-append, length-map}
 use borrow.Author.Tests.{eqb-true, eqb-false, leb-true, leb-false}
 use Rattle.record.specs.Record.{pick, recordPart, kindOf, fieldOf, fieldA, fieldB, fieldC, fieldD}
 use Rattle.derivation.specs.Derivation.{literals, input, Literal, RowLiteral, inputLiterals, Derivation, numbered, without, raiseLiteral, placed, maximumIndex}
-use Rattle.loading.specs.Named.{leftOver, passed, raiseNamed}
+use Rattle.clauses.specs.Named.{leftOver, passed, raiseNamed}
 use Rattle.derivation.specs.Stored.{recordCell, literalsCell, indexCell, recordOf, Stored, storedInput, storedResolve, storedFactor}
-use Rattle.loading.proofs.Numbers.{length-without, numbered-without, passed-in, numbered-left, numbered-right, numbered-raised, raise-named-twice, input-few, input-numbered}
-use Rattle.loading.proofs.Origins.{stored-cells}
+use Rattle.clauses.proofs.Numbers.{length-without, numbered-without, passed-in, numbered-left, numbered-right, numbered-raised, raise-named-twice, input-few, input-numbered}
+use Rattle.clauses.proofs.Origins.{stored-cells}
 use Rattle.lines.specs.Literals.{literalWith, listed, Holds, Placed, Deleted, Collectable, Collected}
 
 -- The first n fields of an input clause's record w are in the list.

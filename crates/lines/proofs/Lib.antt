@@ -1,8 +1,3 @@
-pub mod Positions
-pub mod Decimals
-pub mod TermTexts
-pub mod ArgumentTexts
-pub mod LiteralTexts
 pub mod ListedLiterals
 pub mod CollectedLiterals
 pub mod LineTexts

@@ -16,32 +16,31 @@ use Rattle.unification.specs.Term.{Term}
 use Rattle.unification.specs.Values.{InStep, Models}
 use Rattle.derivation.specs.Derivation.{literals, Literal, Derivation, numbered, maximumIndex, lookup}
 use Rattle.loading.specs.Loaded.{Loadable, Loaded}
-use Rattle.loading.specs.Named.{namedLiteral, StoredClause}
+use Rattle.clauses.specs.Named.{namedLiteral, StoredClause}
 use Rattle.derivation.specs.Stored.{literalsCell, indexCell, Stored}
 use Rattle.derivation.specs.Written.{substitution, writtenLiteral, written}
-use Rattle.loading.proofs.Numbers.{raise-named-zero}
-use Rattle.loading.proofs.Origins.{stored-cells}
+use Rattle.clauses.proofs.Numbers.{raise-named-zero}
+use Rattle.clauses.proofs.Origins.{stored-cells}
 use Rattle.derivation.proofs.Values.{writes-out}
-use Rattle.loading.specs.declared.literal.NamedLiteral.{NamedLiteral}
-use Rattle.loading.specs.declared.literal.NamedLiteral.the-variants.{Found, Absent}
+use Rattle.clauses.specs.declared.literal.NamedLiteral.{NamedLiteral}
+use Rattle.clauses.specs.declared.literal.NamedLiteral.the-variants.{Found, Absent}
 use Rattle.verdict.specs.Refusal.{mostLiterals}
 use Rattle.verdict.specs.State.{State, entry, derivations, clauseOf, rowOf, termOf}
 use Rattle.verdict.specs.Tables.{Tables}
 use Rattle.verdict.proofs.Inversions.{not-equal}
 use Rattle.verdict.proofs.Reading.{term-of-row}
 use Rattle.verdict.proofs.Standing.{StateOk, order-of}
-use Rattle.checker.specs.Reader.{ReadTo}
-use Rattle.inference.specs.Stepping.{tablesWith}
+use Rattle.entry.specs.Progress.{ReadTo, tablesWith}
 use Rattle.entry.proofs.Kept.{fitting-records}
-use Rattle.entry.proofs.KeptClauses as kept
+use Rattle.inference.proofs.KeptClauses as kept
 use Rattle.lines.specs.Lines.{AllWritable, WritesNumbered, WritesLiterals, LineReady, LineWritten}
 use Rattle.lines.specs.Literals.{listed, Collectable, Collected}
 use Rattle.lines.specs.Readout.{clauseLine}
-use Rattle.lines.specs.Text.{decimal, literalText, literalsText}
-use Rattle.lines.specs.Writing.{Wrote, Sized, WritesLiteral}
-use Rattle.lines.proofs.Decimals.{decimal-length}
-use Rattle.lines.proofs.LiteralTexts.{literals-text-short}
-use Rattle.lines.proofs.Positions.{wrote-nothing, wrote-then}
+use Rattle.terms.specs.Text.{decimal, literalText, literalsText}
+use Rattle.terms.specs.Writing.{Wrote, Sized, WritesLiteral}
+use Rattle.terms.proofs.Decimals.{decimal-length}
+use Rattle.terms.proofs.LiteralTexts.{literals-text-short}
+use Rattle.terms.proofs.Positions.{wrote-nothing, wrote-then}
 
 -- The literal that the program found is the one with the number.
 module _ (F C N A T : List ℕ) (at c n : ℕ) (r : NamedLiteral) (G : (B : List ℕ) (d : Derivation) → Stored F C B c d → r ≡ namedLiteral (numbered (literals d) n)) where

@@ -8,7 +8,7 @@ use lib.Dec.{eqb, ltb}
 use lib.ListN.{length, getD, set, length-set}
 use lib.Seq.{getD-set-same, getD-set-other}
 use borrow.Author.Tests.{ne-eqb, eqb-true, eqb-false, ltb-true, ltb-false, le-leb, lt-leb, lt-ltb, le-ltb}
-use Rattle.loading.specs.Named.{leftOver, passed}
+use Rattle.clauses.specs.Named.{leftOver, passed}
 use Rattle.lines.specs.Literals.{literalWith, listed, Placed, Moved, Deleted}
 
 -- Two cells written are one literal.

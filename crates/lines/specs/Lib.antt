@@ -1,5 +1,3 @@
-pub mod Text
 pub mod Readout
-pub mod Writing
 pub mod Literals
 pub mod Lines

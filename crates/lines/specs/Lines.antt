@@ -15,15 +15,10 @@ use Rattle.derivation.specs.Stored.{Stored}
 use Rattle.derivation.specs.Written.{writtenLiteral, WritesOut}
 use Rattle.verdict.specs.State.{State, clauseOf}
 use Rattle.verdict.specs.Tables.{Tables}
-use Rattle.verdict.specs.Verdict.{Verdict, verdictNumbers}
-use Rattle.checker.specs.Given.{verdictGiven}
-use Rattle.checker.specs.Reader.{ReadTo}
-use Rattle.inference.specs.Stepping.{tablesWith}
-use Rattle.checker.specs.declared.answer.Verdict as given
-use Rattle.checker.specs.declared.answer.Verdict.the-variants as given-variants
-use Rattle.lines.specs.Readout.{acceptedText, openText, refusedText, verdictLine, clauseLine}
-use Rattle.lines.specs.Text.{literalsText}
-use Rattle.lines.specs.Writing.{Wrote, Sized, LiteralWritten, WritesLiteral}
+use Rattle.entry.specs.Progress.{ReadTo, tablesWith}
+use Rattle.lines.specs.Readout.{clauseLine}
+use Rattle.terms.specs.Text.{literalsText}
+use Rattle.terms.specs.Writing.{Wrote, Sized, LiteralWritten, WritesLiteral}
 
 -- Every literal of a list can be written out, as `Writable` has it for one expression.
 pub record AllWritable (N : List ℕ) (top : ℕ) (A : List ℕ) (ρ : Environment) (row : ℕ → Row) (term : ℕ → Term ℕ) (σ : Variable → Term Variable) (ls : List Literal) : Type 0 where
@@ -61,14 +56,3 @@ pub record LineWritten (F C B N A A′ T T′ : List ℕ) (at c end : ℕ) : Typ
   pub wrote : (t : Tables) (S : State) (symbols rows : List ℕ) → ReadTo F t S (tablesWith symbols rows C B) N A
       → (d : Derivation) → clauseOf S c ≡ some d → Wrote T T′ at end (clauseLine S c d)
   pub sized : Sized N A′ T′
-
--- The words of a verdict as the program gives it.
-abbrev pub givenText : given.Verdict → List ℕ
-givenText given-variants.Open = openText
-givenText (given-variants.Accepted n) = acceptedText n
-givenText (given-variants.Refused q k) = refusedText q k
-
--- What writing the verdict says: the line of the definition's verdict that has the same three numbers, and the buffer's length.
-pub record VerdictWritten (v : given.Verdict) (T T′ : List ℕ) (at end : ℕ) : Type 0 where
-  pub wrote : (u : Verdict) → verdictGiven v ≡ verdictNumbers u → Wrote T T′ at end (verdictLine u)
-  pub room : length T′ ≡ 131072

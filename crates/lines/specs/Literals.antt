@@ -6,7 +6,7 @@ use mathlib.Core.List.{List}
 use Prim.Native.Nat.{ℕ, _+_, _*_, _≤_, _<_}
 use lib.ListN.{length, getD}
 use Rattle.derivation.specs.Derivation.{literals, Literal, literalOf, Derivation, numbered, maximumIndex}
-use Rattle.loading.specs.Named.{leftOver, passed, raiseNamed}
+use Rattle.clauses.specs.Named.{leftOver, passed, raiseNamed}
 use Rattle.derivation.specs.Stored.{Stored}
 
 -- A literal from its number in an input clause's record, and its index.

@@ -9,7 +9,7 @@ use Rattle.verdict.specs.Refusal.{badLength, shortTable, reasonNumber}
 use Rattle.verdict.specs.State.{State, start, derivations, rowOf, termOf}
 use Rattle.verdict.specs.Step.{stateOf}
 use Rattle.verdict.specs.Verdict.{Verdict, refusal, accepted, undecided, verdictOf, Lengths, longEnough, fittingLength, ending}
-use Rattle.lines.specs.Text.{decimal, literalsText}
+use Rattle.terms.specs.Text.{decimal, literalsText}
 
 -- `accepted N`, `open`, or `refused R at K`.
 abbrev pub acceptedText : ℕ → List ℕ

@@ -1,21 +1,21 @@
 // A line of the readout: a clause written out, with its number, its maximum index and its literals.
-use super::literal::write_literal;
 use super::literals::collect;
-use super::text::put_byte;
-use super::text::put_decimal;
+use clauses::index_cell;
+use clauses::literal::NamedLiteral;
+use clauses::literal::literal;
+use clauses::literals_cell;
 use following::values::clear;
-use loading::index_cell;
-use loading::literal::NamedLiteral;
-use loading::literal::literal;
-use loading::literals_cell;
-use loading::load::load;
+use loading::load;
+use terms::literal::write_literal;
+use terms::text::put_byte;
+use terms::text::put_decimal;
 ghost use mathlib.Core.Path.{_≡_};
 ghost use Prim.Native.Nat.{_<_};
 ghost use lib.ListN.{length};
-ghost use Rattle.loading.specs.Named.{StoredClause};
+ghost use Rattle.clauses.specs.Named.{StoredClause};
 ghost use Rattle.lines.specs.Lines.{WritesNumbered, WritesLiterals, LineReady, LineWritten};
 ghost use Rattle.lines.specs.Literals.{listed, Collectable};
-ghost use Rattle.lines.specs.Writing.{Sized, WritesLiteral};
+ghost use Rattle.terms.specs.Writing.{Sized, WritesLiteral};
 
 // A clause with at most so many literals has each of them looked up. One with more has them collected in one walk, which takes as long
 // however few they are.

@@ -1,8 +1,8 @@
 // All literals of a clause, collected in one walk through its parents. The list of them has two cells for each literal, 2n and 2n + 1 for
 // number n, from 1: the number that an input clause has for it (2 × row, plus 1 if positive), and its index.
-use loading::index_cell;
-use loading::literals_cell;
-use loading::record_cell;
+use clauses::index_cell;
+use clauses::literals_cell;
+use clauses::record_cell;
 ghost use mathlib.Core.Path.{_≡_};
 ghost use Prim.Native.Nat.{_≤_, _<_};
 ghost use lib.ListN.{length};

@@ -1,5 +1,3 @@
-pub mod Numbers
-pub mod Origins
 pub mod Loading
 pub mod ValidBindings
 pub mod LoadedModels

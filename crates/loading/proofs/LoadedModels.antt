@@ -13,15 +13,12 @@ use Rattle.unification.specs.Environment.{follow, Environment, Ends}
 use Rattle.unification.specs.Nodes.{isVariable, HasRow, nodeRow, NodesOk}
 use Rattle.unification.specs.Row.{Expression, Variable}
 use Rattle.unification.specs.Unification.{mostLinks, full}
-use Rattle.unify.specs.Unifying.{Facing}
 use Rattle.unification.specs.Values.{slot, indexOf, InStep, oneLink, Models}
-use Rattle.unification.proofs.Chains.{Short, short-le}
-use Rattle.unification.proofs.Limits.{links-8192}
 use Rattle.derivation.specs.Derivation.{input, Derivation, resolve, factor, raise, maximumIndex, raiseAnswer, joined, lookup}
 use Rattle.loading.specs.Loaded.{heldValue, readCell, orElse, within, BindingsIn, Loaded}
 use Rattle.derivation.specs.Stored.{Stored, storedInput, storedResolve, storedFactor}
 use Rattle.loading.proofs.Loading.{within-joined}
-use Rattle.loading.proofs.ValidBindings.{in-larger, in-raised, joined-in, lookup-in-step}
+use Rattle.loading.proofs.ValidBindings.{in-larger, joined-in, lookup-in-step}
 use borrow.Author.Tests.{le-leb, lt-leb}
 
 -- A clause of the tables is one derivation.
@@ -118,31 +115,3 @@ pub resolve-models : {F C B N A A₁ A₂ : List ℕ} {c e o top : ℕ} {l r : D
 resolve-models {N = N} {A₂ = A₂} {top = top} {l = l} {r = r} T sl Kl sr Kr po q fits free L L′ ends =
     models-exact N A₂ top (joined (maximumIndex l) (lookup l) (lookup r)) T fits (L′ .room) (resolve-reads sl sr po q fits free L L′)
     (λ e f p g. subst (λ (k : ℕ). InStep N k f) q (joined-in N (maximumIndex l) (maximumIndex r) (lookup l) (lookup r) (lookup-in-step N l Kl) (lookup-in-step N r Kr) e f p .1)) ends
-
--- What unifying the literals of a step asks of the array: chains have at most as many links as there are bindings held, and the
--- literals are those of the parents.
-pub factor-facing : {F C B N A A₁ : List ℕ} {c top : ℕ} {d : Derivation} → NodesOk N → Stored F C B c d → BindingsIn N d → maximumIndex d ≡ top → top ≤ 4096
-    → ReadsFree N top A → Loaded F C B N A A₁ c 0 → (held : ℕ) → held ≤ 8192 → Short (HasRow N) (nodeRow N) held (lookup d)
-    → {e f : Expression} → InStep N (maximumIndex d) e → InStep N (maximumIndex d) f → Facing N top A₁ held (lookup d) e f
-factor-facing {N = N} {d = d} T s K q fits free L held few short {e} {f} ge gf =
-    let all : held ≤ mostLinks = subst (λ (k : ℕ). held ≤ k) (sym links-8192) few in
-    record {
-      models = factor-models T s K q fits free L (short-le (HasRow N) (nodeRow N) held mostLinks (lookup d) all short);
-      short = short;
-      left = subst (λ (k : ℕ). InStep N k e) q ge;
-      right = subst (λ (k : ℕ). InStep N k f) q gf;
-    }
-
-pub resolve-facing : {F C B N A A₁ A₂ : List ℕ} {c e o top : ℕ} {l r : Derivation} → NodesOk N → Stored F C B c l → BindingsIn N l → Stored F C B e r → BindingsIn N r
-    → o ≡ maximumIndex l → maximumIndex l + maximumIndex r ≡ top → top ≤ 4096 → ReadsFree N top A → Loaded F C B N A A₁ c 0 → Loaded F C B N A₁ A₂ e o
-    → (held : ℕ) → held ≤ 8192 → Short (HasRow N) (nodeRow N) held (joined (maximumIndex l) (lookup l) (lookup r))
-    → {f g : Expression} → InStep N (maximumIndex l) f → InStep N (maximumIndex r) g
-    → Facing N top A₂ held (joined (maximumIndex l) (lookup l) (lookup r)) f (raise (maximumIndex l) g)
-resolve-facing {N = N} {l = l} {r = r} T sl Kl sr Kr po q fits free L L′ held few short {f} {g} gf gg =
-    let all : held ≤ mostLinks = subst (λ (k : ℕ). held ≤ k) (sym links-8192) few in
-    record {
-      models = resolve-models T sl Kl sr Kr po q fits free L L′ (short-le (HasRow N) (nodeRow N) held mostLinks (joined (maximumIndex l) (lookup l) (lookup r)) all short);
-      short = short;
-      left = subst (λ (k : ℕ). InStep N k f) q (in-larger (omega arith) gf);
-      right = subst (λ (k : ℕ). InStep N k (raise (maximumIndex l) g)) q (in-raised (maximumIndex l) gg);
-    }

@@ -9,7 +9,7 @@ use lib.Dec.{leb}
 use Rattle.record.specs.Record.{pick}
 use Rattle.unification.specs.Environment.{Binding, Environment, extend}
 use Rattle.unification.specs.Nodes.{isVariable}
-use Rattle.unification.specs.Row.{variable, Expression, Variable, same}
+use Rattle.unification.specs.Row.{Expression, Variable, same}
 use Rattle.unification.specs.Values.{InStep}
 use Rattle.unification.proofs.Ranges.{Kept}
 use Rattle.unification.proofs.Tests.{same-eq, some-not-none, some-injective}

@@ -1,57 +1,142 @@
-// What the tables hold of a clause, its literals, and its bindings. `Named` and `Loaded` in specs/ have the contracts; what a clause is
-// stands in the crate derivation.
+// Loading a clause: one walk through its parents that puts every binding it finds into the array of values, so that following a
+// variable afterwards is a read of the array. No variable is bound twice in a derivation, so a clause's own bindings can be put first, and
+// the walk goes on with one parent by a loop; only a clause with two derived parents takes a call.
 ghost use mathlib.Core.Path.{_≡_};
-ghost use lib.ListN.{getD};
-ghost use Rattle.derivation.specs.Stored.{recordCell, literalsCell, indexCell, firstCell, bindingsCell, recordOf};
+ghost use Rattle.loading.specs.Loaded.{Loadable, Loaded, LastParent, Puttable, BindingsPut, BindingThere, putCells};
+ghost use Rattle.derivation.specs.Stored.{recordOf};
+use clauses::bindings_cell;
+use clauses::clause_kind;
+use clauses::first_cell;
+use clauses::index_cell;
+use clauses::record_cell;
 
-pub mod literal;
-pub mod load;
-
-// Cell `at` of a table, 0 outside.
-pub fn cell(table: &[u16], at: usize) -> u16
-    ensures { λ r. ⌜ r ≡ getD (now (table .entry)) at 0 ⌝ }
-{
-    if at < table.len() { table[at] } else { 0 }
+// A parent, and what is added to the indices of its bindings.
+struct Parent {
+    clause: u16,
+    offset: u16,
 }
 
-// The record of clause c.
-pub fn record_cell(clauses: &[u16], c: u16) -> u16
-    ensures { λ r. ⌜ r ≡ recordCell (now (clauses .entry)) c ⌝ }
+// The binding at `at` is put into the array with its indices raised by the offset.
+fn put_binding(
+    bindings: &[u16],
+    nodes: &[u16; 32768],
+    values: &mut [u16; 524416],
+    at: usize,
+    offset: u16,
+)
+    requires { ⌜ BindingThere (now bindings) (now nodes) (now values) at offset ⌝ }
+    ensures { λ _. ⌜ now (values .exit) ≡ putCells (now (bindings .entry)) (now (nodes .entry)) (now (values .entry)) at offset ⌝ }
 {
-    cell(clauses, 5 * (c as usize))
+    let variable = bindings[at] as usize;
+    let number = nodes[8 * variable + 1] as usize;
+    let index = (offset + bindings[at + 1]) as usize;
+    let place = 128 * index + 2 * number;
+    values[place] = bindings[at + 2] + 1;
+    values[place + 1] = offset + bindings[at + 3];
 }
 
-// The number of literals of clause c.
-pub fn literals_cell(clauses: &[u16], c: u16) -> u16
-    ensures { λ r. ⌜ r ≡ literalsCell (now (clauses .entry)) c ⌝ }
+// n bindings of the table, from `first` on, are put into the array with their indices raised by the offset.
+fn put_bindings(
+    bindings: &[u16],
+    nodes: &[u16; 32768],
+    values: &mut [u16; 524416],
+    first: u16,
+    n: u16,
+    offset: u16,
+)
+    requires { ⌜ Puttable (now bindings) (now nodes) (now values) first n offset ⌝ }
+    ensures { λ _. ⌜ BindingsPut (now (bindings .entry)) (now (nodes .entry)) (now (values .entry)) (now (values .exit)) first n offset ⌝ }
 {
-    cell(clauses, 5 * (c as usize) + 1)
+    let mut k: u16 = 0;
+    while k < n {
+        let at = 4 * ((first as usize) + (k as usize));
+        put_binding(bindings, nodes, values, at, offset);
+        k += 1;
+    }
 }
 
-// The maximum index of clause c.
-pub fn index_cell(clauses: &[u16], c: u16) -> u16
-    ensures { λ r. ⌜ r ≡ indexCell (now (clauses .entry)) c ⌝ }
+// The bindings of clause c and those of its parents are put into the array, indices raised by the offset.
+pub fn load(
+    file: &[u8],
+    clauses: &[u16],
+    bindings: &[u16],
+    nodes: &[u16; 32768],
+    values: &mut [u16; 524416],
+    c: u16,
+    offset: u16,
+)
+    requires { ⌜ Loadable (now file) (now clauses) (now bindings) (now nodes) (now values) c offset ⌝ }
+    ensures { λ _. ⌜ Loaded (now (file .entry)) (now (clauses .entry)) (now (bindings .entry)) (now (nodes .entry)) (now (values .entry)) (now (values .exit)) c offset ⌝ }
 {
-    cell(clauses, 5 * (c as usize) + 2)
+    let mut clause = c;
+    let mut raised = offset;
+    while clause_kind(file, clauses, clause) != 4 {
+        put_bindings(
+            bindings,
+            nodes,
+            values,
+            first_cell(clauses, clause),
+            bindings_cell(clauses, clause),
+            raised,
+        );
+        let last = to_last_parent(file, clauses, bindings, nodes, values, clause, raised);
+        clause = last.clause;
+        raised = last.offset;
+    }
 }
 
-// The first binding of clause c.
-pub fn first_cell(clauses: &[u16], c: u16) -> u16
-    ensures { λ r. ⌜ r ≡ firstCell (now (clauses .entry)) c ⌝ }
+// The parent of clause c that is loaded last: the right one, or the left one where it is the only one that has bindings. A left one before it
+// is loaded here, a right one is to be loaded above the left maximum index.
+fn to_last_parent(
+    file: &[u8],
+    clauses: &[u16],
+    bindings: &[u16],
+    nodes: &[u16; 32768],
+    values: &mut [u16; 524416],
+    c: u16,
+    offset: u16,
+) -> Parent
+    requires { ⌜ Loadable (now file) (now clauses) (now bindings) (now nodes) (now values) c offset ⌝ }
+    requires { ⌜ (recordOf (now file) (now clauses) c .kind ≡ 4 → ⊥) ⌝ }
+    ensures { λ r. ⌜ LastParent (now (file .entry)) (now (clauses .entry)) (now (bindings .entry)) (now (nodes .entry)) (now (values .entry)) (now (values .exit)) c offset (r .clause) (r .offset) ⌝ }
 {
-    cell(clauses, 5 * (c as usize) + 3)
+    let part = record::record_part(file, record_cell(clauses, c) as usize);
+    let left = record::field(part, 0);
+    let right = record::field(part, 2);
+    if record::kind(part) != 5 {
+        return Parent {
+            clause: left,
+            offset: offset,
+        };
+    }
+    if clause_kind(file, clauses, right) == 4 {
+        return Parent {
+            clause: left,
+            offset: offset,
+        };
+    }
+    load_left(file, clauses, bindings, nodes, values, left, offset);
+    let above = offset + index_cell(clauses, left);
+    Parent {
+        clause: right,
+        offset: above,
+    }
 }
 
-// The number of bindings of clause c.
-pub fn bindings_cell(clauses: &[u16], c: u16) -> u16
-    ensures { λ r. ⌜ r ≡ bindingsCell (now (clauses .entry)) c ⌝ }
+// Loads a left parent. Most are input clauses, which have no bindings: they take no call. Each has a smaller number.
+fn load_left(
+    file: &[u8],
+    clauses: &[u16],
+    bindings: &[u16],
+    nodes: &[u16; 32768],
+    values: &mut [u16; 524416],
+    c: u16,
+    offset: u16,
+)
+    requires { ⌜ Loadable (now file) (now clauses) (now bindings) (now nodes) (now values) c offset ⌝ }
+    ensures { λ _. ⌜ Loaded (now (file .entry)) (now (clauses .entry)) (now (bindings .entry)) (now (nodes .entry)) (now (values .entry)) (now (values .exit)) c offset ⌝ }
 {
-    cell(clauses, 5 * (c as usize) + 4)
-}
-
-// The kind of clause c's record.
-pub fn clause_kind(file: &[u8], clauses: &[u16], c: u16) -> u8
-    ensures { λ r. ⌜ r ≡ recordOf (now (file .entry)) (now (clauses .entry)) c .kind ⌝ }
-{
-    record::kind(record::record_part(file, record_cell(clauses, c) as usize))
+    if clause_kind(file, clauses, c) != 4 {
+        load(file, clauses, bindings, nodes, values, c, offset);
+    }
 }

@@ -1,6 +1,6 @@
 // Reads a proof file from standard input and prints its readout on standard output, and nothing else. It reads one byte more than a file
 // may have, so that a longer input is refused and an endless one ends. Where the output is closed it stops.
-use checker::answer::Answer;
+use answer::Answer;
 use checker::check_with;
 use libc::STDIN_FILENO;
 use libc::STDOUT_FILENO;

@@ -1,17 +1,17 @@
 -- A piece as it is written: what is in the output after some units, and what is left to write.
-use mathlib.Core.Path.{_≡_, refl, sym, ap, ap₂, _∙_, subst}
-use mathlib.Core.Bool.{Bool, true, false}
+use mathlib.Core.Path.{_≡_, refl, sym, ap, ap₂, _∙_}
+use mathlib.Core.Bool.{Bool}
 use mathlib.Core.List.{List, [], _∷_, _++_, append-assoc, append-nil}
 use Prim.Native.Nat.{ℕ, zero, suc, _+_, _-_, _≤_, _<_}
 use native.Mathlib.Omega.{arith}
 use native.Mathlib.Numerals.{add-one}
-use lib.Dec.{eqb, leb}
-use lib.ListN.{length, getD, set, take, drop, length-append, length-drop, drop-of-length-le}
+use lib.Dec.{eqb}
+use lib.ListN.{length, getD, set, take, drop, length-append, drop-of-length-le}
 use lib.Seq.{paste, paste-suc, drop-cons, take-at, drop-at}
-use borrow.Author.Tests.{le-leb, lt-leb, eqb-true, eqb-false, eq-eqb, ne-eqb}
+use borrow.Author.Tests.{le-leb, lt-leb, eq-eqb, ne-eqb}
 use Rattle.record.specs.Record.{pick}
 use Rattle.verdict.specs.Verdict.{Lengths}
-use Rattle.readout.specs.Pieces.{units, fitting, Progress, complete, goOnWith, tooShortFor, afterPiece, unitsFrom, pieceLines, pieceBytes, progress}
+use Rattle.readout.specs.Pieces.{units, fitting, goOnWith, tooShortFor, afterPiece, unitsFrom, pieceLines}
 use Rattle.lines.specs.Readout.{readoutLines, joinedLines}
 use Rattle.readout.specs.Units.{unitAt, restGiven, stoppedAt, PieceAt}
 use Rattle.readout.specs.declared.piece.Piece.{Piece}

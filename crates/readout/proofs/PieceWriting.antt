@@ -12,23 +12,22 @@ use Rattle.derivation.specs.Derivation.{Derivation}
 use Rattle.verdict.specs.Refusal.{reasonNumber}
 use Rattle.verdict.specs.State.{State, start, derivations, entry, clauseOf}
 use Rattle.verdict.specs.Step.{stateOf}
-use Rattle.verdict.specs.Tables.{Tables, lengthsOf, tablesAfter}
+use Rattle.verdict.specs.Tables.{Tables, lengthsOf}
 use Rattle.verdict.specs.Verdict.{Verdict, accepted, undecided, refusal, check, Lengths, longEnough, fittingLength, ending}
 use Rattle.verdict.proofs.Inversions.{entry-below, entry-more, entry-new}
 use Rattle.verdict.proofs.Reading.{ending-ok}
 use Rattle.checker.specs.Contract.{stateLeft, CheckedWith}
-use Rattle.inference.specs.Stepping.{tablesWith}
-use Rattle.checker.specs.declared.answer.Answer.{Answer}
+use Rattle.entry.specs.Progress.{tablesWith}
+use Rattle.answer.specs.declared.Answer.{Answer}
 use Rattle.readout.specs.Contract.{PieceWritten}
 use Rattle.readout.specs.Pieces.{units, PiecesHold}
-use Rattle.lines.specs.Readout.{verdictLine, clauseLine, clauseLines, linesOf, readoutLines}
-use Rattle.lines.specs.Text.{decimal}
-use Rattle.readout.specs.Units.{unitsWithin, unitAt, restGiven, stoppedAt, AfterCheck, UnitWritten, PieceAt, PieceOf}
-use Rattle.lines.specs.Writing.{Wrote}
+use Rattle.lines.specs.Readout.{verdictLine, clauseLine, clauseLines, readoutLines}
+use Rattle.terms.specs.Text.{decimal}
+use Rattle.readout.specs.Units.{unitsWithin, unitAt, restGiven, stoppedAt, AfterCheck, UnitWritten, PieceOf}
+use Rattle.terms.specs.Writing.{Wrote}
 use Rattle.readout.specs.declared.piece.Piece.{Piece}
-use Rattle.readout.specs.declared.piece.Rest.{Rest}
 use Rattle.readout.specs.declared.piece.Rest.the-variants.{Complete}
-use Rattle.lines.proofs.Decimals.{decimal-length}
+use Rattle.terms.proofs.Decimals.{decimal-length}
 use Rattle.lines.proofs.LineTexts.{line-short}
 use Rattle.readout.proofs.PieceLaws.{AllWithin, pieces-hold}
 use Rattle.readout.proofs.PieceRuns.{SoFar, so-far-none, so-far-all, so-far-stopped, so-far-more}

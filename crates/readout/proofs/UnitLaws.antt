@@ -1,9 +1,9 @@
 -- The units of a readout: the lines of a file by the state that its check left, and how long they are.
-use mathlib.Core.Path.{_≡_, refl, sym, ap, ap₂, _∙_, subst}
+use mathlib.Core.Path.{_≡_, refl, sym, ap, ap₂, _∙_}
 use mathlib.Core.Bool.{Bool, true, false}
 use mathlib.Core.Option.{some}
 use mathlib.Core.List.{List, [], _∷_, _++_}
-use Prim.Native.Nat.{ℕ, zero, suc, _+_, _≤_, _<_}
+use Prim.Native.Nat.{ℕ, zero, suc, _+_, _<_}
 use native.Mathlib.Omega.{arith}
 use lib.Dec.{eqb}
 use lib.ListN.{length, getD, drop, length-append, length-map, List·getD-append}
@@ -14,15 +14,14 @@ use Rattle.derivation.specs.Derivation.{Derivation}
 use Rattle.verdict.specs.Refusal.{badLength, shortTable}
 use Rattle.verdict.specs.State.{State, start, derivations, entry, clauseOf}
 use Rattle.verdict.specs.Step.{stateOf}
-use Rattle.verdict.specs.Tables.{Tables, lengthsOf}
 use Rattle.verdict.specs.Verdict.{Verdict, accepted, undecided, refusal, verdictNumbers, answerNumbers, check, verdictOf, answerOf, longEnough, fittingLength, ending, Lengths}
 use Rattle.verdict.proofs.Inversions.{entry-below}
 use Rattle.unification.proofs.Tests.{some-injective}
-use Rattle.checker.specs.Contract.{stateLeft, CheckedWith}
-use Rattle.checker.specs.Given.{verdictGiven, answerGiven}
-use Rattle.checker.specs.declared.answer.Answer.{Answer}
-use Rattle.checker.specs.declared.answer.Verdict as given
-use Rattle.checker.specs.declared.answer.Verdict.the-variants as given-variants
+use Rattle.checker.specs.Contract.{stateLeft}
+use Rattle.answer.specs.Given.{verdictGiven, answerGiven}
+use Rattle.answer.specs.declared.Answer.{Answer}
+use Rattle.answer.specs.declared.Verdict as given
+use Rattle.answer.specs.declared.Verdict.the-variants as given-variants
 use Rattle.readout.specs.Pieces.{units}
 use Rattle.lines.specs.Readout.{verdictLine, clauseLine, clauseLines, linesOf, readoutLines}
 use Rattle.readout.specs.Units.{unitsWithin, unitAt}

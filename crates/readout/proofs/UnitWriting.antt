@@ -9,24 +9,21 @@ use lib.Dec.{eqb}
 use lib.ListN.{length, length-replicate}
 use borrow.Author.Tests.{eqb-true, eqb-false, eq-eqb, ne-eqb}
 use Rattle.record.specs.Record.{pick}
-use Rattle.derivation.specs.Derivation.{Derivation}
 use Rattle.verdict.specs.State.{State, start, rowsOf, clauseOf}
 use Rattle.verdict.specs.Step.{stateOf}
 use Rattle.verdict.specs.Tables.{Tables, lengthsOf}
 use Rattle.verdict.specs.Verdict.{check, longEnough, fittingLength, ending}
-use Rattle.unification.proofs.Tests.{true-not-false}
-use Rattle.checker.specs.Contract.{stateLeft, CheckedWith}
-use Rattle.entry.specs.Progress.{nodeTableOf}
-use Rattle.checker.specs.Reader.{ReadTo}
-use Rattle.inference.specs.Stepping.{tablesWith}
-use Rattle.checker.specs.declared.answer.Answer.{Answer}
-use Rattle.entry.proofs.KeptClauses.{nodes-room}
-use Rattle.lines.specs.Lines.{LineReady, LineWritten, VerdictWritten}
+use Rattle.checker.specs.Contract.{stateLeft}
+use Rattle.entry.specs.Progress.{nodeTableOf, ReadTo, tablesWith}
+use Rattle.answer.specs.declared.Answer.{Answer}
+use Rattle.inference.proofs.KeptClauses.{nodes-room}
+use Rattle.lines.specs.Lines.{LineReady, LineWritten}
+use Rattle.readout.specs.Heading.{VerdictWritten}
 use Rattle.lines.specs.Readout.{verdictLine, clauseLine}
 use Rattle.readout.specs.Units.{unitsWithin, unitAt, AfterCheck, UnitReady, UnitWritten}
-use Rattle.lines.specs.Writing.{Wrote, Sized}
+use Rattle.terms.specs.Writing.{Wrote, Sized}
 use Rattle.lines.proofs.LineTexts.{ClauseThere, clause-there, read-again}
-use Rattle.lines.proofs.Positions.{wrote-then}
+use Rattle.terms.proofs.Positions.{wrote-then}
 use Rattle.readout.proofs.UnitLaws.{verdict-given, clauses-given, unit-alone, unit-first, unit-other}
 
 -- How many units there are, by the test of the program.

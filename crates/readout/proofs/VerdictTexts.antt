@@ -7,14 +7,14 @@ use lib.ListN.{length, take}
 use lib.Seq.{take-at}
 use Rattle.verdict.specs.Refusal.{reasonNumber}
 use Rattle.verdict.specs.Verdict.{Verdict, refusal, accepted, undecided, verdictNumbers, Answer, answerNumbers}
-use Rattle.checker.specs.Given.{verdictGiven, answerGiven}
-use Rattle.checker.specs.declared.answer.Answer as given-answer
-use Rattle.checker.specs.declared.answer.Verdict as given
-use Rattle.checker.specs.declared.answer.Verdict.the-variants.{Open, Accepted, Refused}
-use Rattle.lines.specs.Lines.{givenText, VerdictWritten}
+use Rattle.answer.specs.Given.{verdictGiven, answerGiven}
+use Rattle.answer.specs.declared.Answer as given-answer
+use Rattle.answer.specs.declared.Verdict as given
+use Rattle.answer.specs.declared.Verdict.the-variants.{Open, Accepted, Refused}
+use Rattle.readout.specs.Heading.{givenText, VerdictWritten}
 use Rattle.lines.specs.Readout.{verdictText}
-use Rattle.lines.specs.Writing.{Wrote}
-use Rattle.lines.proofs.Positions.{wrote-then}
+use Rattle.terms.specs.Writing.{Wrote}
+use Rattle.terms.proofs.Positions.{wrote-then}
 
 -- Three numbers decide the words.
 pub given-words : (v : given.Verdict) (u : Verdict) → verdictGiven v ≡ verdictNumbers u → givenText v ≡ verdictText u

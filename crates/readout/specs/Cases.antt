@@ -10,7 +10,7 @@ use Rattle.unification.specs.Term.{Term, var, app, nil, cons}
 use Rattle.verdict.specs.Cases.{caseA, caseF}
 use Rattle.verdict.specs.Verdict.{named}
 use Rattle.lines.specs.Readout.{readoutLines}
-use Rattle.lines.specs.Text.{literalText}
+use Rattle.terms.specs.Text.{literalText}
 
 --   accepted 4
 --   0 1 +s0(s2)

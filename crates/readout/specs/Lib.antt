@@ -1,4 +1,5 @@
 pub mod Cases
+pub mod Heading
 pub mod Pieces
 pub mod Units
 pub mod Contract

@@ -9,11 +9,11 @@ use Rattle.record.specs.Record.{pick}
 use Rattle.verdict.specs.Tables.{Tables, lengthsOf}
 use Rattle.verdict.specs.Verdict.{Lengths}
 use Rattle.checker.specs.Contract.{CheckedWith}
-use Rattle.inference.specs.Stepping.{tablesWith}
-use Rattle.checker.specs.declared.answer.Answer.{Answer}
+use Rattle.entry.specs.Progress.{tablesWith}
+use Rattle.answer.specs.declared.Answer.{Answer}
 use Rattle.lines.specs.Readout.{readoutLines}
 use Rattle.readout.specs.Pieces.{units, Progress, complete, goOnWith, tooShortFor, pieceBytes, progress}
-use Rattle.lines.specs.Writing.{Wrote, Sized}
+use Rattle.terms.specs.Writing.{Wrote, Sized}
 use Rattle.readout.specs.declared.piece.Piece.{Piece}
 use Rattle.readout.specs.declared.piece.Rest.{Rest}
 use Rattle.readout.specs.declared.piece.Rest.the-variants.{Complete, GoOn, TooShort}

@@ -1,13 +1,13 @@
 // The first line of the readout: the verdict.
-use checker::answer::Verdict;
-use lines::text::put_byte;
-use lines::text::put_decimal;
-use lines::text::put_word;
+use answer::Verdict;
+use terms::text::put_byte;
+use terms::text::put_decimal;
+use terms::text::put_word;
 ghost use mathlib.Core.Path.{_≡_};
 ghost use lib.ListN.{length};
-ghost use Rattle.lines.specs.Lines.{givenText, VerdictWritten};
+ghost use Rattle.readout.specs.Heading.{givenText, VerdictWritten};
 ghost use Rattle.lines.specs.Readout.{acceptedText, refusedText};
-ghost use Rattle.lines.specs.Writing.{Wrote};
+ghost use Rattle.terms.specs.Writing.{Wrote};
 
 // The number of a refusal's reason.
 fn wide(q: u8) -> u16

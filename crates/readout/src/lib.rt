@@ -7,7 +7,7 @@ pub mod unit;
 use checker::check_with;
 use piece::Piece;
 use piece::write_piece;
-ghost use Rattle.inference.specs.Stepping.{tablesWith};
+ghost use Rattle.entry.specs.Progress.{tablesWith};
 ghost use Rattle.readout.specs.Contract.{PieceWritten};
 
 // Checks a file and writes as many whole lines of its readout as fit into the output, from a clause on; from clause 0 with the first line

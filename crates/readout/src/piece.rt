@@ -1,7 +1,7 @@
 // A piece of the readout: as many whole units as fit into an output.
 use super::unit::unit_count;
 use super::unit::write_unit;
-use checker::answer::Answer;
+use answer::Answer;
 ghost use mathlib.Core.Path.{_≡_};
 ghost use Prim.Native.Nat.{_+_, _≤_};
 ghost use lib.ListN.{length};

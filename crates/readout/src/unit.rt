@@ -1,7 +1,7 @@
 // What a piece of the readout is made of: the line of a clause, with the first line before it for clause 0. Without clauses the first
 // line stands alone.
 use super::heading::write_verdict;
-use checker::answer::Answer;
+use answer::Answer;
 use lines::line::write_line;
 ghost use mathlib.Core.Path.{_≡_};
 ghost use Rattle.readout.specs.Units.{unitsWithin, UnitReady, UnitWritten};

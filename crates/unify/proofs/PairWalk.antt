@@ -17,13 +17,13 @@ use Rattle.unification.specs.Row.{Expression, same}
 use Rattle.unification.specs.Unification.{mostLinks, failureNumber, clash, occurs, overwork, Outcome, unified, failed, unifying, testing, goOn, noRoom, withWork, run}
 use Rattle.unify.specs.Unifying.{failureOf}
 use Rattle.unification.specs.Values.{slot, put, InStep, Models}
-use Rattle.following.specs.Walks.{viewOf, endOf, EndsAt, Walked, Follows, absent, broken, testedOf, thenRun, PairRuns, MeetRuns, ArgumentsRun, TestRuns, Looking, Looked}
+use Rattle.following.specs.Walks.{viewOf, endOf, Walked, Follows, absent, broken, testedOf, thenRun, PairRuns, ArgumentsRun, TestRuns, Looking, Looked}
 use Rattle.unify.specs.Pairs.{LeavesLess, LeavesNoMore, Filed, bindingsOnto, outcomeOnto, Stand, Stands, Settled, isApplication, isOther, Alike, Pairing, Paired, Bound, Argued, Meets, sameVariable, leftToVariable, leftToApplication, rightVariable, sameApplication, otherSymbol, noArguments, someArguments, Matching, Matched, ArguedBefore}
 use Rattle.unify.proofs.BindingsAdded.{added-then, added-below, onto-none, onto-then, onto-push, length-push}
 use Rattle.unification.proofs.Chains.{Short, short-le, Firm, short-with}
-use Rattle.following.proofs.Halving.{walked-app, walked-var, walked-ends}
+use Rattle.following.proofs.Halving.{EndsAt, walked-app, walked-var, walked-ends}
 use Rattle.unification.proofs.Limits.{links-8192, bindings-8192}
-use Rattle.following.proofs.Machine.{pair-turn, pair-spent, pair-same, pair-args, pair-clash, meet-left, pair-right, arguments-none, arguments-next, arguments-failed}
+use Rattle.following.proofs.Machine.{MeetRuns, pair-turn, pair-spent, pair-same, pair-args, pair-clash, meet-left, pair-right, arguments-none, arguments-next, arguments-failed}
 use Rattle.unification.proofs.Meaning.{with}
 use Rattle.following.proofs.Occurrence.{suc-pred, arg-good, args-eq}
 use Rattle.unification.proofs.Tests.{same-eq, same-refl, true-not-false}

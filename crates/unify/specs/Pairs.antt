@@ -8,7 +8,7 @@ use mathlib.Core.List.{List, _++_}
 use Prim.Native.Nat.{ℕ, _+_, _-_, _≤_, _<_}
 use lib.ListN.{length}
 use Rattle.unification.specs.Bindings.{bindingsFrom, KeptBelow, Added}
-use Rattle.unification.specs.Environment.{follow, Binding, Environment, extend, unbound, Ends}
+use Rattle.unification.specs.Environment.{follow, Binding, Environment, extend, Ends}
 use Rattle.unification.specs.Nodes.{isVariable, part, nodeArity, HasRow, argumentsFrom, nodeRow}
 use Rattle.unification.specs.Row.{Expression, same}
 use Rattle.unification.specs.Unification.{mostLinks, failureNumber, Outcome, unified, failed, noRoom}

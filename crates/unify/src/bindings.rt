@@ -1,18 +1,9 @@
 // The table of bindings, four cells for each. A write outside it does nothing.
+use tables::set_cell;
 ghost use mathlib.Core.Path.{_≡_};
 ghost use Prim.Native.Nat.{_<_};
-ghost use lib.ListN.{set};
 ghost use Rattle.unification.specs.Values.{put};
 ghost use Rattle.unification.specs.Bindings.{push};
-
-// One cell written.
-fn set_cell(table: &mut [u16], at: usize, a: u16)
-    ensures { λ _. ⌜ now (table .exit) ≡ set (now (table .entry)) at a ⌝ }
-{
-    if at < table.len() {
-        table[at] = a;
-    }
-}
 
 // The two cells at `at` written.
 fn write_cells(table: &mut [u16], at: usize, a: u16, b: u16)

@@ -7,11 +7,6 @@ use Rattle.cases.proofs.PackLaws.{inside}
 use borrow.Author.Needs.{needs}
 use Rattle.cases.proofs.print_files.Statement.{statement}
 use Rattle.cases.proofs.print_files.Tie as tie
-use Rattle.cases.proofs.print_files.Reads as reads
-use Rattle.cases.proofs.print_files.Lts as lts
-use Rattle.cases.proofs.outcome.outcome_of.Reads as outcome-of-reads
-use Rattle.cases.proofs.pack.entry_at.Reads as entry-at-reads
-use Rattle.cases.proofs.print.line.Reads as line-reads
 
 abbrev Inv-loop : tie.InvT-loop
 Inv-loop pack at₀ place₀ at place =

@@ -3,10 +3,6 @@ use Rattle.checker.proofs.CheckedLaws.{checked-length-with, checked-tab
 use borrow.Author.Needs.{needs}
 use Rattle.checker.proofs.check_with.Statement.{statement}
 use Rattle.checker.proofs.check_with.Tie as tie
-use Rattle.checker.proofs.answer.untouched.Reads as untouched-reads
-use Rattle.checker.proofs.fitting_length.Reads as fitting-length-reads
-use Rattle.checker.proofs.long_enough.Reads as long-enough-reads
-use Rattle.checker.proofs.read_tables.Reads as read-tables-reads
 
 fitting-length-requires : tie.Need-fitting-length-requires
 fitting-length-requires c κs = search needs

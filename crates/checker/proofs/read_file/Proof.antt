@@ -5,7 +5,6 @@ use lib.ListN.{length-replicate}
 use borrow.Author.Needs.{needs}
 use Rattle.checker.proofs.read_file.Statement.{statement}
 use Rattle.checker.proofs.read_file.Tie as tie
-use Rattle.checker.proofs.read_tables.Reads as read-tables-reads
 
 read-tables-requires : tie.Need-read-tables-requires
 read-tables-requires c κs =

@@ -1,13 +1,9 @@
 -- The cleared parts are those of the empty state, and reading goes on from there.
-use mathlib.Core.Path.{_∙_}
 use native.Mathlib.Omega.{arith}
 use Rattle.checker.proofs.CheckLaws.{table-sizes, begun, file-read-with}
 use borrow.Author.Needs.{needs}
 use Rattle.checker.proofs.read_tables.Statement.{statement}
 use Rattle.checker.proofs.read_tables.Tie as tie
-use Rattle.checker.proofs.answer.ended_answer.Reads as ended-answer-reads
-use Rattle.checker.proofs.reader.read_records.Reads as read-records-reads
-use Rattle.entry.proofs.tables.clear.Reads as clear-reads
 
 clear-requires : tie.Need-clear-requires
 clear-requires c κs =

@@ -9,9 +9,6 @@ use Rattle.readout.proofs.UnitWriting.{after-again}
 use borrow.Author.Needs.{needs}
 use Rattle.proofread.proofs.print_lines.Statement.{statement}
 use Rattle.proofread.proofs.print_lines.Tie as tie
-use Rattle.io.proofs.write_all.Reads as write-all-reads
-use Rattle.readout.proofs.unit.unit_count.Reads as unit-count-reads
-use Rattle.readout.proofs.unit.write_unit.Reads as write-unit-reads
 
 abbrev Inv-loop : tie.InvT-loop
 Inv-loop file clauses bindings nodes values₀ a text₀ count n₀ values text n =

@@ -5,8 +5,6 @@ use lib.ListN.{length-replicate}
 use borrow.Author.Needs.{needs}
 use Rattle.proofread.proofs.print_readout.Statement.{statement}
 use Rattle.proofread.proofs.print_readout.Tie as tie
-use Rattle.checker.proofs.check_with.Reads as check-with-reads
-use Rattle.proofread.proofs.print_lines.Reads as print-lines-reads
 
 slice-aggregate-check-with : tie.Need-slice-aggregate-check-with
 slice-aggregate-check-with c = search needs

@@ -6,8 +6,6 @@ use Rattle.readout.proofs.PieceWriting.{piece-written}
 use borrow.Author.Needs.{needs}
 use Rattle.readout.proofs.readout_piece.Statement.{statement}
 use Rattle.readout.proofs.readout_piece.Tie as tie
-use Rattle.checker.proofs.check_with.Reads as check-with-reads
-use Rattle.readout.proofs.piece.write_piece.Reads as write-piece-reads
 
 check-with-requires : tie.Need-check-with-requires
 check-with-requires c κs =

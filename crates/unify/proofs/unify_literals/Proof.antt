@@ -3,9 +3,6 @@ use Rattle.unify.proofs.Answer.{answered}
 use borrow.Author.Needs.{needs}
 use Rattle.unify.proofs.unify_literals.Statement.{statement}
 use Rattle.unify.proofs.unify_literals.Tie as tie
-use Rattle.unify.proofs.unify_literals.Reads as reads
-use Rattle.unify.proofs.unify_literals.Lts as lts
-use Rattle.unify.proofs.pairs.unify_pair.Reads as unify-pair-reads
 
 unify-pair-requires : tie.Need-unify-pair-requires
 unify-pair-requires c κs = search needs

@@ -7,9 +7,6 @@ use Rattle.cases.proofs.PackLaws.{Passed, inside, passed-none, passed-m
 use borrow.Author.Needs.{needs}
 use Rattle.cases.proofs.pack.count_files.Statement.{statement}
 use Rattle.cases.proofs.pack.count_files.Tie as tie
-use Rattle.cases.proofs.pack.count_files.Reads as reads
-use Rattle.cases.proofs.pack.count_files.Lts as lts
-use Rattle.cases.proofs.pack.entry_at.Reads as entry-at-reads
 
 abbrev Inv-loop : tie.InvT-loop
 Inv-loop pack at₀ n₀ at n =

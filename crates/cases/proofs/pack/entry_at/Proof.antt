@@ -3,9 +3,6 @@ use Rattle.cases.proofs.PackLaws.{too-short, cut-file, whole-file}
 use borrow.Author.Needs.{needs}
 use Rattle.cases.proofs.pack.entry_at.Statement.{statement}
 use Rattle.cases.proofs.pack.entry_at.Tie as tie
-use Rattle.cases.proofs.pack.entry_at.Reads as reads
-use Rattle.cases.proofs.pack.entry_at.Lts as lts
-use Rattle.cases.proofs.pack.number_at.Reads as number-at-reads
 
 returns : tie.Need-returns
 returns c =

@@ -2,9 +2,6 @@ use Rattle.cases.proofs.PackLaws.{four-bytes}
 use borrow.Author.Needs.{needs}
 use Rattle.cases.proofs.pack.number_at.Statement.{statement}
 use Rattle.cases.proofs.pack.number_at.Tie as tie
-use Rattle.cases.proofs.pack.number_at.Reads as reads
-use Rattle.cases.proofs.pack.number_at.Lts as lts
-use Rattle.cases.proofs.pack.wide.Reads as wide-reads
 
 shared-slice-read-wide : tie.Need-shared-slice-read-wide
 shared-slice-read-wide c = search needs

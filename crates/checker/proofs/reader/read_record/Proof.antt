@@ -2,16 +2,6 @@ use Rattle.checker.proofs.RecordLaws.{symbols-few, rows-few, clauses-fe
 use borrow.Author.Needs.{needs}
 use Rattle.checker.proofs.reader.read_record.Statement.{statement}
 use Rattle.checker.proofs.reader.read_record.Tie as tie
-use Rattle.checker.proofs.reader.read_record.Reads as reads
-use Rattle.checker.proofs.reader.read_record.Lts as lts
-use Rattle.entry.proofs.entry.application_record.Reads as application-record-reads
-use Rattle.entry.proofs.entry.input_record.Reads as input-record-reads
-use Rattle.entry.proofs.entry.symbol_record.Reads as symbol-record-reads
-use Rattle.entry.proofs.entry.variable_record.Reads as variable-record-reads
-use Rattle.inference.proofs.inference.factor_record.Reads as factor-record-reads
-use Rattle.inference.proofs.inference.resolve_record.Reads as resolve-record-reads
-use Rattle.record.proofs.kind.Reads as kind-reads
-use Rattle.record.proofs.record_part.Reads as record-part-reads
 
 record-part-requires : tie.Need-record-part-requires
 record-part-requires c κs = search needs

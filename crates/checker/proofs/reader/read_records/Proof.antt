@@ -1,17 +1,14 @@
-use mathlib.Core.Path.{_≡_, refl, _∙_}
+use mathlib.Core.Path.{_≡_, refl}
 use Prim.Native.Nat.{_-_}
 use native.Mathlib.Omega.{arith}
 use lib.ListN.{length}
 use Rattle.record.specs.Record.{recordCount}
 use Rattle.checker.specs.Reader.{Begun}
-use Rattle.inference.specs.Stepping.{tablesWith}
+use Rattle.entry.specs.Progress.{tablesWith}
 use Rattle.checker.proofs.RecordsLaws.{ReadUpTo, read-none, read-asked, read-few, read-more, read-refused, read-all}
 use borrow.Author.Needs.{needs}
 use Rattle.checker.proofs.reader.read_records.Statement.{statement}
 use Rattle.checker.proofs.reader.read_records.Tie as tie
-use Rattle.checker.proofs.reader.read_records.Reads as reads
-use Rattle.checker.proofs.reader.read_records.Lts as lts
-use Rattle.checker.proofs.reader.read_record.Reads as read-record-reads
 
 abbrev Inv-loop : tie.InvT-loop
 Inv-loop file symbols₀ rows₀ clauses₀ bindings₀ nodes₀ values₀ counts₀ k₀ symbols rows clauses bindings nodes values counts k =

@@ -5,8 +5,6 @@ use Rattle.checker_c.specs.ExportedReadout.{progressNumbers}
 use borrow.Author.Needs.{needs}
 use Rattle.checker_c.proofs.progress.piece_numbers.Statement.{statement}
 use Rattle.checker_c.proofs.progress.piece_numbers.Tie as tie
-use Rattle.checker_c.proofs.progress.piece_numbers.Reads as reads
-use Rattle.checker_c.proofs.progress.piece_numbers.Lts as lts
 
 enum-told : tie.Need-enum-told
 enum-told c = search needs

@@ -5,9 +5,6 @@ use Rattle.checker_c.proofs.ProgressWritten.{stored}
 use borrow.Author.Needs.{needs}
 use Rattle.checker_c.proofs.progress.put_progress.Statement.{statement}
 use Rattle.checker_c.proofs.progress.put_progress.Tie as tie
-use Rattle.checker_c.proofs.progress.put_progress.Reads as reads
-use Rattle.checker_c.proofs.progress.put_progress.Lts as lts
-use Rattle.checker_c.proofs.progress.piece_numbers.Reads as piece-numbers-reads
 
 piece-numbers-requires : tie.Need-piece-numbers-requires
 piece-numbers-requires c κs = search needs

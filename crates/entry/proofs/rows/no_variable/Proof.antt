@@ -7,7 +7,8 @@ use lib.ListN.{take, drop}
 use Rattle.record.specs.Record.{decoded, fieldsOf}
 use Rattle.derivation.specs.Derivation.{literalOf, inputLiterals}
 use Rattle.entry.specs.Program.{noVariable}
-use Rattle.entry.proofs.FieldLaws.{variable-stop, variable-on, fields-end}
+use Rattle.fields.proofs.FieldLaws.{fields-end}
+use Rattle.entry.proofs.NodeLaws.{variable-stop, variable-on}
 use borrow.Author.Needs.{needs}
 use Rattle.entry.proofs.rows.no_variable.Statement.{statement}
 use Rattle.entry.proofs.rows.no_variable.Tie as tie

@@ -1,4 +1,4 @@
-use mathlib.Core.Path.{_≡_, refl, sym, _∙_}
+use mathlib.Core.Path.{_≡_, sym, _∙_}
 use Prim.Native.Nat.{ℕ, _≤_}
 use native.Mathlib.Omega.{arith}
 use borrow.Author.Tests.{not-true, not-false}
@@ -9,12 +9,6 @@ use Rattle.following.proofs.Halving.{Going, going-start, going-none, go
 use borrow.Author.Needs.{needs}
 use Rattle.following.proofs.follow.follow.Statement.{statement}
 use Rattle.following.proofs.follow.follow.Tie as tie
-use Rattle.following.proofs.follow.follow.Reads as reads
-use Rattle.following.proofs.follow.follow.Lts as lts
-use Rattle.following.proofs.follow.halve.Reads as halve-reads
-use Rattle.following.proofs.nodes.is_variable.Reads as is-variable-reads
-use Rattle.following.proofs.values.slot_of.Reads as slot-of-reads
-use Rattle.following.proofs.values.value.Reads as value-reads
 
 abbrev Inv-loop : tie.InvT-loop
 Inv-loop nodes values₀ row index v₀ j₀ links₀ values v j links =

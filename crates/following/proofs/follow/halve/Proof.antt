@@ -2,12 +2,6 @@ use Rattle.following.proofs.Halving.{halved-not, halved-free, halved-pu
 use borrow.Author.Needs.{needs}
 use Rattle.following.proofs.follow.halve.Statement.{statement}
 use Rattle.following.proofs.follow.halve.Tie as tie
-use Rattle.following.proofs.follow.halve.Reads as reads
-use Rattle.following.proofs.follow.halve.Lts as lts
-use Rattle.following.proofs.nodes.is_variable.Reads as is-variable-reads
-use Rattle.following.proofs.values.slot_of.Reads as slot-of-reads
-use Rattle.following.proofs.values.value.Reads as value-reads
-use Rattle.following.proofs.values.write_value.Reads as write-value-reads
 
 is-variable-requires : tie.Need-is-variable-requires
 is-variable-requires c κs = search needs

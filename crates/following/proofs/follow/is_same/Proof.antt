@@ -1,9 +1,6 @@
 use borrow.Author.Tests.{eq-eqb, ne-eqb}
-use borrow.Author.Needs.{needs}
 use Rattle.following.proofs.follow.is_same.Statement.{statement}
 use Rattle.following.proofs.follow.is_same.Tie as tie
-use Rattle.following.proofs.follow.is_same.Reads as reads
-use Rattle.following.proofs.follow.is_same.Lts as lts
 
 returns : tie.Need-returns
 returns c =

@@ -3,9 +3,6 @@ use Rattle.unification.specs.Nodes.{nodeArity}
 use borrow.Author.Needs.{needs}
 use Rattle.following.proofs.nodes.arity_of.Statement.{statement}
 use Rattle.following.proofs.nodes.arity_of.Tie as tie
-use Rattle.following.proofs.nodes.arity_of.Reads as reads
-use Rattle.following.proofs.nodes.arity_of.Lts as lts
-use Rattle.following.proofs.nodes.node.Reads as node-reads
 
 mul-node : tie.Need-mul-node
 mul-node c = search needs

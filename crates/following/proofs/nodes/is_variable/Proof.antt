@@ -2,9 +2,6 @@ use Rattle.unification.specs.Nodes.{isVariable}
 use borrow.Author.Needs.{needs}
 use Rattle.following.proofs.nodes.is_variable.Statement.{statement}
 use Rattle.following.proofs.nodes.is_variable.Tie as tie
-use Rattle.following.proofs.nodes.is_variable.Reads as reads
-use Rattle.following.proofs.nodes.is_variable.Lts as lts
-use Rattle.following.proofs.nodes.node.Reads as node-reads
 
 mul-node : tie.Need-mul-node
 mul-node c = search needs

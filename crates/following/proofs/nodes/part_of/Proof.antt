@@ -2,9 +2,6 @@ use Rattle.unification.specs.Nodes.{part}
 use borrow.Author.Needs.{needs}
 use Rattle.following.proofs.nodes.part_of.Statement.{statement}
 use Rattle.following.proofs.nodes.part_of.Tie as tie
-use Rattle.following.proofs.nodes.part_of.Reads as reads
-use Rattle.following.proofs.nodes.part_of.Lts as lts
-use Rattle.following.proofs.nodes.node.Reads as node-reads
 
 mul-node : tie.Need-mul-node
 mul-node c = search needs

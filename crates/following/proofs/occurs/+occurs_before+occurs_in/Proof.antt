@@ -6,7 +6,7 @@ use lib.ListN.{length}
 use Rattle.unification.specs.Unification.{occurs, overwork}
 use Rattle.following.specs.Walks.{Scanned}
 use Rattle.following.proofs.Occurrence.{less-le, less-no, no-more-no, looked-spent, looked-met, looked-into, looked-none, scan-start, scan-last, scan-broke, scan-next, Sought, sought-start, sought-then, sought-next}
-use Rattle.following.specs.declared.occurs.Occurs.the-variants.{No, Yes, Spent}
+use Rattle.following.specs.declared.occurs.Occurs.the-variants.{Yes, Spent}
 use borrow.Author.Needs.{needs}
 use Prim.Native.Nat.{ℕ, _+_, _-_, _*_, _≤_, _<_}
 use borrow.Fn.Kinds.{In}

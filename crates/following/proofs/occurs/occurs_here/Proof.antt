@@ -5,7 +5,6 @@ use Rattle.following.specs.Walks.{metVariable}
 use borrow.Author.Needs.{needs}
 use Rattle.following.proofs.occurs.occurs_here.Statement.{statement}
 use Rattle.following.proofs.occurs.occurs_here.Tie as tie
-use Rattle.following.proofs.follow.is_same.Reads as is-same-reads
 
 is-same-requires : tie.Need-is-same-requires
 is-same-requires c κs = search needs

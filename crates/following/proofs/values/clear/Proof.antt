@@ -1,4 +1,4 @@
-use mathlib.Core.Path.{_≡_, refl, sym, _∙_}
+use mathlib.Core.Path.{_≡_, refl, _∙_}
 use Prim.Native.Nat.{_+_, _-_, _*_, _≤_}
 use native.Mathlib.Omega.{arith}
 use lib.ListN.{length, length-set}
@@ -7,8 +7,6 @@ use Rattle.following.proofs.Clearing.{cleared-none, cleared-more}
 use borrow.Author.Needs.{needs}
 use Rattle.following.proofs.values.clear.Statement.{statement}
 use Rattle.following.proofs.values.clear.Tie as tie
-use Rattle.following.proofs.values.clear.Reads as reads
-use Rattle.following.proofs.values.clear.Lts as lts
 
 abbrev Inv-loop : tie.InvT-loop
 Inv-loop values₀ top end k₀ values k =

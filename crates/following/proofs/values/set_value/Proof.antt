@@ -5,8 +5,6 @@ use lib.Seq.{set-out}
 use borrow.Author.Needs.{needs}
 use Rattle.following.proofs.values.set_value.Statement.{statement}
 use Rattle.following.proofs.values.set_value.Tie as tie
-use Rattle.following.proofs.values.set_value.Reads as reads
-use Rattle.following.proofs.values.set_value.Lts as lts
 
 mul-values : tie.Need-mul-values
 mul-values c = search needs

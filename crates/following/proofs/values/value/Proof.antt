@@ -4,8 +4,6 @@ use lib.ListN.{List·getD-eq-default}
 use borrow.Author.Needs.{needs}
 use Rattle.following.proofs.values.value.Statement.{statement}
 use Rattle.following.proofs.values.value.Tie as tie
-use Rattle.following.proofs.values.value.Reads as reads
-use Rattle.following.proofs.values.value.Lts as lts
 
 mul-result : tie.Need-mul-result
 mul-result c = search needs

@@ -5,9 +5,6 @@ use Rattle.unification.specs.Values.{put}
 use borrow.Author.Needs.{needs}
 use Rattle.following.proofs.values.write_value.Statement.{statement}
 use Rattle.following.proofs.values.write_value.Tie as tie
-use Rattle.following.proofs.values.write_value.Reads as reads
-use Rattle.following.proofs.values.write_value.Lts as lts
-use Rattle.following.proofs.values.set_value.Reads as set-value-reads
 
 set-value-requires : tie.Need-set-value-requires
 set-value-requires c κs = search needs

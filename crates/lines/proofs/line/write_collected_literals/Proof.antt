@@ -2,14 +2,10 @@
 use Prim.Native.Nat.{ℕ, _-_, _≤_}
 use native.Mathlib.Omega.{arith}
 use lib.ListN.{length-replicate}
-use Rattle.lines.specs.Writing.{Sized}
+use Rattle.terms.specs.Writing.{Sized}
 use Rattle.lines.proofs.LineTexts.{WritesSoFar, literals-start, literals-end, literals-next, collected-few, numbered-listed, collected-literals}
 use Rattle.lines.proofs.line.write_collected_literals.Statement.{statement}
 use Rattle.lines.proofs.line.write_collected_literals.Tie as tie
-use Rattle.lines.proofs.line.write_collected_literals.Reads as reads
-use Rattle.lines.proofs.line.write_collected_literals.Lts as lts
-use Rattle.lines.proofs.line.write_listed.Reads as write-listed-reads
-use Rattle.lines.proofs.literals.collect.Reads as collect-reads
 
 abbrev Inv-loop : tie.InvT-loop
 Inv-loop file clauses nodes values₀ text₀ at c list count end₀ n₀ values text end n =

@@ -1,15 +1,11 @@
 -- After n literals, what was written and the literals that are left make the text of all.
 use Prim.Native.Nat.{_-_, _≤_}
 use native.Mathlib.Omega.{arith}
-use Rattle.lines.specs.Writing.{Sized}
+use Rattle.terms.specs.Writing.{Sized}
 use Rattle.lines.proofs.LineTexts.{WritesSoFar, literals-start, literals-end, literals-next, collectable-stored, cell-literals}
 use borrow.Author.Needs.{needs}
 use Rattle.lines.proofs.line.write_found_literals.Statement.{statement}
 use Rattle.lines.proofs.line.write_found_literals.Tie as tie
-use Rattle.lines.proofs.line.write_found_literals.Reads as reads
-use Rattle.lines.proofs.line.write_found_literals.Lts as lts
-use Rattle.loading.proofs.literals_cell.Reads as literals-cell-reads
-use Rattle.lines.proofs.line.write_numbered.Reads as write-numbered-reads
 
 abbrev Inv-loop : tie.InvT-loop
 Inv-loop file clauses nodes values₀ text₀ at c count end₀ n₀ values text end n =

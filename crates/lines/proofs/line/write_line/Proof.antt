@@ -3,14 +3,6 @@ use Rattle.lines.proofs.LineTexts.{line-clear, line-load, line-collect,
 use borrow.Author.Needs.{needs}
 use Rattle.lines.proofs.line.write_line.Statement.{statement}
 use Rattle.lines.proofs.line.write_line.Tie as tie
-use Rattle.lines.proofs.line.write_line.Reads as reads
-use Rattle.lines.proofs.line.write_line.Lts as lts
-use Rattle.loading.proofs.index_cell.Reads as index-cell-reads
-use Rattle.loading.proofs.load.load.Reads as load-reads
-use Rattle.lines.proofs.line.write_literals.Reads as write-literals-reads
-use Rattle.lines.proofs.text.put_byte.Reads as put-byte-reads
-use Rattle.lines.proofs.text.put_decimal.Reads as put-decimal-reads
-use Rattle.following.proofs.values.clear.Reads as clear-reads
 
 index-cell-requires : tie.Need-index-cell-requires
 index-cell-requires c κs = search needs

@@ -3,10 +3,6 @@ use Rattle.lines.proofs.LineTexts.{numbered-found, numbered-absent}
 use borrow.Author.Needs.{needs}
 use Rattle.lines.proofs.line.write_numbered.Statement.{statement}
 use Rattle.lines.proofs.line.write_numbered.Tie as tie
-use Rattle.lines.proofs.line.write_numbered.Reads as reads
-use Rattle.lines.proofs.line.write_numbered.Lts as lts
-use Rattle.loading.proofs.literal.literal.Reads as literal-reads
-use Rattle.lines.proofs.literal.write_literal.Reads as write-literal-reads
 
 literal-requires : tie.Need-literal-requires
 literal-requires c κs = search needs

@@ -8,8 +8,8 @@ use borrow.Fn.PlainCycle.{Measures, is, falls, and}
 use Rattle.lines.proofs.literals.collect.Reads as collect
 use Rattle.lines.proofs.literals.collect.Kinds as collect-kinds
 use Rattle.lines.proofs.literals.+collect.Lts-collect as collect-lts
-use Rattle.loading.proofs.index_cell.Reads as index-cell-reads
-use Rattle.loading.proofs.record_cell.Reads as record-cell-reads
+use Rattle.clauses.proofs.index_cell.Reads as index-cell-reads
+use Rattle.clauses.proofs.record_cell.Reads as record-cell-reads
 use Rattle.lines.proofs.literals.collect_input.Reads as collect-input-reads
 use Rattle.lines.proofs.literals.delete.Reads as delete-reads
 use Rattle.record.proofs.field.Reads as field-reads

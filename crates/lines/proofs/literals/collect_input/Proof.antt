@@ -5,13 +5,6 @@ use Rattle.lines.proofs.CollectedLiterals.{FieldsPlaced, fields-none, f
 use borrow.Author.Needs.{needs}
 use Rattle.lines.proofs.literals.collect_input.Statement.{statement}
 use Rattle.lines.proofs.literals.collect_input.Tie as tie
-use Rattle.lines.proofs.literals.collect_input.Reads as reads
-use Rattle.lines.proofs.literals.collect_input.Lts as lts
-use Rattle.loading.proofs.literals_cell.Reads as literals-cell-reads
-use Rattle.loading.proofs.record_cell.Reads as record-cell-reads
-use Rattle.lines.proofs.literals.place.Reads as place-reads
-use Rattle.record.proofs.field.Reads as field-reads
-use Rattle.record.proofs.record_part.Reads as record-part-reads
 
 abbrev Inv-loop : tie.InvT-loop
 Inv-loop file clauses list₀ base c offset part count n₀ list n =

@@ -1,11 +1,7 @@
-use Rattle.lines.proofs.Positions.{wrote-then}
+use Rattle.terms.proofs.Positions.{wrote-then}
 use borrow.Author.Needs.{needs}
 use Rattle.readout.proofs.heading.put_accepted.Statement.{statement}
 use Rattle.readout.proofs.heading.put_accepted.Tie as tie
-use Rattle.readout.proofs.heading.put_accepted.Reads as reads
-use Rattle.readout.proofs.heading.put_accepted.Lts as lts
-use Rattle.lines.proofs.text.put_decimal.Reads as put-decimal-reads
-use Rattle.lines.proofs.text.put_word.Reads as put-word-reads
 
 slice-aggregate-put-word : tie.Need-slice-aggregate-put-word
 slice-aggregate-put-word c = search needs

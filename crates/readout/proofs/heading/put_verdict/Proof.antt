@@ -1,13 +1,8 @@
 use Rattle.readout.proofs.VerdictTexts.{given-written}
-use Rattle.checker.specs.declared.answer.Verdict.the-variants.{Open, Accepted, Refused}
+use Rattle.answer.specs.declared.Verdict.the-variants.{Open, Accepted, Refused}
 use borrow.Author.Needs.{needs}
 use Rattle.readout.proofs.heading.put_verdict.Statement.{statement}
 use Rattle.readout.proofs.heading.put_verdict.Tie as tie
-use Rattle.readout.proofs.heading.put_verdict.Reads as reads
-use Rattle.readout.proofs.heading.put_verdict.Lts as lts
-use Rattle.readout.proofs.heading.put_accepted.Reads as put-accepted-reads
-use Rattle.readout.proofs.heading.put_refused.Reads as put-refused-reads
-use Rattle.lines.proofs.text.put_word.Reads as put-word-reads
 
 enum-told : tie.Need-enum-told
 enum-told c = search needs

@@ -2,10 +2,6 @@ use Rattle.readout.proofs.VerdictTexts.{verdict-written}
 use borrow.Author.Needs.{needs}
 use Rattle.readout.proofs.heading.write_verdict.Statement.{statement}
 use Rattle.readout.proofs.heading.write_verdict.Tie as tie
-use Rattle.readout.proofs.heading.write_verdict.Reads as reads
-use Rattle.readout.proofs.heading.write_verdict.Lts as lts
-use Rattle.readout.proofs.heading.put_verdict.Reads as put-verdict-reads
-use Rattle.lines.proofs.text.put_byte.Reads as put-byte-reads
 
 put-verdict-requires : tie.Need-put-verdict-requires
 put-verdict-requires c κs = search needs

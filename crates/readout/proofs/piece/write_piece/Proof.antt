@@ -1,18 +1,13 @@
 -- At every turn the output has some units of the piece, and the rest of the piece is what fits of those left.
-use mathlib.Core.Path.{_≡_, refl, sym, _∙_, subst}
-use Prim.Native.Nat.{ℕ, _-_, _<_, _≤_}
+use mathlib.Core.Path.{_≡_, refl, _∙_, subst}
+use Prim.Native.Nat.{ℕ, _-_, _<_}
 use native.Mathlib.Omega.{arith}
 use lib.ListN.{length, length-replicate}
-use Rattle.readout.specs.Units.{AfterCheck}
 use Rattle.readout.proofs.PieceWriting.{end-inside, Written, written-none, written-all, written-stopped, written-more}
 use Rattle.readout.proofs.UnitWriting.{after-again}
 use borrow.Author.Needs.{needs}
 use Rattle.readout.proofs.piece.write_piece.Statement.{statement}
 use Rattle.readout.proofs.piece.write_piece.Tie as tie
-use Rattle.readout.proofs.piece.copy_text.Reads as copy-text-reads
-use Rattle.readout.proofs.piece.stopped.Reads as stopped-reads
-use Rattle.readout.proofs.unit.unit_count.Reads as unit-count-reads
-use Rattle.readout.proofs.unit.write_unit.Reads as write-unit-reads
 
 abbrev Inv-loop : tie.InvT-loop
 Inv-loop file clauses bindings nodes values₀ a begin output₀ text₀ count n₀ written₀ values output text n written =

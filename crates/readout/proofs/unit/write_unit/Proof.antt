@@ -1,10 +1,7 @@
 -- Each way out is one law of `UnitWriting`.
 use Rattle.readout.proofs.UnitWriting.{line-ready, nodes-length, other-inside, first-inside, unit-line, unit-heading, unit-both}
-use borrow.Author.Needs.{needs}
 use Rattle.readout.proofs.unit.write_unit.Statement.{statement}
 use Rattle.readout.proofs.unit.write_unit.Tie as tie
-use Rattle.readout.proofs.heading.write_verdict.Reads as write-verdict-reads
-use Rattle.lines.proofs.line.write_line.Reads as write-line-reads
 
 write-line-requires : tie.Need-write-line-requires
 write-line-requires c κs =

@@ -6,9 +6,6 @@ use Rattle.unification.specs.Bindings.{push}
 use borrow.Author.Needs.{needs}
 use Rattle.unify.proofs.bindings.push_binding.Statement.{statement}
 use Rattle.unify.proofs.bindings.push_binding.Tie as tie
-use Rattle.unify.proofs.bindings.push_binding.Reads as reads
-use Rattle.unify.proofs.bindings.push_binding.Lts as lts
-use Rattle.unify.proofs.bindings.write_cells.Reads as write-cells-reads
 
 mul-write-cells : tie.Need-mul-write-cells
 mul-write-cells c = search needs

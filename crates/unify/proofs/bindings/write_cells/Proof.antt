@@ -5,9 +5,6 @@ use Rattle.unification.specs.Values.{put}
 use borrow.Author.Needs.{needs}
 use Rattle.unify.proofs.bindings.write_cells.Statement.{statement}
 use Rattle.unify.proofs.bindings.write_cells.Tie as tie
-use Rattle.unify.proofs.bindings.write_cells.Reads as reads
-use Rattle.unify.proofs.bindings.write_cells.Lts as lts
-use Rattle.unify.proofs.bindings.set_cell.Reads as set-cell-reads
 
 set-cell-requires : tie.Need-set-cell-requires
 set-cell-requires c κs = search needs

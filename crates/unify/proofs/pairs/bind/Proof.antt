@@ -7,13 +7,6 @@ use Rattle.following.specs.declared.occurs.Occurs.the-variants.{No}
 use borrow.Author.Needs.{needs}
 use Rattle.unify.proofs.pairs.bind.Statement.{statement}
 use Rattle.unify.proofs.pairs.bind.Tie as tie
-use Rattle.unify.proofs.pairs.bind.Reads as reads
-use Rattle.unify.proofs.pairs.bind.Lts as lts
-use Rattle.std.proofs.num.wrapping_add_u16.Reads as wrapping-add-u16-reads
-use Rattle.unify.proofs.bindings.push_binding.Reads as push-binding-reads
-use Rattle.following.proofs.occurs.occurs_in.Reads as occurs-in-reads
-use Rattle.following.proofs.values.slot_of.Reads as slot-of-reads
-use Rattle.following.proofs.values.write_value.Reads as write-value-reads
 
 occurs-in-requires : tie.Need-occurs-in-requires
 occurs-in-requires c κs = search needs

@@ -5,8 +5,6 @@ use Rattle.unify.proofs.PairWalk.{meets-as}
 use borrow.Author.Needs.{needs}
 use Rattle.unify.proofs.pairs.meet.Statement.{statement}
 use Rattle.unify.proofs.pairs.meet.Tie as tie
-use Rattle.following.proofs.follow.is_same.Reads as is-same-reads
-use Rattle.unify.proofs.pairs.meet_applications.Reads as meet-applications-reads
 
 enum-known-x : tie.Need-enum-known-x
 enum-known-x c = search needs

@@ -5,9 +5,6 @@ use Rattle.unify.specs.Pairs.{sameApplication, otherSymbol, noArguments,
 use borrow.Author.Needs.{needs}
 use Rattle.unify.proofs.pairs.meet_applications.Statement.{statement}
 use Rattle.unify.proofs.pairs.meet_applications.Tie as tie
-use Rattle.following.proofs.follow.is_same.Reads as is-same-reads
-use Rattle.following.proofs.nodes.arity_of.Reads as arity-of-reads
-use Rattle.following.proofs.nodes.part_of.Reads as part-of-reads
 
 is-same-requires : tie.Need-is-same-requires
 is-same-requires c κs = search needs

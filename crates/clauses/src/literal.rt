@@ -1,0 +1,116 @@
+// A literal of a clause by its number: found by walking from the clause to the input clause that it comes from.
+ghost use mathlib.Core.Path.{_≡_};
+ghost use mathlib.Core.List.{List};
+ghost use Prim.Native.Nat.{ℕ, _<_};
+ghost use Rattle.derivation.specs.Derivation.{Derivation, literals, numbered};
+ghost use Rattle.derivation.specs.Stored.{Stored, recordOf};
+ghost use Rattle.clauses.specs.Named.{namedLiteral, StoredClause, StoredLiteral, leftOver, passed, ComesUp, ComesFromInput};
+use super::clause_kind;
+use super::index_cell;
+use super::literals_cell;
+use super::record_cell;
+
+// A literal: its sign, true for a positive one, its atom's row and its index; or that the clause has no such literal.
+pub enum NamedLiteral {
+    Found(bool, u16, u16),
+    Absent,
+}
+
+// Where a literal comes from: a clause, the literal's number there, and what is added to its index.
+struct Place {
+    clause: u16,
+    number: u16,
+    added: u16,
+}
+
+// How many of so many literals are left without number a.
+fn left_over(count: u16, a: u16) -> u16
+    ensures { λ r. ⌜ r ≡ leftOver count a ⌝ }
+{
+    if a == 0 {
+        return count;
+    }
+    if a <= count { count - 1 } else { count }
+}
+
+// The number that the n-th of the literals without number a has among all of them.
+fn passed_over(n: u16, a: u16) -> u16
+    requires { ⌜ passed n a < 65536 ⌝ }
+    ensures { λ r. ⌜ r ≡ passed n a ⌝ }
+{
+    if a == 0 {
+        return n;
+    }
+    if n < a { n } else { n + 1 }
+}
+
+// The parent that literal n of a resolvent or a factor comes from.
+fn parent_place(file: &[u8], clauses: &[u16], c: u16, n: u16) -> Place
+    requires { ⌜ StoredLiteral (now file) (now clauses) c n ⌝ }
+    requires { ⌜ (recordOf (now file) (now clauses) c .kind ≡ 4 → ⊥) ⌝ }
+    ensures { λ r. ⌜ ComesUp (now (file .entry)) (now (clauses .entry)) c n (r .clause) (r .number) (r .added) ⌝ }
+{
+    let part = record::record_part(file, record_cell(clauses, c) as usize);
+    let left = record::field(part, 0);
+    let right = record::field(part, 2);
+    if record::kind(part) != 5 {
+        return Place {
+            clause: left,
+            number: passed_over(n, right),
+            added: 0,
+        };
+    }
+    let a = record::field(part, 1);
+    let kept = left_over(literals_cell(clauses, left), a);
+    if n <= kept {
+        return Place {
+            clause: left,
+            number: passed_over(n, a),
+            added: 0,
+        };
+    }
+    let raised = index_cell(clauses, left);
+    Place {
+        clause: right,
+        number: passed_over(n - kept, record::field(part, 3)),
+        added: raised,
+    }
+}
+
+// The input clause that literal n of clause c comes from.
+fn input_place(file: &[u8], clauses: &[u16], c: u16, n: u16) -> Place
+    requires { ⌜ StoredLiteral (now file) (now clauses) c n ⌝ }
+    ensures { λ r. ⌜ ComesFromInput (now (file .entry)) (now (clauses .entry)) c n (r .clause) (r .number) (r .added) ⌝ }
+{
+    let mut clause = c;
+    let mut number = n;
+    let mut added: u16 = 0;
+    while clause_kind(file, clauses, clause) != 4 {
+        let up = parent_place(file, clauses, clause, number);
+        clause = up.clause;
+        number = up.number;
+        added = added + up.added;
+    }
+    Place {
+        clause: clause,
+        number: number,
+        added: added,
+    }
+}
+
+// Literal n of clause c, from 1.
+pub fn literal(file: &[u8], clauses: &[u16], c: u16, n: u16) -> NamedLiteral
+    requires { ⌜ StoredClause (now file) (now clauses) c ⌝ }
+    ensures { λ r. ⌜ ((B : List ℕ) (d : Derivation) → Stored (now (file .entry)) (now (clauses .entry)) B c d → r ≡ namedLiteral (numbered (literals d) n)) ⌝ }
+{
+    if n == 0 {
+        return NamedLiteral::Absent;
+    }
+    if literals_cell(clauses, c) < n {
+        return NamedLiteral::Absent;
+    }
+    let place = input_place(file, clauses, c, n);
+    let part = record::record_part(file, record_cell(clauses, place.clause) as usize);
+    let x = record::field(part, (place.number - 1) as u8);
+    NamedLiteral::Found(x % 2 == 1, x / 2, place.added + 1)
+}

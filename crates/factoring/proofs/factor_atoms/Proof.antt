@@ -1,0 +1,46 @@
+use Rattle.inference.proofs.StepEnds.{finishing}
+use Rattle.inference.proofs.StepNamed.{factoring, factor-literals, factor-ended}
+use borrow.Author.Needs.{needs}
+use Rattle.factoring.proofs.factor_atoms.Statement.{statement}
+use Rattle.factoring.proofs.factor_atoms.Tie as tie
+
+literals-cell-requires : tie.Need-literals-cell-requires
+literals-cell-requires c κs = search needs
+
+sub-literals : tie.Need-sub-literals
+sub-literals c =
+    factor-literals (c .before .before .before .before .before .pre) _ (c .literals-cell .ensures)
+
+index-cell-requires : tie.Need-index-cell-requires
+index-cell-requires c κs = search needs
+
+unify-factor-requires : tie.Need-unify-factor-requires
+unify-factor-requires c κs =
+    factoring (c .before .before .before .before .before .before .before .before .before .before .pre)
+
+finish-step-requires : tie.Need-finish-step-requires
+finish-step-requires c κs =
+    finishing (c .before .before .before .before .before .before .before .before .before .before .before .before .before .before .before .pre .step) _ _ _ (c .before .before .before .before .unify-factor .ensures .1)
+
+same-length : tie.Need-same-length
+same-length c = search needs
+
+same-length-2 : tie.Need-same-length-2
+same-length-2 c = search needs
+
+returns : tie.Need-returns
+returns c =
+    λ R. factor-ended R _ (c .before .before .before .before .before .before .before .before .before .before .before .before .before .before .before .literals-cell .ensures) _ (c .before .before .before .before .before .before .before .before .before .before .before .before .before .index-cell .ensures) _ _ _ (c .before .before .before .before .before .before .before .before .before .unify-factor .ensures .0) (c .before .before .before .before .before .before .before .before .before .unify-factor .ensures .1) _ _ _ (c .before .before .before .before .finish-step .ensures)
+
+pub factor-atoms-spec : {M : Type 1} → statement M
+factor-atoms-spec =
+    tie.close
+    (tie.spec
+    literals-cell-requires
+    sub-literals
+    index-cell-requires
+    unify-factor-requires
+    finish-step-requires
+    same-length
+    same-length-2
+    returns)

@@ -1,0 +1,123 @@
+// A factor: the bindings of its parent are loaded once, two of its atoms are unified, and the clause is entered.
+use clauses::index_cell;
+use clauses::literal::NamedLiteral;
+use clauses::literals_cell;
+use entry::entry::Counts;
+use entry::entry::Entered;
+use fields::step_in_range;
+use inference::Atom;
+use inference::atom_of;
+use inference::finish_step;
+use inference::named_literal;
+use inference::same_sign;
+use loading::load;
+use record::field;
+use record::record_part;
+use unify::Unified;
+use unify::unify_literals;
+ghost use mathlib.Core.Path.{_≡_};
+ghost use Rattle.record.specs.Record.{recordPart, kindOf};
+ghost use Rattle.unify.specs.Unifying.{outcomeOf};
+ghost use Rattle.verdict.specs.Step.{unifyFactor};
+ghost use Rattle.inference.specs.Stepping.{BeforeStep, Factoring, UnifiedTables, atomNamed, FactorNamed, StepRead};
+
+// Unifies the two atoms of a factor over the bindings of its parent.
+fn unify_factor(
+    file: &[u8],
+    k: u16,
+    counts: Counts,
+    clauses: &[u16],
+    bindings: &mut [u16],
+    nodes: &[u16; 32768],
+    values: &mut [u16; 524416],
+    kept: Atom,
+    deleted: Atom,
+) -> Unified
+    requires { ⌜ Factoring (now file) k counts (now clauses) (now bindings) (now nodes) (now values) kept deleted ⌝ }
+    ensures { λ u. ⌜ ((R : Factoring (now (file .entry)) k counts (now (clauses .entry)) (now (bindings .entry)) (now (nodes .entry)) (now (values .entry)) kept deleted) → unifyFactor (R .step .state) (atomNamed (R .kept)) (atomNamed (R .deleted)) ≡ outcomeOf (now (bindings .exit)) (counts .bindings) u) ⌝ }
+    ensures { λ u. ⌜ UnifiedTables (now (bindings .entry)) (now (bindings .exit)) (now (values .exit)) (counts .bindings) u ⌝ }
+{
+    following::values::clear(values, index_cell(clauses, kept.clause));
+    load(file, clauses, bindings, nodes, values, kept.clause, 0);
+    unify_literals(
+        nodes,
+        values,
+        bindings,
+        counts.bindings,
+        kept.row,
+        kept.index,
+        deleted.row,
+        deleted.index,
+    )
+}
+
+// A factor on two named atoms of one clause: its result is no larger than the clause, so no limit is passed.
+fn factor_atoms(
+    file: &[u8],
+    k: u16,
+    counts: Counts,
+    clauses: &mut [u16],
+    bindings: &mut [u16],
+    nodes: &[u16; 32768],
+    values: &mut [u16; 524416],
+    kept: Atom,
+    deleted: Atom,
+) -> Entered
+    requires { ⌜ FactorNamed (now file) k counts (now clauses) (now bindings) (now nodes) (now values) kept deleted ⌝ }
+    ensures { λ e. ⌜ ((R : FactorNamed (now (file .entry)) k counts (now (clauses .entry)) (now (bindings .entry)) (now (nodes .entry)) (now (values .entry)) kept deleted) → StepRead (now (file .entry)) k counts (now (clauses .entry)) (now (bindings .entry)) (now (nodes .entry)) (now (values .entry)) (R .step) (now (clauses .exit)) (now (bindings .exit)) (now (values .exit)) e) ⌝ }
+{
+    let literals = literals_cell(clauses, kept.clause) - 1;
+    let index = index_cell(clauses, kept.clause);
+    let u = unify_factor(
+        file,
+        k,
+        counts,
+        clauses,
+        bindings,
+        nodes,
+        values,
+        kept,
+        deleted,
+    );
+    finish_step(u, k, counts, literals, index, clauses, bindings)
+}
+
+// A factor: the tests in the order of their numbers. A literal cannot be factored with itself.
+pub fn factor_record(
+    file: &[u8],
+    k: u16,
+    counts: Counts,
+    clauses: &mut [u16],
+    bindings: &mut [u16],
+    nodes: &[u16; 32768],
+    values: &mut [u16; 524416],
+) -> Entered
+    requires { ⌜ BeforeStep (now file) k counts (now clauses) (now bindings) (now nodes) (now values) ⌝ }
+    requires { ⌜ kindOf (recordPart (now file) k) ≡ 6 ⌝ }
+    ensures { λ e. ⌜ ((E : BeforeStep (now (file .entry)) k counts (now (clauses .entry)) (now (bindings .entry)) (now (nodes .entry)) (now (values .entry))) → StepRead (now (file .entry)) k counts (now (clauses .entry)) (now (bindings .entry)) (now (nodes .entry)) (now (values .entry)) E (now (clauses .exit)) (now (bindings .exit)) (now (values .exit)) e) ⌝ }
+{
+    let part = record_part(file, k as usize);
+    if !step_in_range(part, 3) {
+        return Entered::Refused(4);
+    }
+    let a = field(part, 0);
+    let b = field(part, 1);
+    let c = field(part, 2);
+    let left = named_literal(file, clauses, counts.clauses, a, b);
+    let right = named_literal(file, clauses, counts.clauses, a, c);
+    let NamedLiteral::Found(s, r, i) = left else {
+        return Entered::Refused(5);
+    };
+    let NamedLiteral::Found(t, q, j) = right else {
+        return Entered::Refused(5);
+    };
+    if !same_sign(s, t) {
+        return Entered::Refused(8);
+    }
+    if b == c {
+        return Entered::Refused(8);
+    }
+    let x = atom_of(a, r, i);
+    let y = atom_of(a, q, j);
+    factor_atoms(file, k, counts, clauses, bindings, nodes, values, x, y)
+}

@@ -1,0 +1,89 @@
+-- The fields of a record, taken one by one.
+use mathlib.Core.Path.{_≡_, refl, sym, _∙_}
+use mathlib.Core.Bool.{Bool, true, false, _&&_}
+use mathlib.Core.List.{List, [], _∷_, map}
+use Prim.Native.Nat.{ℕ, zero, suc, _+_, _-_, _/_, _≤_, _<_}
+use native.Mathlib.Omega.{arith}
+use lib.Dec.{eqb, leb}
+use lib.ListN.{getD, take, drop, drop-of-length-le}
+use borrow.Author.Tests.{eq-eqb, ne-eqb, lt-ltb, le-ltb, le-leb, lt-leb}
+use Rattle.record.specs.Record.{recordPart, countOf, fieldOf, fieldsOf, otherKind, kindNumbered}
+use Rattle.derivation.specs.Derivation.{literalOf}
+use Rattle.fields.specs.Fields.{arityIn, arityAnswer}
+use Rattle.verdict.specs.Refusal.{zeros, allBelow}
+use Rattle.fields.specs.declared.Arity.{Arity}
+use Rattle.fields.specs.declared.Arity.the-variants.{Is, Missing}
+
+-- From field i on: field i, and the fields after it.
+pub field-next : (p : List ℕ) (i : ℕ) → i < 7 → drop i (fieldsOf p) ≡ fieldOf p i ∷ drop (i + 1) (fieldsOf p)
+field-next p zero h = refl
+field-next p (suc zero) h = refl
+field-next p (suc (suc zero)) h = refl
+field-next p (suc (suc (suc zero))) h = refl
+field-next p (suc (suc (suc (suc zero)))) h = refl
+field-next p (suc (suc (suc (suc (suc zero))))) h = refl
+field-next p (suc (suc (suc (suc (suc (suc zero)))))) h = refl
+field-next p (suc (suc (suc (suc (suc (suc (suc i))))))) h = absurd (omega arith)
+
+-- The same of the fields up to number `to`.
+pub field-next-to : (p : List ℕ) (i to : ℕ) → i < to → to ≤ 7 → take (to - i) (drop i (fieldsOf p)) ≡ fieldOf p i ∷ take (to - (i + 1)) (drop (i + 1) (fieldsOf p))
+field-next-to p i to l h =
+    let e : to - i ≡ suc (to - (i + 1)) = omega arith in
+    rw (e, field-next p i (omega arith))
+
+pub fields-end : (p : List ℕ) (i to : ℕ) → to ≤ i → take (to - i) (drop i (fieldsOf p)) ≡ []
+fields-end p i to h = let e : to - i ≡ 0 = omega arith in rw e
+
+-- Zeros.
+pub zeros-stop : (p : List ℕ) (i : ℕ) {n : ℕ} → i < 7 → n ≡ fieldOf p i → (n ≡ 0 → ⊥) → zeros (drop i (fieldsOf p)) ≡ false
+zeros-stop p i h e z = rw (field-next p i h, ne-eqb (fieldOf p i) 0 (λ q. z (e ∙ q)))
+
+pub zeros-on : (p : List ℕ) (i : ℕ) {n : ℕ} → i < 7 → n ≡ fieldOf p i → n ≡ 0 → zeros (drop i (fieldsOf p)) ≡ zeros (drop (i + 1) (fieldsOf p))
+zeros-on p i h e z = rw (field-next p i h, eq-eqb (fieldOf p i) 0 (sym e ∙ z))
+
+pub zeros-end : (p : List ℕ) (i : ℕ) → 7 ≤ i → zeros (drop i (fieldsOf p)) ≡ true
+zeros-end p i h = rw (drop-of-length-le (fieldsOf p) h)
+
+-- Rows below a limit: argument rows, and the rows of literals.
+module _ (limit : ℕ) (p : List ℕ) (i to : ℕ) {n : ℕ} (l : i < to) (h : to ≤ 7) (e : n ≡ fieldOf p i) where
+  pub below-stop : limit ≤ n → allBelow limit (take (to - i) (drop i (fieldsOf p))) ≡ false
+  below-stop z = rw (field-next-to p i to l h, ← e, le-ltb n limit z)
+
+  pub below-on : n < limit → allBelow limit (take (to - i) (drop i (fieldsOf p))) ≡ allBelow limit (take (to - (i + 1)) (drop (i + 1) (fieldsOf p)))
+  below-on z = rw (field-next-to p i to l h, ← e, lt-ltb n limit z)
+
+-- The rows of literals that are written so.
+abbrev pub rowsIn : List ℕ → List ℕ
+rowsIn ns = map (λ l. l .1) (map literalOf ns)
+
+module _ (limit : ℕ) (p : List ℕ) (i to : ℕ) {n : ℕ} (l : i < to) (h : to ≤ 7) (e : n ≡ fieldOf p i) where
+  pub rows-stop : limit ≤ n / 2 → allBelow limit (rowsIn (take (to - i) (drop i (fieldsOf p)))) ≡ false
+  rows-stop z = rw (field-next-to p i to l h, ← e, le-ltb (n / 2) limit z)
+
+  pub rows-on : n / 2 < limit → allBelow limit (rowsIn (take (to - i) (drop i (fieldsOf p)))) ≡ allBelow limit (rowsIn (take (to - (i + 1)) (drop (i + 1) (fieldsOf p))))
+  rows-on z = rw (field-next-to p i to l h, ← e, lt-ltb (n / 2) limit z)
+
+-- Two tests, the first on a number that was read.
+pub few-passed : {n k m : ℕ} {x : Bool} (y : Bool) → n ≡ k → n ≤ m → x ≡ y → x ≡ (leb k m && y)
+few-passed {n} {k} {m} y e h q = rw (← e, le-leb n m h) q
+
+pub few-failed : {n k m : ℕ} (y : Bool) → n ≡ k → m < n → false ≡ (leb k m && y)
+few-failed {n} {k} {m} y e h = rw (← e, lt-leb n m h)
+
+pub none-passed : {n k : ℕ} {x : Bool} (y : Bool) → n ≡ k → n ≡ 0 → x ≡ y → x ≡ (eqb k 0 && y)
+none-passed {n} {k} y e h q = rw (← e, h) q
+
+pub none-failed : {n k : ℕ} (y : Bool) → n ≡ k → (n ≡ 0 → ⊥) → false ≡ (eqb k 0 && y)
+none-failed {n} {k} y e h = rw (← e, ne-eqb n 0 h)
+
+-- A number that no kind has.
+pub kind-other : (k : ℕ) → (k ≡ 1 → ⊥) → (k ≡ 2 → ⊥) → (k ≡ 3 → ⊥) → (k ≡ 4 → ⊥) → (k ≡ 5 → ⊥) → (k ≡ 6 → ⊥) → kindNumbered k ≡ otherKind
+kind-other k a b d e f g = rw (ne-eqb k 1 a, ne-eqb k 2 b, ne-eqb k 3 d, ne-eqb k 4 e, ne-eqb k 5 f, ne-eqb k 6 g)
+
+-- A symbol's arity.
+pub arity-found : (file symbols : List ℕ) (n s : ℕ) {k a : ℕ} {p : List ℕ} → s < n → k ≡ getD symbols s 0 → p ≡ recordPart file k → a ≡ countOf p
+    → _≡_ {A = Arity} (Is a) (arityAnswer (arityIn file symbols n s))
+arity-found file symbols n s h e q z = rw (lt-ltb s n h, ← e, ← q, z)
+
+pub arity-missing : (file symbols : List ℕ) (n s : ℕ) → n ≤ s → _≡_ {A = Arity} Missing (arityAnswer (arityIn file symbols n s))
+arity-missing file symbols n s h = rw (le-ltb s n h)

@@ -1,0 +1,32 @@
+-- Both sides make the same test, and what was read is what the definition reads.
+use Rattle.fields.proofs.FieldLaws.{arity-found, arity-missing}
+use borrow.Author.Needs.{needs}
+use Rattle.fields.proofs.arity_in.Statement.{statement}
+use Rattle.fields.proofs.arity_in.Tie as tie
+
+cell-requires : tie.Need-cell-requires
+cell-requires c κs = search needs
+
+cast-record-part : tie.Need-cast-record-part
+cast-record-part c = search needs
+
+record-part-requires : tie.Need-record-part-requires
+record-part-requires c κs = search needs
+
+count-requires : tie.Need-count-requires
+count-requires c κs = search needs
+
+returns : tie.Need-returns
+returns c =
+    let s = c .before .before .before .before .before .before .args in
+    arity-found (s .file .now) (s .symbols .now) (s .n) (s .s) (c .before .before .before .if1 .taken) (c .before .before .cell .ensures) (c .before .record-part .ensures) (c .count .ensures)
+
+returns-2 : tie.Need-returns-2
+returns-2 c =
+    let s = c .before .before .before .args in
+    arity-missing (s .file .now) (s .symbols .now) (s .n) (s .s) (c .if1 .left)
+
+pub arity-in-spec : {M : Type 1} → statement M
+arity-in-spec =
+    tie.close
+    (tie.spec cell-requires cast-record-part record-part-requires count-requires returns returns-2)

@@ -1,0 +1,61 @@
+use native.Mathlib.Omega.{arith}
+use Rattle.inference.proofs.StepLaws.{finish-up, finish-done, finish-refused}
+use borrow.Author.Needs.{needs}
+use Rattle.inference.proofs.finish_step.Statement.{statement}
+use Rattle.inference.proofs.finish_step.Tie as tie
+
+enum-known-u : tie.Need-enum-known-u
+enum-known-u c = search needs
+
+sub-put-clause : tie.Need-sub-put-clause
+sub-put-clause c =
+    let p = finish-up _ _ _ _ (c .before .before .u .given .1) (c .before .before .before .before .before .before .pre .upTo) in omega arith
+
+put-clause-requires : tie.Need-put-clause-requires
+put-clause-requires c κs = search needs
+
+add-t16 : tie.Need-add-t16
+add-t16 c = search needs
+
+enum-known-u-2 : tie.Need-enum-known-u-2
+enum-known-u-2 c = search needs
+
+cast-clear : tie.Need-cast-clear
+cast-clear c = search needs
+
+mul-clear : tie.Need-mul-clear
+mul-clear c = search needs
+
+clear-requires : tie.Need-clear-requires
+clear-requires c κs = search needs
+
+same-length : tie.Need-same-length
+same-length c = search needs
+
+returns : tie.Need-returns
+returns c =
+    finish-done _ _ _ _ _ _ _ _ _ _ (c .before .before .before .before .before .u .given .1) (c .before .before .put-clause .ensures)
+
+same-length-2 : tie.Need-same-length-2
+same-length-2 c = search needs
+
+returns-2 : tie.Need-returns-2
+returns-2 c =
+    finish-refused _ _ _ _ _ _ _ _ _ (c .before .before .before .before .before .u2 .given .1) (c .before .before .clear .ensures)
+
+pub finish-step-spec : {M : Type 1} → statement M
+finish-step-spec =
+    tie.close
+    (tie.spec
+    enum-known-u
+    sub-put-clause
+    put-clause-requires
+    add-t16
+    enum-known-u-2
+    cast-clear
+    mul-clear
+    clear-requires
+    same-length
+    returns
+    same-length-2
+    returns-2)

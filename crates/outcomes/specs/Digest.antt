@@ -1,0 +1,21 @@
+-- The length and the hash of a readout.
+use mathlib.Core.Path.{_≡_}
+use mathlib.Core.List.{List}
+use Prim.Native.Nat.{ℕ}
+use lib.ListN.{length}
+use Rattle.verdict.specs.Tables.{lengthsOf}
+use Rattle.verdict.specs.Verdict.{Lengths}
+use Rattle.answer.specs.declared.Answer.{Answer}
+use Rattle.lines.specs.Readout.{readout}
+use Rattle.readout.specs.Units.{AfterCheck}
+use Rattle.hash.specs.Hash.{start, hashBytes}
+use Rattle.outcomes.specs.declared.digest.Digest.{Digest}
+
+-- The number of bytes of a file's readout, and their hash.
+pub record DigestOf (file : List ℕ) (lengths : Lengths) (d : Digest) : Type 0 where
+  pub length : d .length ≡ length (readout file lengths)
+  pub hash : d .hash ≡ hashBytes start (readout file lengths)
+
+-- The same by what a check left, whichever tables there were before it.
+pub record DigestAfter (F C B N A : List ℕ) (a : Answer) (d : Digest) : Type 0 where
+  pub digest : (R : AfterCheck F C B N A a) → DigestOf F (lengthsOf (R .before)) d

@@ -1,0 +1,25 @@
+-- What the program gives for a file: the answer, a hash of each table as the check leaves it, and the length and the hash of the readout.
+use mathlib.Core.Path.{_≡_}
+use mathlib.Core.List.{List}
+use Prim.Native.Nat.{ℕ}
+use lib.ListN.{replicate}
+use Rattle.answer.specs.Given.{answerGiven}
+use Rattle.verdict.specs.Tables.{Tables, lengthsOf, tablesAfter}
+use Rattle.verdict.specs.Verdict.{check, answerNumbers, named}
+use Rattle.outcomes.specs.Digest.{DigestOf}
+use Rattle.hash.specs.Hash.{start, hashCells}
+use Rattle.outcomes.specs.declared.outcome.Outcome.{Outcome}
+
+-- Tables that are just long enough, with every cell zero.
+abbrev pub zeroTables : Tables
+zeroTables = record { symbols = replicate (named .symbols) 0; rows = replicate (named .rows) 0; clauses = replicate (named .clauses) 0; bindings = replicate (named .bindings) 0 }
+
+-- The seven numbers of the answer, the hash of each table, and the length and the hash of the readout, for a file that is checked with
+-- some tables.
+pub record OutcomeOf (file : List ℕ) (before : Tables) (o : Outcome) : Type 0 where
+  pub answer : answerGiven (o .answer) ≡ answerNumbers (check file (lengthsOf before))
+  pub symbols : o .hashes .symbols ≡ hashCells start (tablesAfter file before .symbols)
+  pub rows : o .hashes .rows ≡ hashCells start (tablesAfter file before .rows)
+  pub clauses : o .hashes .clauses ≡ hashCells start (tablesAfter file before .clauses)
+  pub bindings : o .hashes .bindings ≡ hashCells start (tablesAfter file before .bindings)
+  pub readout : DigestOf file (lengthsOf before) (o .readout)

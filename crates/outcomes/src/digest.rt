@@ -1,0 +1,65 @@
+// The length and the hash of a file's readout.
+use answer::Answer;
+use hash::with_bytes;
+use readout::piece::Rest;
+use readout::piece::write_piece;
+ghost use Rattle.readout.specs.Units.{AfterCheck};
+ghost use Rattle.outcomes.specs.Digest.{DigestAfter};
+
+// How many bytes there are, and their hash.
+pub struct Digest {
+    pub length: usize,
+    pub hash: u64,
+}
+
+// Goes through the readout piece by piece, by what the check left. The output has room for the longest line, so that no piece ends as
+// too short.
+pub fn digest_of(
+    file: &[u8],
+    clauses: &[u16],
+    bindings: &[u16],
+    nodes: &[u16; 32768],
+    values: &mut [u16; 524416],
+    a: Answer,
+) -> Digest
+    requires { ⌜ AfterCheck (now file) (now clauses) (now bindings) (now nodes) (now values) a ⌝ }
+    ensures { λ d. ⌜ DigestAfter (now (file .entry)) (now (clauses .entry)) (now (bindings .entry)) (now (nodes .entry)) (now (values .entry)) a d ⌝ }
+{
+    let mut output = [0u8; 131072];
+    let mut total: usize = 0;
+    let mut hash = 14695981039346656037u64;
+    let mut clause: u16 = 0;
+    loop {
+        let p = write_piece(
+            file,
+            clauses,
+            bindings,
+            nodes,
+            values,
+            a,
+            clause,
+            &mut output,
+        );
+        let written = p.written;
+        hash = with_bytes(hash, &output[..written]);
+        total += written;
+        let rest = p.rest;
+        match rest {
+            Rest::GoOn(next) => {
+                clause = next;
+            }
+            Rest::Complete => {
+                return Digest {
+                    length: total,
+                    hash,
+                };
+            }
+            Rest::TooShort(_) => {
+                return Digest {
+                    length: total,
+                    hash,
+                };
+            }
+        }
+    }
+}

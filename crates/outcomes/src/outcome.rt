@@ -1,0 +1,55 @@
+// What the check and the readout give for one file: the answer in numbers, a hash of each table, and the readout's length and hash.
+use super::digest::Digest;
+use super::digest::digest_of;
+use answer::Answer;
+use checker::check_with;
+use hash::hash_of;
+ghost use Rattle.outcomes.specs.Outcome.{OutcomeOf, zeroTables};
+
+// The hashes of the four tables.
+pub struct Hashes {
+    pub symbols: u64,
+    pub rows: u64,
+    pub clauses: u64,
+    pub bindings: u64,
+}
+
+// The answer to a file, the hashes of the tables as the check leaves them, and the length and the hash of the readout.
+pub struct Outcome {
+    pub answer: Answer,
+    pub hashes: Hashes,
+    pub readout: Digest,
+}
+
+// Checks a file with tables that are just long enough and zero before, and goes on to the readout by what the check left.
+pub fn outcome_of(file: &[u8]) -> Outcome
+    ensures { λ o. ⌜ OutcomeOf (now (file .entry)) zeroTables o ⌝ }
+{
+    let mut symbols = [0u16; 4096];
+    let mut rows = [0u16; 4096];
+    let mut clauses = [0u16; 20480];
+    let mut bindings = [0u16; 32768];
+    let mut nodes = [0u16; 32768];
+    let mut values = [0u16; 524416];
+    let answer = check_with(
+        file,
+        &mut symbols,
+        &mut rows,
+        &mut clauses,
+        &mut bindings,
+        &mut nodes,
+        &mut values,
+    );
+    let hashes = Hashes {
+        symbols: hash_of(&symbols),
+        rows: hash_of(&rows),
+        clauses: hash_of(&clauses),
+        bindings: hash_of(&bindings),
+    };
+    let readout = digest_of(file, &clauses, &bindings, &nodes, &mut values, answer);
+    Outcome {
+        answer,
+        hashes,
+        readout,
+    }
+}

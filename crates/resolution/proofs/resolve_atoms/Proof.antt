@@ -1,0 +1,83 @@
+use native.Mathlib.Omega.{arith}
+use Rattle.inference.proofs.StepEnds.{finishing}
+use Rattle.inference.proofs.StepNamed.{literals-sum, index-sum, resolving, too-many-literals, too-high-index, resolve-ended}
+use borrow.Author.Needs.{needs}
+use Rattle.resolution.proofs.resolve_atoms.Statement.{statement}
+use Rattle.resolution.proofs.resolve_atoms.Tie as tie
+
+literals-cell-requires : tie.Need-literals-cell-requires
+literals-cell-requires c κs = search needs
+
+literals-cell-requires-2 : tie.Need-literals-cell-requires-2
+literals-cell-requires-2 c κs = search needs
+
+add-literals : tie.Need-add-literals
+add-literals c =
+    omega (arith, literals-sum (c .before .before .before .before .before .before .before .pre) _ _ (c .before .before .literals-cell .ensures) (c .literals-cell2 .ensures) .1)
+
+sub-literals : tie.Need-sub-literals
+sub-literals c =
+    literals-sum (c .before .before .before .before .before .before .before .pre) _ _ (c .before .before .literals-cell .ensures) (c .literals-cell2 .ensures) .0
+
+same-length : tie.Need-same-length
+same-length c = search needs
+
+returns : tie.Need-returns
+returns c =
+    λ R. too-many-literals R _ _ (c .before .before .before .literals-cell .ensures) (c .before .literals-cell2 .ensures) (c .if1 .taken)
+
+index-cell-requires : tie.Need-index-cell-requires
+index-cell-requires c κs = search needs
+
+index-cell-requires-2 : tie.Need-index-cell-requires-2
+index-cell-requires-2 c κs = search needs
+
+add-index : tie.Need-add-index
+add-index c =
+    omega (arith, index-sum (c .before .before .before .before .before .before .before .before .before .before .before .before .pre) _ _ (c .before .before .index-cell .ensures) (c .index-cell2 .ensures))
+
+same-length-2 : tie.Need-same-length-2
+same-length-2 c = search needs
+
+returns-2 : tie.Need-returns-2
+returns-2 c =
+    λ R. too-high-index R _ _ (c .before .before .before .index-cell .ensures) (c .before .index-cell2 .ensures) (c .if2 .taken)
+
+unify-resolve-requires : tie.Need-unify-resolve-requires
+unify-resolve-requires c κs =
+    resolving (c .before .before .before .before .before .before .before .before .before .before .before .before .before .before .before .before .pre) _ _ (c .before .before .before .before .before .before .index-cell .ensures) (c .before .before .before .before .index-cell2 .ensures) (c .before .before .before .if2 .left)
+
+finish-step-requires : tie.Need-finish-step-requires
+finish-step-requires c κs =
+    finishing (c .before .before .before .before .before .before .before .before .before .before .before .before .before .before .before .before .before .before .before .before .before .pre .step) _ _ _ (c .before .before .before .before .unify-resolve .ensures .1)
+
+same-length-3 : tie.Need-same-length-3
+same-length-3 c = search needs
+
+same-length-4 : tie.Need-same-length-4
+same-length-4 c = search needs
+
+returns-3 : tie.Need-returns-3
+returns-3 c =
+    λ R. resolve-ended R _ _ _ _ (c .before .before .before .before .before .before .before .before .before .before .before .before .before .before .before .before .before .before .before .before .before .literals-cell .ensures) (c .before .before .before .before .before .before .before .before .before .before .before .before .before .before .before .before .before .before .before .literals-cell2 .ensures) (c .before .before .before .before .before .before .before .before .before .before .before .before .before .before .before .before .index-cell .ensures) (c .before .before .before .before .before .before .before .before .before .before .before .before .before .before .index-cell2 .ensures) (c .before .before .before .before .before .before .before .before .before .before .before .before .before .before .before .before .before .before .if1 .left) (c .before .before .before .before .before .before .before .before .before .before .before .before .before .if2 .left) _ _ _ (c .before .before .before .before .before .before .before .before .before .unify-resolve .ensures .0) (c .before .before .before .before .before .before .before .before .before .unify-resolve .ensures .1) _ _ _ (c .before .before .before .before .finish-step .ensures)
+
+pub resolve-atoms-spec : {M : Type 1} → statement M
+resolve-atoms-spec =
+    tie.close
+    (tie.spec
+    literals-cell-requires
+    literals-cell-requires-2
+    add-literals
+    sub-literals
+    same-length
+    returns
+    index-cell-requires
+    index-cell-requires-2
+    add-index
+    same-length-2
+    returns-2
+    unify-resolve-requires
+    finish-step-requires
+    same-length-3
+    same-length-4
+    returns-3)

@@ -1,0 +1,128 @@
+// A resolve: the bindings of both parents are loaded once, the two atoms are unified, and the clause is entered.
+use clauses::index_cell;
+use clauses::literal::NamedLiteral;
+use clauses::literals_cell;
+use entry::entry::Counts;
+use entry::entry::Entered;
+use fields::step_in_range;
+use inference::Atom;
+use inference::atom_of;
+use inference::finish_step;
+use inference::named_literal;
+use inference::same_sign;
+use loading::load;
+use record::field;
+use record::record_part;
+use unify::Unified;
+use unify::unify_literals;
+ghost use mathlib.Core.Path.{_≡_};
+ghost use Rattle.record.specs.Record.{recordPart, kindOf};
+ghost use Rattle.unify.specs.Unifying.{outcomeOf};
+ghost use Rattle.verdict.specs.Step.{unifyResolve};
+ghost use Rattle.inference.specs.Stepping.{BeforeStep, Resolving, UnifiedTables, atomNamed, ResolveNamed, StepRead};
+
+// Unifies the atoms of a resolve over the bindings of both parents. The right parent's indices are raised by the left one's maximum.
+fn unify_resolve(
+    file: &[u8],
+    k: u16,
+    counts: Counts,
+    clauses: &[u16],
+    bindings: &mut [u16],
+    nodes: &[u16; 32768],
+    values: &mut [u16; 524416],
+    left: Atom,
+    right: Atom,
+) -> Unified
+    requires { ⌜ Resolving (now file) k counts (now clauses) (now bindings) (now nodes) (now values) left right ⌝ }
+    ensures { λ u. ⌜ ((R : Resolving (now (file .entry)) k counts (now (clauses .entry)) (now (bindings .entry)) (now (nodes .entry)) (now (values .entry)) left right) → unifyResolve (R .step .state) (atomNamed (R .left)) (atomNamed (R .right)) ≡ outcomeOf (now (bindings .exit)) (counts .bindings) u) ⌝ }
+    ensures { λ u. ⌜ UnifiedTables (now (bindings .entry)) (now (bindings .exit)) (now (values .exit)) (counts .bindings) u ⌝ }
+{
+    let raised = index_cell(clauses, left.clause);
+    let top = raised + index_cell(clauses, right.clause);
+    following::values::clear(values, top);
+    load(file, clauses, bindings, nodes, values, left.clause, 0);
+    load(file, clauses, bindings, nodes, values, right.clause, raised);
+    unify_literals(
+        nodes,
+        values,
+        bindings,
+        counts.bindings,
+        left.row,
+        left.index,
+        right.row,
+        raised + right.index,
+    )
+}
+
+// A resolve on two named atoms of opposite signs: the limits on its result, unification, and its end.
+fn resolve_atoms(
+    file: &[u8],
+    k: u16,
+    counts: Counts,
+    clauses: &mut [u16],
+    bindings: &mut [u16],
+    nodes: &[u16; 32768],
+    values: &mut [u16; 524416],
+    left: Atom,
+    right: Atom,
+) -> Entered
+    requires { ⌜ ResolveNamed (now file) k counts (now clauses) (now bindings) (now nodes) (now values) left right ⌝ }
+    ensures { λ e. ⌜ ((R : ResolveNamed (now (file .entry)) k counts (now (clauses .entry)) (now (bindings .entry)) (now (nodes .entry)) (now (values .entry)) left right) → StepRead (now (file .entry)) k counts (now (clauses .entry)) (now (bindings .entry)) (now (nodes .entry)) (now (values .entry)) (R .step) (now (clauses .exit)) (now (bindings .exit)) (now (values .exit)) e) ⌝ }
+{
+    let literals = literals_cell(clauses, left.clause) + literals_cell(clauses, right.clause) - 2;
+    if 128 < literals {
+        return Entered::Refused(9);
+    }
+    let index = index_cell(clauses, left.clause) + index_cell(clauses, right.clause);
+    if 4096 < index {
+        return Entered::Refused(9);
+    }
+    let u = unify_resolve(
+        file,
+        k,
+        counts,
+        clauses,
+        bindings,
+        nodes,
+        values,
+        left,
+        right,
+    );
+    finish_step(u, k, counts, literals, index, clauses, bindings)
+}
+
+// A resolve: the tests in the order of their numbers, with the literals that it names taken apart before their signs are compared.
+pub fn resolve_record(
+    file: &[u8],
+    k: u16,
+    counts: Counts,
+    clauses: &mut [u16],
+    bindings: &mut [u16],
+    nodes: &[u16; 32768],
+    values: &mut [u16; 524416],
+) -> Entered
+    requires { ⌜ BeforeStep (now file) k counts (now clauses) (now bindings) (now nodes) (now values) ⌝ }
+    requires { ⌜ kindOf (recordPart (now file) k) ≡ 5 ⌝ }
+    ensures { λ e. ⌜ ((E : BeforeStep (now (file .entry)) k counts (now (clauses .entry)) (now (bindings .entry)) (now (nodes .entry)) (now (values .entry))) → StepRead (now (file .entry)) k counts (now (clauses .entry)) (now (bindings .entry)) (now (nodes .entry)) (now (values .entry)) E (now (clauses .exit)) (now (bindings .exit)) (now (values .exit)) e) ⌝ }
+{
+    let part = record_part(file, k as usize);
+    if !step_in_range(part, 4) {
+        return Entered::Refused(4);
+    }
+    let a = field(part, 0);
+    let c = field(part, 2);
+    let left = named_literal(file, clauses, counts.clauses, a, field(part, 1));
+    let right = named_literal(file, clauses, counts.clauses, c, field(part, 3));
+    let NamedLiteral::Found(s, r, i) = left else {
+        return Entered::Refused(5);
+    };
+    let NamedLiteral::Found(t, q, j) = right else {
+        return Entered::Refused(5);
+    };
+    if same_sign(s, t) {
+        return Entered::Refused(8);
+    }
+    let x = atom_of(a, r, i);
+    let y = atom_of(c, q, j);
+    resolve_atoms(file, k, counts, clauses, bindings, nodes, values, x, y)
+}

@@ -1,0 +1,5 @@
+pub mod Positions
+pub mod Decimals
+pub mod TermTexts
+pub mod ArgumentTexts
+pub mod LiteralTexts

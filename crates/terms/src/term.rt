@@ -1,0 +1,104 @@
+// A term written out, with the occurrences that may be written counted down: a term that has more is broken off.
+use super::text::put_byte;
+use super::text::put_symbol;
+use super::text::put_variable;
+use following::follow::Followed;
+use following::follow::follow;
+use following::nodes::arity_of;
+use following::nodes::part_of;
+ghost use mathlib.Core.Path.{_≡_};
+ghost use lib.ListN.{length};
+ghost use Rattle.terms.specs.Writing.{Wrote, Sized, markBefore, closingText, WritesTerm, WritesArguments, LeavesLess, LeavesNoMore};
+
+// The position after the term, and how many occurrences may still be written; or there are too many.
+pub enum Written {
+    Done(usize, u16),
+    TooMany,
+}
+
+// What stands before argument n.
+fn mark(n: u16) -> u8
+    ensures { λ b. ⌜ b ≡ markBefore n ⌝ }
+{
+    if n == 1 { b'(' } else { b',' }
+}
+
+// What stands after the last argument, where argument n would be the next one.
+fn put_closing(text: &mut [u8; 131072], at: usize, n: u16) -> usize
+    requires { ⌜ length (now text) ≡ 131072 ⌝ }
+    ensures { λ end. ⌜ Wrote (now (text .entry)) (now (text .exit)) at end (closingText n) ⌝ }
+{
+    if n == 1 {
+        return at;
+    }
+    put_byte(text, at, b')')
+}
+
+// The row at the index, written out. Every expression taken up costs one of the occurrences that may be written.
+pub fn write_term(
+    nodes: &[u16; 32768],
+    values: &mut [u16; 524416],
+    text: &mut [u8; 131072],
+    at: usize,
+    row: u16,
+    index: u16,
+    left: u16,
+) -> Written
+    requires { ⌜ Sized (now nodes) (now values) (now text) ⌝ }
+    ensures { λ w. ⌜ WritesTerm (now (nodes .entry)) (now (values .entry)) (now (values .exit)) (now (text .entry)) (now (text .exit)) at (row, index) left w × LeavesLess left w × Sized (now (nodes .entry)) (now (values .exit)) (now (text .exit)) ⌝ }
+{
+    if left == 0 {
+        return Written::TooMany;
+    }
+    let x = follow(nodes, values, row, index);
+    match x {
+        Followed::Variable(r, k) => {
+            let number = part_of(nodes, r, 0);
+            let end = put_variable(text, at, number, k);
+            Written::Done(end, left - 1)
+        }
+        Followed::Application(r, k) => {
+            let symbol = part_of(nodes, r, 0);
+            let next = put_symbol(text, at, symbol);
+            write_arguments(nodes, values, text, next, r, k, left - 1)
+        }
+    }
+}
+
+// The arguments of an application: in parentheses with commas, and nothing where there are none. A loop, so that only nesting takes
+// room on the stack.
+fn write_arguments(
+    nodes: &[u16; 32768],
+    values: &mut [u16; 524416],
+    text: &mut [u8; 131072],
+    at: usize,
+    r: u16,
+    k: u16,
+    left: u16,
+) -> Written
+    requires { ⌜ Sized (now nodes) (now values) (now text) ⌝ }
+    ensures { λ w. ⌜ WritesArguments (now (nodes .entry)) (now (values .entry)) (now (values .exit)) (now (text .entry)) (now (text .exit)) at r k left w × LeavesNoMore left w × Sized (now (nodes .entry)) (now (values .exit)) (now (text .exit)) ⌝ }
+{
+    let mut end = at;
+    let mut n: u16 = 1;
+    let mut rest = arity_of(nodes, r);
+    let mut spare = left;
+    while rest > 0 {
+        let start = put_byte(text, end, mark(n));
+        let a = part_of(nodes, r, n);
+        let one = write_term(nodes, values, text, start, a, k, spare);
+        match one {
+            Written::Done(e, l) => {
+                end = e;
+                spare = l;
+            }
+            Written::TooMany => {
+                return Written::TooMany;
+            }
+        }
+        n += 1;
+        rest -= 1;
+    }
+    let last = put_closing(text, end, n);
+    Written::Done(last, spare)
+}
