@@ -1,6 +1,5 @@
 // Runs every stored vector through the check and prints, for each file, the answer, a hash of each table, and the length and
 // the hash of its readout. The packs are in data/, and stdout has what the second implementation gives for the same files (`rust/vectors/README.md`).
-mod pack;
 mod print;
 
 use outcomes::outcome::outcome_of;
@@ -73,21 +72,28 @@ fn read_file(path: &[u8], space: &mut [u8]) -> usize
     n
 }
 
-// Reads the pack of a group and prints its lines. Whether it could be read whole.
-fn run_group(path: &[u8]) -> bool
+// Reads the pack of a group into `space` and prints its lines. Whether it could be read whole.
+fn run_in(path: &[u8], space: &mut [u8]) -> bool
     requires { ⌜ 4 ≤ length (now path) ⌝ }
 {
-    let mut space = [0u8; 655360];
-    let n = read_file(path, &mut space);
+    let n = read_file(path, space);
     if n == 0 {
         complain(path, b" cannot be read or is empty\n");
         return false;
     }
-    if n == 655360 {
+    if n == space.len() {
         complain(path, b" is too long\n");
         return false;
     }
     print_group(path, &space[..n])
+}
+
+// The same with space for the longest pack.
+fn run_group(path: &[u8]) -> bool
+    requires { ⌜ 4 ≤ length (now path) ⌝ }
+{
+    let mut space = [0u8; 655360];
+    run_in(path, &mut space)
 }
 
 // All groups in order, up to the first whose pack cannot be read.

@@ -4,6 +4,8 @@ use super::digest::digest_of;
 use answer::Answer;
 use checker::check_with;
 use hash::hash_of;
+ghost use Rattle.entry.specs.Progress.{tablesWith};
+ghost use Rattle.checker.specs.Reader.{Unwritten};
 ghost use Rattle.outcomes.specs.Outcome.{OutcomeOf, zeroTables};
 
 // The hashes of the four tables.
@@ -21,7 +23,35 @@ pub struct Outcome {
     pub readout: Digest,
 }
 
-// Checks a file with tables that are just long enough and zero before, and goes on to the readout by what the check left.
+// Checks a file with the caller's tables, and goes on to the readout by what the check left.
+fn outcome_with(
+    file: &[u8],
+    symbols: &mut [u16],
+    rows: &mut [u16],
+    clauses: &mut [u16],
+    bindings: &mut [u16],
+    nodes: &mut [u16; 32768],
+    values: &mut [u16; 524416],
+) -> Outcome
+    requires { ⌜ Unwritten (now nodes) (now values) ⌝ }
+    ensures { λ o. ⌜ OutcomeOf (now (file .entry)) (tablesWith (now (symbols .entry)) (now (rows .entry)) (now (clauses .entry)) (now (bindings .entry))) o ⌝ }
+{
+    let answer = check_with(file, symbols, rows, clauses, bindings, nodes, values);
+    let hashes = Hashes {
+        symbols: hash_of(symbols),
+        rows: hash_of(rows),
+        clauses: hash_of(clauses),
+        bindings: hash_of(bindings),
+    };
+    let readout = digest_of(file, clauses, bindings, nodes, values, answer);
+    Outcome {
+        answer,
+        hashes,
+        readout,
+    }
+}
+
+// The same with tables that are just long enough and zero before.
 pub fn outcome_of(file: &[u8]) -> Outcome
     ensures { λ o. ⌜ OutcomeOf (now (file .entry)) zeroTables o ⌝ }
 {
@@ -31,7 +61,7 @@ pub fn outcome_of(file: &[u8]) -> Outcome
     let mut bindings = [0u16; 32768];
     let mut nodes = [0u16; 32768];
     let mut values = [0u16; 524416];
-    let answer = check_with(
+    outcome_with(
         file,
         &mut symbols,
         &mut rows,
@@ -39,17 +69,5 @@ pub fn outcome_of(file: &[u8]) -> Outcome
         &mut bindings,
         &mut nodes,
         &mut values,
-    );
-    let hashes = Hashes {
-        symbols: hash_of(&symbols),
-        rows: hash_of(&rows),
-        clauses: hash_of(&clauses),
-        bindings: hash_of(&bindings),
-    };
-    let readout = digest_of(file, &clauses, &bindings, &nodes, &mut values, answer);
-    Outcome {
-        answer,
-        hashes,
-        readout,
-    }
+    )
 }

@@ -6,6 +6,7 @@ use libc::STDIN_FILENO;
 use libc::STDOUT_FILENO;
 use readout::unit::unit_count;
 use readout::unit::write_unit;
+ghost use Rattle.checker.specs.Reader.{Unwritten};
 ghost use Rattle.readout.specs.Units.{AfterCheck};
 
 // Prints line after line, the first one with that of clause 0.
@@ -31,7 +32,23 @@ fn print_lines(
     }
 }
 
-// Checks a file once, and prints its readout.
+// Checks a file once, and prints its readout by what the check left.
+fn print_with(
+    file: &[u8],
+    symbols: &mut [u16],
+    rows: &mut [u16],
+    clauses: &mut [u16],
+    bindings: &mut [u16],
+    nodes: &mut [u16; 32768],
+    values: &mut [u16; 524416],
+)
+    requires { ⌜ Unwritten (now nodes) (now values) ⌝ }
+{
+    let a = check_with(file, symbols, rows, clauses, bindings, nodes, values);
+    print_lines(file, clauses, bindings, nodes, values, a);
+}
+
+// The same with tables that are just long enough.
 fn print_readout(file: &[u8]) {
     let mut symbols = [0u16; 4096];
     let mut rows = [0u16; 4096];
@@ -39,7 +56,7 @@ fn print_readout(file: &[u8]) {
     let mut bindings = [0u16; 32768];
     let mut nodes = [0u16; 32768];
     let mut values = [0u16; 524416];
-    let a = check_with(
+    print_with(
         file,
         &mut symbols,
         &mut rows,
@@ -48,7 +65,6 @@ fn print_readout(file: &[u8]) {
         &mut nodes,
         &mut values,
     );
-    print_lines(file, &clauses, &bindings, &nodes, &mut values, a);
 }
 
 fn main() {

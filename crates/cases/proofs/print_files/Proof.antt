@@ -3,7 +3,7 @@ use mathlib.Core.Path.{sym, _∙_}
 use Prim.Native.Nat.{_-_, _≤_}
 use native.Mathlib.Omega.{arith}
 use lib.ListN.{length}
-use Rattle.cases.proofs.PackLaws.{inside}
+use Rattle.pack.proofs.PackLaws.{inside}
 use borrow.Author.Needs.{needs}
 use Rattle.cases.proofs.print_files.Statement.{statement}
 use Rattle.cases.proofs.print_files.Tie as tie

@@ -1,4 +1,4 @@
--- Fresh arrays are as the check asks for them, and what it leaves is what a piece asks for.
+-- A fresh array has its length, and a fresh node table no row.
 use mathlib.Core.Path.{refl}
 use Prim.Native.Nat.{ℕ}
 use lib.ListN.{length-replicate}
@@ -6,31 +6,21 @@ use borrow.Author.Needs.{needs}
 use Rattle.proofread.proofs.print_readout.Statement.{statement}
 use Rattle.proofread.proofs.print_readout.Tie as tie
 
-slice-aggregate-check-with : tie.Need-slice-aggregate-check-with
-slice-aggregate-check-with c = search needs
+slice-aggregate-print-with : tie.Need-slice-aggregate-print-with
+slice-aggregate-print-with c = search needs
 
-slice-aggregate-check-with-2 : tie.Need-slice-aggregate-check-with-2
-slice-aggregate-check-with-2 c = search needs
+slice-aggregate-print-with-2 : tie.Need-slice-aggregate-print-with-2
+slice-aggregate-print-with-2 c = search needs
 
-slice-aggregate-check-with-3 : tie.Need-slice-aggregate-check-with-3
-slice-aggregate-check-with-3 c = search needs
+slice-aggregate-print-with-3 : tie.Need-slice-aggregate-print-with-3
+slice-aggregate-print-with-3 c = search needs
 
-slice-aggregate-check-with-4 : tie.Need-slice-aggregate-check-with-4
-slice-aggregate-check-with-4 c = search needs
+slice-aggregate-print-with-4 : tie.Need-slice-aggregate-print-with-4
+slice-aggregate-print-with-4 c = search needs
 
-check-with-requires : tie.Need-check-with-requires
-check-with-requires c κs =
+print-with-requires : tie.Need-print-with-requires
+print-with-requires c κs =
     record { nodes = refl; values = length-replicate {A = ℕ} 524416 0 }
-
-slice-aggregate-print-lines : tie.Need-slice-aggregate-print-lines
-slice-aggregate-print-lines c = search needs
-
-slice-aggregate-print-lines-2 : tie.Need-slice-aggregate-print-lines-2
-slice-aggregate-print-lines-2 c = search needs
-
-print-lines-requires : tie.Need-print-lines-requires
-print-lines-requires c κs =
-    record { before = _; symbols = _; rows = _; checked = c .before .before .before .before .before .before .before .before .check-with .ensures }
 
 returns : tie.Need-returns
 returns c = search needs
@@ -39,12 +29,9 @@ pub print-readout-spec : {M : Type 1} → statement M
 print-readout-spec =
     tie.close
     (tie.spec
-    slice-aggregate-check-with
-    slice-aggregate-check-with-2
-    slice-aggregate-check-with-3
-    slice-aggregate-check-with-4
-    check-with-requires
-    slice-aggregate-print-lines
-    slice-aggregate-print-lines-2
-    print-lines-requires
+    slice-aggregate-print-with
+    slice-aggregate-print-with-2
+    slice-aggregate-print-with-3
+    slice-aggregate-print-with-4
+    print-with-requires
     returns)

@@ -3,10 +3,10 @@ use mathlib.Core.Path.{sym, _∙_}
 use Prim.Native.Nat.{_-_}
 use native.Mathlib.Omega.{arith}
 use lib.ListN.{length}
-use Rattle.cases.proofs.PackLaws.{Passed, inside, passed-none, passed-more, passed-all, passed-cut}
+use Rattle.pack.proofs.PackLaws.{Passed, inside, passed-none, passed-more, passed-all, passed-cut}
 use borrow.Author.Needs.{needs}
-use Rattle.cases.proofs.pack.count_files.Statement.{statement}
-use Rattle.cases.proofs.pack.count_files.Tie as tie
+use Rattle.pack.proofs.count_files.Statement.{statement}
+use Rattle.pack.proofs.count_files.Tie as tie
 
 abbrev Inv-loop : tie.InvT-loop
 Inv-loop pack at₀ n₀ at n =

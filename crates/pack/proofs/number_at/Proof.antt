@@ -1,7 +1,7 @@
-use Rattle.cases.proofs.PackLaws.{four-bytes}
+use Rattle.pack.proofs.PackLaws.{four-bytes}
 use borrow.Author.Needs.{needs}
-use Rattle.cases.proofs.pack.number_at.Statement.{statement}
-use Rattle.cases.proofs.pack.number_at.Tie as tie
+use Rattle.pack.proofs.number_at.Statement.{statement}
+use Rattle.pack.proofs.number_at.Tie as tie
 
 shared-slice-read-wide : tie.Need-shared-slice-read-wide
 shared-slice-read-wide c = search needs

@@ -8,8 +8,8 @@ use native.Mathlib.Omega.{arith}
 use borrow.Author.Tests.{lt-leb, le-leb, leb-true}
 use lib.Dec.{leb}
 use lib.ListN.{length, getD}
-use Rattle.cases.specs.Pack.{pickEntry, numberAt, fileOf, entryAt, FilesFrom, none, one}
-use Rattle.cases.specs.declared.pack.Entry.the-variants.{File, Short}
+use Rattle.pack.specs.Pack.{pickEntry, numberAt, fileOf, entryAt, FilesFrom, none, one}
+use Rattle.pack.specs.declared.Entry.the-variants.{File, Short}
 
 -- Four bytes as the program reads them.
 pub four-bytes : (s : List ℕ) (at a b c d : ℕ) → a ≡ getD s at 0 → b ≡ getD s (at + 1) 0 → c ≡ getD s (at + 2) 0 → d ≡ getD s (at + 3) 0 → a + 256 * b + 65536 * c + 16777216 * d ≡ numberAt s at

@@ -2,7 +2,7 @@
 ghost use mathlib.Core.Path.{_≡_};
 ghost use Prim.Native.Nat.{_+_, _≤_};
 ghost use lib.ListN.{length};
-ghost use Rattle.cases.specs.Pack.{entryAt, numberAt, RightCount};
+ghost use Rattle.pack.specs.Pack.{entryAt, numberAt, RightCount};
 
 // What stands at a place of a pack: a whole file, with the place of its first byte and the place behind its last; or the rest is
 // too short.

@@ -5,10 +5,10 @@ use mathlib.Core.Path.{_≡_}
 use Prim.Native.Nat.{ℕ, suc, _+_, _*_}
 use lib.Dec.{leb}
 use lib.ListN.{length, getD}
-use Rattle.cases.specs.declared.pack.Entry.{Entry}
-use Rattle.cases.specs.declared.pack.Entry.the-variants.{File, Short}
-use Rattle.cases.specs.declared.pack.Counted.{Counted}
-use Rattle.cases.specs.declared.pack.Counted.the-variants.{Files, Cut}
+use Rattle.pack.specs.declared.Entry.{Entry}
+use Rattle.pack.specs.declared.Entry.the-variants.{File, Short}
+use Rattle.pack.specs.declared.Counted.{Counted}
+use Rattle.pack.specs.declared.Counted.the-variants.{Files, Cut}
 
 abbrev pub pickEntry : Bool → Entry → Entry → Entry
 pickEntry true a b = a

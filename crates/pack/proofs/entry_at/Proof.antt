@@ -1,8 +1,8 @@
 use native.Mathlib.Omega.{arith}
-use Rattle.cases.proofs.PackLaws.{too-short, cut-file, whole-file}
+use Rattle.pack.proofs.PackLaws.{too-short, cut-file, whole-file}
 use borrow.Author.Needs.{needs}
-use Rattle.cases.proofs.pack.entry_at.Statement.{statement}
-use Rattle.cases.proofs.pack.entry_at.Tie as tie
+use Rattle.pack.proofs.entry_at.Statement.{statement}
+use Rattle.pack.proofs.entry_at.Tie as tie
 
 returns : tie.Need-returns
 returns c =

@@ -1,0 +1,56 @@
+-- What the check leaves is what the readout asks for, and the hashes are of the tables that it left.
+use Rattle.outcomes.proofs.OutcomeLaws.{outcome-given}
+use borrow.Author.Needs.{needs}
+use Rattle.outcomes.proofs.outcome.outcome_with.Statement.{statement}
+use Rattle.outcomes.proofs.outcome.outcome_with.Tie as tie
+
+check-with-requires : tie.Need-check-with-requires
+check-with-requires c κs = search needs
+
+hash-of-requires : tie.Need-hash-of-requires
+hash-of-requires c κs = search needs
+
+hash-of-requires-2 : tie.Need-hash-of-requires-2
+hash-of-requires-2 c κs = search needs
+
+hash-of-requires-3 : tie.Need-hash-of-requires-3
+hash-of-requires-3 c κs = search needs
+
+hash-of-requires-4 : tie.Need-hash-of-requires-4
+hash-of-requires-4 c κs = search needs
+
+digest-of-requires : tie.Need-digest-of-requires
+digest-of-requires c κs =
+    record { before = _; symbols = _; rows = _; checked = c .before .before .before .before .before .before .before .before .before .before .before .before .before .before .before .before .before .before .before .before .check-with .ensures }
+
+same-length : tie.Need-same-length
+same-length c = search needs
+
+same-length-2 : tie.Need-same-length-2
+same-length-2 c = search needs
+
+same-length-3 : tie.Need-same-length-3
+same-length-3 c = search needs
+
+same-length-4 : tie.Need-same-length-4
+same-length-4 c = search needs
+
+returns : tie.Need-returns
+returns c =
+    outcome-given _ _ _ _ _ _ _ _ _ _ _ _ _ _ (c .before .before .before .before .before .before .before .before .before .before .before .before .before .before .before .before .before .before .before .before .before .check-with .ensures) (c .before .before .before .before .before .before .before .before .before .before .before .hash-of .ensures) (c .before .before .before .before .before .before .before .before .before .hash-of2 .ensures) (c .before .before .before .before .before .before .before .hash-of3 .ensures) (c .before .before .before .before .before .hash-of4 .ensures) (c .digest-of .ensures)
+
+pub outcome-with-spec : {M : Type 1} → statement M
+outcome-with-spec =
+    tie.close
+    (tie.spec
+    check-with-requires
+    hash-of-requires
+    hash-of-requires-2
+    hash-of-requires-3
+    hash-of-requires-4
+    digest-of-requires
+    same-length
+    same-length-2
+    same-length-3
+    same-length-4
+    returns)
