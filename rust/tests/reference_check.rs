@@ -46,11 +46,12 @@ fn refused_files() {
 #[test]
 fn edges_of_limits_and_deep_files() {
     // The reference recurses as deep as terms nest, and takes minutes for a derivation of 4,000 steps.
-    let fast = |example: &Example| example.name != "deep-derivation-4000";
+    let fast = |example: &Example| !example.name.starts_with("deep-derivation");
     let compare = move || {
         agree_all(edges::examples());
         agree_all(deep::examples().into_iter().filter(fast).collect());
         agree("a shorter count", &deep::derivation(300));
+        agree("a shorter chain of two derived parents", &deep::two_derived(300));
     };
     let walk = std::thread::Builder::new().stack_size(1 << 29).spawn(compare).expect("a thread");
     walk.join().expect("agreement");

@@ -118,7 +118,7 @@ fn occurrence_first() -> Vec<u8> {
 }
 
 /// A count upward by a derived rule, so that both parents of every step are derived.
-fn two_derived(steps: u16) -> Vec<u8> {
+pub fn two_derived(steps: u16) -> Vec<u8> {
     let mut file = FileBuilder::new();
     let [q, f, a] = symbols(&mut file);
     let mut known = file.clause(&[pos(app(q, [app(a, [])]))]);
