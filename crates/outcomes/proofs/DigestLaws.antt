@@ -12,7 +12,11 @@ use Rattle.readout.specs.Pieces.{progress, pieceBytes, Pieces, lastPiece, piece
 use Rattle.lines.specs.Readout.{readout}
 use Rattle.readout.specs.Units.{AfterCheck, PieceAt, PieceOf, restGiven}
 use Rattle.readout.specs.declared.piece.Piece.{Piece}
+use Rattle.readout.specs.declared.piece.Rest.{Rest}
 use Rattle.readout.specs.declared.piece.Rest.the-variants.{Complete, GoOn, TooShort}
+use Rattle.readout.proofs.piece.Rest.{the-type}
+use denote.Enum.Declared.{tagOf}
+use mathlib.Core.Logic.{_⊎_, inl, inr}
 use Rattle.readout.proofs.PieceWriting.{pieces-always}
 use Rattle.readout.proofs.UnitWriting.{after-again}
 use Rattle.outcomes.specs.Digest.{DigestOf, DigestAfter}
@@ -104,3 +108,10 @@ module _ {F C B N A A₁ A₂ : List ℕ} {a : Answer} {n : ℕ} {output output�
 
     pub after-all : p .rest ≡ Complete → (d : Digest) → d .length ≡ size + p .written → d .hash ≡ hash′ → DigestAfter F C B N A a d
     after-all q d ds dh = record { digest = λ R. taken-all (X R) (ended-after R) h q d ds dh }
+
+-- A piece after which the loop ends is not followed by another; where it is not too short either, all is written.
+pub last-piece : (x : Rest) → (tagOf the-type x ≡ 0) ⊎ (tagOf the-type x ≡ 2) → ((m : ℕ) → x ≡ TooShort m → ⊥) → x ≡ Complete
+last-piece Complete o s = refl
+last-piece (GoOn m) (inl e) s = absurd (omega arith)
+last-piece (GoOn m) (inr e) s = absurd (omega arith)
+last-piece (TooShort m) o s = absurd (s m refl)

@@ -44,22 +44,12 @@ pub fn digest_of(
         hash = with_bytes(hash, &output[..written]);
         total += written;
         let rest = p.rest;
-        match rest {
-            Rest::GoOn(next) => {
-                clause = next;
-            }
-            Rest::Complete => {
-                return Digest {
-                    length: total,
-                    hash,
-                };
-            }
-            Rest::TooShort(_) => {
-                return Digest {
-                    length: total,
-                    hash,
-                };
-            }
-        }
+        let Rest::GoOn(next) = rest else {
+            return Digest {
+                length: total,
+                hash,
+            };
+        };
+        clause = next;
     }
 }

@@ -1,4 +1,1 @@
-pub mod BindingsAdded
-pub mod PairWalk
 pub mod Answer
-pub mod Provided

@@ -1,2 +1,1 @@
 pub mod Unifying
-pub mod Pairs

@@ -2,21 +2,16 @@
 use mathlib.Core.Path.{_≡_}
 use mathlib.Core.List.{List}
 use Prim.Native.Nat.{ℕ, _-_, _*_, _≤_, _<_}
-use lib.Dec.{eqb}
 use lib.ListN.{length, getD}
-use Rattle.record.specs.Record.{pick}
 use Rattle.unification.specs.Bindings.{bindingsFrom}
 use Rattle.unification.specs.Environment.{follow, Environment, Ends}
 use Rattle.unification.specs.Nodes.{HasRow, nodeRow}
 use Rattle.unification.specs.Row.{Expression}
-use Rattle.unification.specs.Unification.{unify, failureNumber, Failure, clash, occurs, overwork, full, Outcome, unified, failed}
+use Rattle.unification.specs.Unification.{unify, failureNumber, Outcome, unified, failed}
 use Rattle.unification.specs.Values.{InStep, Models}
-use Rattle.unify.specs.declared.pairs.Unified.{Unified}
-use Rattle.unify.specs.declared.pairs.Unified.the-variants.{Done, Refused}
-
--- The failures by the numbers of document 01's table.
-abbrev pub failureOf : ℕ → Failure
-failureOf n = pick (eqb n 10) clash (pick (eqb n 11) occurs (pick (eqb n 12) overwork full))
+use Rattle.pairs.specs.Pairs.{failureOf}
+use Rattle.pairs.specs.declared.Unified.{Unified}
+use Rattle.pairs.specs.declared.Unified.the-variants.{Done, Refused}
 
 -- The answer as an outcome of unification: the bindings are those that the table holds from `held` on.
 abbrev pub outcomeOf : List ℕ → ℕ → Unified → Outcome

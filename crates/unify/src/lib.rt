@@ -1,9 +1,6 @@
 // Unification of expressions under bindings, over a table of rows and an array of values. What unification is stands in the crate
 // unification; `Unifying` in specs/ has what this crate promises of it.
-mod bindings;
-mod pairs;
-
-pub use pairs::Unified;
+use pairs::Unified;
 use pairs::unify_pair;
 ghost use Rattle.unify.specs.Unifying.{Ready, Answered};
 

@@ -5,7 +5,7 @@ use native.Mathlib.Omega.{arith}
 use lib.ListN.{length, length-replicate}
 use lib.Seq.{length-take-le}
 use Rattle.readout.proofs.UnitWriting.{after-again}
-use Rattle.outcomes.proofs.DigestLaws.{TakenAfter, after-none, after-more, after-all, short, onwards, never-short}
+use Rattle.outcomes.proofs.DigestLaws.{TakenAfter, after-none, after-more, after-all, short, onwards, never-short, last-piece}
 use borrow.Author.Needs.{needs}
 use Rattle.outcomes.proofs.digest.digest_of.Statement.{statement}
 use Rattle.outcomes.proofs.digest.digest_of.Tie as tie
@@ -49,6 +49,10 @@ add-total c =
 enum-known-rest : tie.Need-enum-known-rest Inv-loop μ-loop
 enum-known-rest c = search needs
 
+returns : tie.Need-returns Inv-loop μ-loop
+returns c =
+    after-all (c .before .before .before .before .before .before .before .loop .inv .0) (c .before .before .before .before .before .before .before .loop .inv .1) (c .before .before .before .before .write-piece .ensures) (c .before .before .before .before .before .before .before .loop .inv .4) (c .before .with-bytes .ensures) (last-piece _ (c .match .keys2) (λ m q. never-short (c .before .before .before .before .before .before .before .loop .inv .0) (c .before .before .before .before .before .before .before .loop .inv .1) (c .before .before .before .before .write-piece .ensures) (c .before .before .before .before .before .before .before .before .before .before .before .pre) m q)) _ refl refl
+
 loop-less : tie.Need-loop-less Inv-loop μ-loop
 loop-less c =
     let l = onwards (c .before .before .before .before .before .before .before .before .before .loop .inv .0) (c .before .before .before .before .before .before .before .before .before .loop .inv .1) (c .before .before .before .before .before .before .write-piece .ensures) (c .before .before .before .before .before .before .before .before .before .before .before .before .before .pre) _ (c .before .rest .given .1) in
@@ -59,20 +63,6 @@ loop-again c =
     let l = onwards (c .before .before .before .before .before .before .before .before .before .loop .inv .0) (c .before .before .before .before .before .before .before .before .before .loop .inv .1) (c .before .before .before .before .before .before .write-piece .ensures) (c .before .before .before .before .before .before .before .before .before .before .before .before .before .pre) _ (c .before .rest .given .1) in
     let s = short (c .before .before .before .before .before .before .before .before .before .loop .inv .0) (c .before .before .before .before .before .before .before .before .before .loop .inv .1) (c .before .before .before .before .before .before .write-piece .ensures) (c .before .before .before .before .before .before .before .before .before .before .before .before .before .pre) (c .before .before .before .before .before .output2 .given) in
     (c .before .before .before .before .before .before .write-piece .ensures .values, c .before .before .before .before .before .output2 .given, omega (arith, c .before .before .before .before .before .before .before .before .before .loop .inv .2), omega arith, after-more (c .before .before .before .before .before .before .before .before .before .loop .inv .0) (c .before .before .before .before .before .before .before .before .before .loop .inv .1) (c .before .before .before .before .before .before .write-piece .ensures) (c .before .before .before .before .before .before .before .before .before .loop .inv .4) (c .before .before .before .with-bytes .ensures) _ (c .before .rest .given .1))
-
-enum-told : tie.Need-enum-told Inv-loop μ-loop
-enum-told c = search needs
-
-returns : tie.Need-returns Inv-loop μ-loop
-returns c =
-    after-all (c .before .before .before .before .before .before .before .before .loop .inv .0) (c .before .before .before .before .before .before .before .before .loop .inv .1) (c .before .before .before .before .before .write-piece .ensures) (c .before .before .before .before .before .before .before .before .loop .inv .4) (c .before .before .with-bytes .ensures) (c .enum-told .given .1) _ refl refl
-
-enum-told-2 : tie.Need-enum-told-2 Inv-loop μ-loop
-enum-told-2 c = search needs
-
-returns-2 : tie.Need-returns-2 Inv-loop μ-loop
-returns-2 c =
-    absurd (never-short (c .before .before .before .before .before .before .before .before .loop .inv .0) (c .before .before .before .before .before .before .before .before .loop .inv .1) (c .before .before .before .before .before .write-piece .ensures) (c .before .before .before .before .before .before .before .before .before .before .before .before .pre) _ (c .enum-told2 .given .1))
 
 pub digest-of-spec : {M : Type 1} → statement M
 digest-of-spec =
@@ -88,9 +78,6 @@ digest-of-spec =
     with-bytes-requires
     add-total
     enum-known-rest
-    loop-less
-    loop-again
-    enum-told
     returns
-    enum-told-2
-    returns-2)
+    loop-less
+    loop-again)

@@ -4,26 +4,26 @@ use mathlib.Core.Path.{_≡_, refl, _∙_}
 use native.Mathlib.Omega.{arith}
 use lib.ListN.{length}
 use Rattle.unification.specs.Bindings.{Added}
-use Rattle.unify.specs.Pairs.{Matched}
-use Rattle.unify.proofs.BindingsAdded.{added-none, added-as-below, added-then, added-below}
-use Rattle.unify.proofs.PairWalk.{leaves-less, less-done, no-more-done, filed-done, filed-refused, filed-then, paired-spent, paired-nothing, paired-clashing, paired-bind, paired-refused, meets-last, Pursued, pursued-start, pursued-then, pursued-next, match-start, match-last, match-refused, match-next}
+use Rattle.pairs.specs.Pairs.{Matched}
+use Rattle.pairs.proofs.BindingsAdded.{added-none, added-as-below, added-then, added-below}
+use Rattle.pairs.proofs.PairWalk.{leaves-less, less-done, no-more-done, filed-done, filed-refused, filed-then, paired-spent, paired-nothing, paired-clashing, paired-bind, paired-refused, meets-last, Pursued, pursued-start, pursued-then, pursued-next, match-start, match-last, match-refused, match-next}
 use Prim.Native.Nat.{ℕ, _+_, _-_, _*_, _≤_, _<_}
 use borrow.Author.Needs.{needs}
 use borrow.Fn.Kinds.{In}
 use borrow.Fn.PlainCycle.{Measures, is, falls, and}
-use Rattle.unify.proofs.pairs.unify_before.Reads as unify-before
-use Rattle.unify.proofs.pairs.unify_before.Kinds as unify-before-kinds
-use Rattle.unify.proofs.pairs.+unify_before+unify_pair.Lts-unify_before as unify-before-lts
-use Rattle.unify.proofs.pairs.unify_pair.Reads as unify-pair
-use Rattle.unify.proofs.pairs.unify_pair.Kinds as unify-pair-kinds
-use Rattle.unify.proofs.pairs.+unify_before+unify_pair.Lts-unify_pair as unify-pair-lts
+use Rattle.pairs.proofs.unify_before.Reads as unify-before
+use Rattle.pairs.proofs.unify_before.Kinds as unify-before-kinds
+use Rattle.pairs.proofs.+unify_before+unify_pair.Lts-unify_before as unify-before-lts
+use Rattle.pairs.proofs.unify_pair.Reads as unify-pair
+use Rattle.pairs.proofs.unify_pair.Kinds as unify-pair-kinds
+use Rattle.pairs.proofs.+unify_before+unify_pair.Lts-unify_pair as unify-pair-lts
 use Rattle.following.proofs.follow.follow.Reads as follow-reads
 use Rattle.following.proofs.nodes.arity_of.Reads as arity-of-reads
 use Rattle.following.proofs.nodes.part_of.Reads as part-of-reads
-use Rattle.unify.proofs.pairs.bind.Reads as bind-reads
-use Rattle.unify.proofs.pairs.meet.Reads as meet-reads
-use Rattle.unify.proofs.pairs.+unify_before+unify_pair.{statement}
-use Rattle.unify.proofs.pairs.+unify_before+unify_pair.Tie.{close}
+use Rattle.pairs.proofs.bind.Reads as bind-reads
+use Rattle.pairs.proofs.meet.Reads as meet-reads
+use Rattle.pairs.proofs.+unify_before+unify_pair.{statement}
+use Rattle.pairs.proofs.+unify_before+unify_pair.Tie.{close}
 
 abbrev μ-unify-before : Measures 3 unify-before-kinds.ps ℕ
 μ-unify-before κs a =

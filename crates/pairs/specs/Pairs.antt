@@ -1,26 +1,31 @@
--- The contracts of the walk over pairs. What the crate promises its callers is in `Unifying`; this file only says how the parts of
--- the program fit together. Each contract is stated for every environment that the array stands for, and for every rest of the
+-- The contracts of the walk over pairs. What unification promises its callers is in `Unifying` of the crate unify; this file only says
+-- how the parts of the program fit together. Each contract is stated for every environment that the array stands for, and for every rest of the
 -- machine's task.
 use mathlib.Core.Path.{_≡_}
 use mathlib.Core.Bool.{true, false}
 use mathlib.Core.Option.{none}
 use mathlib.Core.List.{List, _++_}
 use Prim.Native.Nat.{ℕ, _+_, _-_, _≤_, _<_}
+use lib.Dec.{eqb}
 use lib.ListN.{length}
+use Rattle.record.specs.Record.{pick}
 use Rattle.unification.specs.Bindings.{bindingsFrom, KeptBelow, Added}
 use Rattle.unification.specs.Environment.{follow, Binding, Environment, extend, Ends}
 use Rattle.unification.specs.Nodes.{isVariable, part, nodeArity, HasRow, argumentsFrom, nodeRow}
 use Rattle.unification.specs.Row.{Expression, same}
-use Rattle.unification.specs.Unification.{mostLinks, failureNumber, Outcome, unified, failed, noRoom}
-use Rattle.unify.specs.Unifying.{failureOf}
+use Rattle.unification.specs.Unification.{mostLinks, failureNumber, Failure, clash, occurs, overwork, full, Outcome, unified, failed, noRoom}
 use Rattle.unification.specs.Values.{InStep, Models}
 use Rattle.following.specs.declared.follow.Followed.{Followed}
 use Rattle.following.specs.declared.follow.Followed.the-variants.{Variable, Application}
-use Rattle.unify.specs.declared.pairs.Meeting.{Meeting}
-use Rattle.unify.specs.declared.pairs.Meeting.the-variants.{Bind, Nothing, Clash, Arguments}
-use Rattle.unify.specs.declared.pairs.Unified.{Unified}
-use Rattle.unify.specs.declared.pairs.Unified.the-variants.{Done, Refused}
+use Rattle.pairs.specs.declared.Meeting.{Meeting}
+use Rattle.pairs.specs.declared.Meeting.the-variants.{Bind, Nothing, Clash, Arguments}
+use Rattle.pairs.specs.declared.Unified.{Unified}
+use Rattle.pairs.specs.declared.Unified.the-variants.{Done, Refused}
 use Rattle.following.specs.Walks.{Tested, PairRuns, ArgumentsRun, TestRuns, bindOutcome}
+
+-- The failures by the numbers of document 01's table.
+abbrev pub failureOf : ℕ → Failure
+failureOf n = pick (eqb n 10) clash (pick (eqb n 11) occurs (pick (eqb n 12) overwork full))
 
 abbrev pub LeavesLess : ℕ → Unified → Type 0
 LeavesLess w (Done l h) = l < w

@@ -1,5 +1,7 @@
-// The unification of two expressions, pair by pair. Every pair taken up costs one unit of work.
-use super::bindings::push_binding;
+// The unification of two expressions, pair by pair. Every pair taken up costs one unit of work. `Pairs` in specs/ has the contracts.
+mod bindings;
+
+use bindings::push_binding;
 use following::follow::Followed;
 use following::follow::follow;
 use following::follow::is_same;
@@ -14,7 +16,7 @@ ghost use Prim.Native.Nat.{_≤_};
 ghost use lib.ListN.{length};
 ghost use Rattle.unification.specs.Nodes.{nodeArity};
 ghost use Rattle.following.specs.declared.follow.Followed.the-variants.{Application};
-ghost use Rattle.unify.specs.Pairs.{Meets, Paired, Bound, ArguedBefore, Filed, LeavesLess, LeavesNoMore};
+ghost use Rattle.pairs.specs.Pairs.{Meets, Paired, Bound, ArguedBefore, Filed, LeavesLess, LeavesNoMore};
 
 // The work left and the number of bindings held; or the reason for the refusal, 10 to 13.
 pub enum Unified {

@@ -1,0 +1,2 @@
+pub mod BindingsAdded
+pub mod PairWalk
