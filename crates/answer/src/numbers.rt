@@ -1,4 +1,4 @@
-// A verdict in three numbers, as those who are not written in this language read it.
+// A verdict in three numbers, for callers in other languages and for printing.
 use super::Verdict;
 ghost use mathlib.Core.Path.{_≡_};
 ghost use mathlib.Core.List.{[], _∷_};
