@@ -1,4 +1,5 @@
-// The answer: the verdict and the counts, and how they come from the way in which reading ended.
+// The answer: the verdict and the counts, and how they come from the way in which reading ended. `Given` in specs/ says which seven
+// numbers of document 01 an answer stands for.
 pub mod lengths;
 pub mod numbers;
 

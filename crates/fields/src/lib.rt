@@ -1,4 +1,5 @@
-// Tests of one record by its own bytes, and of the numbers that it names against a limit or the table of symbols.
+// Tests of one record by its own bytes, and of the numbers that it names against a limit or the table of symbols. `Fields` in specs/
+// has the contracts; what the tests are stands in `Refusal` of the crate verdict.
 use record::count;
 use record::field;
 use record::record_part;

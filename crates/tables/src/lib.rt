@@ -1,4 +1,5 @@
-// The tables that the caller lends, cell by cell. A read outside gives 0 and a write outside does nothing.
+// The tables that the caller lends, cell by cell. A read outside gives 0 and a write outside does nothing. `Cells` in specs/ has the
+// contracts.
 ghost use mathlib.Core.Path.{_≡_};
 ghost use Prim.Native.Nat.{_≤_};
 ghost use lib.ListN.{length, getD, set};
