@@ -1,4 +1,4 @@
--- Document 01, "The records": what the tests of one record read off its fields and the table of symbols.
+-- Document 01, "The file" and the table of refusals: what the tests of one record read off its fields and the table of symbols.
 use mathlib.Core.Bool.{Bool, _&&_}
 use mathlib.Core.Option.{Option, none, some}
 use mathlib.Core.List.{List}

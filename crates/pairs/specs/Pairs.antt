@@ -27,6 +27,7 @@ use Rattle.following.specs.Walks.{Tested, PairRuns, ArgumentsRun, TestRuns, bin
 abbrev pub failureOf : ℕ → Failure
 failureOf n = pick (eqb n 10) clash (pick (eqb n 11) occurs (pick (eqb n 12) overwork full))
 
+-- Less work is left than w; no more than w.
 abbrev pub LeavesLess : ℕ → Unified → Type 0
 LeavesLess w (Done l h) = l < w
 LeavesLess w (Refused n) = Unit {0}
