@@ -1,4 +1,4 @@
-// The answer of a check in seven numbers.
+// The answer of a check in seven cells.
 use answer::Answer;
 use answer::numbers::verdict_numbers;
 ghost use mathlib.Core.Path.{_≡_};

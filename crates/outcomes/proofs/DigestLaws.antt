@@ -109,7 +109,8 @@ module _ {F C B N A A₁ A₂ : List ℕ} {a : Answer} {n : ℕ} {output output�
     pub after-all : p .rest ≡ Complete → (d : Digest) → d .length ≡ size + p .written → d .hash ≡ hash′ → DigestAfter F C B N A a d
     after-all q d ds dh = record { digest = λ R. taken-all (X R) (ended-after R) h q d ds dh }
 
--- A piece after which the loop ends is not followed by another; where it is not too short either, all is written.
+-- The loop ends at a piece that is not followed by another: its tag is that of `Complete` or of `TooShort`. As it is never too short, all is
+-- written.
 pub last-piece : (x : Rest) → (tagOf the-type x ≡ 0) ⊎ (tagOf the-type x ≡ 2) → ((m : ℕ) → x ≡ TooShort m → ⊥) → x ≡ Complete
 last-piece Complete o s = refl
 last-piece (GoOn m) (inl e) s = absurd (omega arith)

@@ -1,6 +1,6 @@
 -- The contracts of the walk over pairs. What unification promises its callers is in `Unifying` of the crate unify; this file only says
--- how the parts of the program fit together. Each contract is stated for every environment that the array stands for, and for every rest of the
--- machine's task.
+-- how the parts of the program fit together. Each contract is stated for every environment that the array stands for, and for every
+-- rest of the machine's task.
 use mathlib.Core.Path.{_≡_}
 use mathlib.Core.Bool.{true, false}
 use mathlib.Core.Option.{none}
