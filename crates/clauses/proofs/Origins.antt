@@ -15,9 +15,9 @@ use Rattle.clauses.proofs.Numbers.{length-without, numbered-without, pa
 use Rattle.clauses.specs.declared.literal.NamedLiteral.the-variants.{Found}
 
 pub maximum-low : (d : Derivation) → 1 ≤ maximumIndex d
-maximum-low (input ls) = omega arith
-maximum-low (resolve l a r b bs) = let h = maximum-low l in omega arith
-maximum-low (factor d a b bs) = maximum-low d
+maximum-low (input number ls) = omega arith
+maximum-low (resolve number l a r b bs) = let h = maximum-low l in omega arith
+maximum-low (factor number d a b bs) = maximum-low d
 
 -- The cells of a stored clause.
 pub stored-cells : {F C B : List ℕ} {c : ℕ} {d : Derivation} → Stored F C B c d → Cells C B c d

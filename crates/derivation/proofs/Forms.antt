@@ -10,7 +10,7 @@ use Rattle.unification.specs.Row.{variable, Row, application, Expression, Varia
 use Rattle.unification.specs.Term.{Term, var, app, occurrences, allOccurrences}
 use Rattle.unification.proofs.Lists.{Each}
 use Rattle.unification.proofs.Meaning.{writtenArguments, writtenView, expressionOf, Ended, written-follow, follow-ends}
-use Rattle.derivation.specs.Derivation.{RowLiteral}
+use Rattle.derivation.specs.Derivation.{RowLiteral, Use}
 use Rattle.derivation.specs.Ground.{instances, Ground, Values, instanceAt, argumentCount, WellFormed, AllWellFormed, WellFormedInstance, WellFormedInstances}
 
 module _ (arity : ℕ → Option ℕ) (row : ℕ → Row) (term : ℕ → Term ℕ) (termLaw : (r : ℕ) → term r ≡ rowTerm term r (row r)) (rowOk : ℕ → Type 0)
@@ -67,6 +67,6 @@ module _ (arity : ℕ → Option ℕ) (row : ℕ → Row) (term : ℕ → Term �
     instance-formed k [] h = tt
     instance-formed k (l ∷ ls) h = (formed (occurrences (writtenOut term γ (l .1, k))) (l .1, k) (h .0) (omega arith), instance-formed k ls (h .1))
 
-    pub instances-formed : (k : ℕ) (us : List (List RowLiteral)) → Each (λ (u : List RowLiteral). Each (λ (l : RowLiteral). rowOk (l .1)) u) us → WellFormedInstances arity (instances term γ k us)
+    pub instances-formed : (k : ℕ) (us : List Use) → Each (λ (u : Use). Each (λ (l : RowLiteral). rowOk (l .1)) (u .1)) us → WellFormedInstances arity (instances term γ k us)
     instances-formed k [] h = tt
-    instances-formed k (u ∷ us) h = (instance-formed k u (h .0), instances-formed (suc k) us (h .1))
+    instances-formed k (u ∷ us) h = (instance-formed k (u .1) (h .0), instances-formed (suc k) us (h .1))

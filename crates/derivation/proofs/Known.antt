@@ -16,15 +16,15 @@ use Rattle.unification.proofs.Rows.{Below}
 use Rattle.unification.proofs.Solved.{agree}
 use Rattle.unification.proofs.Stability.{run-agree}
 use Rattle.unification.proofs.Tests.{some-not-none, some-injective}
-use Rattle.derivation.specs.Derivation.{literals, input, Literal, RowLiteral, Derivation, resolve, factor, numbered, without, raise, raiseLiteral, maximumIndex, raiseAnswer, joined, lookup, uses}
+use Rattle.derivation.specs.Derivation.{literals, input, Literal, RowLiteral, Derivation, resolve, factor, numbered, without, raise, raiseLiteral, maximumIndex, raiseAnswer, joined, lookup, uses, Use}
 use Rattle.derivation.proofs.Literals.{each-numbered, each-without}
 use Rattle.derivation.proofs.Validity.{Unified, Valid}
 
 -- The rows of the input clauses are below N.
 abbrev pub KnownRows : ℕ → Derivation → Type 0
-KnownRows N (input ls) = Each (λ (l : RowLiteral). l .1 < N) ls
-KnownRows N (resolve l a r b bs) = KnownRows N l × KnownRows N r
-KnownRows N (factor c a b bs) = KnownRows N c
+KnownRows N (input number ls) = Each (λ (l : RowLiteral). l .1 < N) ls
+KnownRows N (resolve number l a r b bs) = KnownRows N l × KnownRows N r
+KnownRows N (factor number c a b bs) = KnownRows N c
 
 abbrev pub Known : ℕ → Expression → Type 0
 Known N e = e .0 < N
@@ -38,12 +38,12 @@ KnownEnvironment N ρ = Kept (Known N) (Known N) ρ
 
 module _ (N : ℕ) where
   pub known-literals : (c : Derivation) → KnownRows N c → Each (KnownLiteral N) (literals c)
-  known-literals (input ls) h = each-map (λ (l : RowLiteral). l .1 < N) (KnownLiteral N) (λ l. (l .0, (l .1, 1))) (λ l k. k) ls h
-  known-literals (resolve l a r b bs) h =
+  known-literals (input number ls) h = each-map (λ (l : RowLiteral). l .1 < N) (KnownLiteral N) (λ l. (l .0, (l .1, 1))) (λ l k. k) ls h
+  known-literals (resolve number l a r b bs) h =
       each-append (KnownLiteral N) (without (literals l) a) (map (raiseLiteral (maximumIndex l)) (without (literals r) b))
       (each-without (KnownLiteral N) (literals l) a (known-literals l (h .0)))
       (each-map (KnownLiteral N) (KnownLiteral N) (raiseLiteral (maximumIndex l)) (λ l k. k) (without (literals r) b) (each-without (KnownLiteral N) (literals r) b (known-literals r (h .1))))
-  known-literals (factor c a b bs) h = each-without (KnownLiteral N) (literals c) b (known-literals c h)
+  known-literals (factor number c a b bs) h = each-without (KnownLiteral N) (literals c) b (known-literals c h)
 
   pub known-numbered : (c : Derivation) → KnownRows N c → (n : ℕ) (l : Literal) → numbered (literals c) n ≡ some l → Known N (l .1)
   known-numbered c h n l q = each-numbered (KnownLiteral N) (literals c) n l q (known-literals c h)
@@ -77,12 +77,12 @@ module _ (N : ℕ) where
         k
 
     pub known-lookup : (c : Derivation) → Valid row c → KnownRows N c → KnownEnvironment N (lookup c)
-    known-lookup (input ls) K h = λ x e p. absurd (some-not-none refl p)
-    known-lookup (resolve l a r b bs) K h =
+    known-lookup (input number ls) K h = λ x e p. absurd (some-not-none refl p)
+    known-lookup (resolve number l a r b bs) K h =
         let c = K .2 in
         unified-known (joined (maximumIndex l) (lookup l) (lookup r)) (c .1) (raise (maximumIndex l) (c .2)) bs (c .5) (known-joined (maximumIndex l) (lookup l) (lookup r) (known-lookup l (K .0) (h .0)) (known-lookup r (K .1) (h .1)))
         (known-numbered l (h .0) a (c .0, c .1) (c .3)) (known-numbered r (h .1) b (not (c .0), c .2) (c .4))
-    known-lookup (factor t a b bs) K h =
+    known-lookup (factor number t a b bs) K h =
         let c = K .1 in
         unified-known (lookup t) (c .1) (c .2) bs (c .6) (known-lookup t (K .0) h) (known-numbered t h a (c .0, c .1) (c .3)) (known-numbered t h b (c .0, c .2) (c .4))
 
@@ -90,8 +90,8 @@ module _ (N : ℕ) where
     unified-stable base e d bs u h a b = (u .0, u .1, sym (run-agree (Known N) (Known N) row row′ (λ e l. agree (e .0) l) known-variable known-arguments mostLinks (noRoom (u .0)) base mostWork (unifying [] ((e, d) ∷ [])) (h, (a, b, tt))) ∙ u .2)
 
     pub valid-stable : (c : Derivation) → KnownRows N c → Valid row c → Valid row′ c
-    valid-stable (input ls) h K = tt
-    valid-stable (resolve l a r b bs) h K =
+    valid-stable (input number ls) h K = tt
+    valid-stable (resolve number l a r b bs) h K =
         let c = K .2 in (
           valid-stable l (h .0) (K .0),
           valid-stable r (h .1) (K .1),
@@ -105,7 +105,7 @@ module _ (N : ℕ) where
                 (known-numbered l (h .0) a (c .0, c .1) (c .3)) (known-numbered r (h .1) b (not (c .0), c .2) (c .4)),
           ),
         )
-    valid-stable (factor t a b bs) h K =
+    valid-stable (factor number t a b bs) h K =
         let c = K .1 in (
           valid-stable t h (K .0),
           (
@@ -120,12 +120,12 @@ module _ (N : ℕ) where
         )
 
 pub known-more : (n m : ℕ) → n ≤ m → (c : Derivation) → KnownRows n c → KnownRows m c
-known-more n m l (input ls) h = each-more (λ (x : RowLiteral). x .1 < n) (λ (x : RowLiteral). x .1 < m) (λ x k. omega arith) ls h
-known-more n m l (resolve x a y b bs) h = (known-more n m l x (h .0), known-more n m l y (h .1))
-known-more n m l (factor c a b bs) h = known-more n m l c h
+known-more n m l (input number ls) h = each-more (λ (x : RowLiteral). x .1 < n) (λ (x : RowLiteral). x .1 < m) (λ x k. omega arith) ls h
+known-more n m l (resolve number x a y b bs) h = (known-more n m l x (h .0), known-more n m l y (h .1))
+known-more n m l (factor number c a b bs) h = known-more n m l c h
 
 -- The uses of a derivation are over such rows.
-pub known-uses : (N : ℕ) (c : Derivation) → KnownRows N c → Each (λ (u : List RowLiteral). Each (λ (l : RowLiteral). l .1 < N) u) (uses c)
-known-uses N (input ls) h = (h, tt)
-known-uses N (resolve l a r b bs) h = each-append (λ (u : List RowLiteral). Each (λ (l : RowLiteral). l .1 < N) u) (uses l) (uses r) (known-uses N l (h .0)) (known-uses N r (h .1))
-known-uses N (factor c a b bs) h = known-uses N c h
+pub known-uses : (N : ℕ) (c : Derivation) → KnownRows N c → Each (λ (u : Use). Each (λ (l : RowLiteral). l .1 < N) (u .1)) (uses c)
+known-uses N (input number ls) h = (h, tt)
+known-uses N (resolve number l a r b bs) h = each-append (λ (u : Use). Each (λ (l : RowLiteral). l .1 < N) (u .1)) (uses l) (uses r) (known-uses N l (h .0)) (known-uses N r (h .1))
+known-uses N (factor number c a b bs) h = known-uses N c h

@@ -53,14 +53,14 @@ in-placed (l ∷ ls) = (omega arith, in-placed ls)
 
 -- The literals of a clause have indices up to its maximum index.
 pub literals-in : (c : Derivation) → Each (LiteralIn (maximumIndex c)) (literals c)
-literals-in (input ls) = in-placed ls
-literals-in (resolve l a r b bs) =
+literals-in (input number ls) = in-placed ls
+literals-in (resolve number l a r b bs) =
     each-append (LiteralIn (maximumIndex l + maximumIndex r)) (without (literals l) a) (map (raiseLiteral (maximumIndex l)) (without (literals r) b))
     (each-more (LiteralIn (maximumIndex l)) (LiteralIn (maximumIndex l + maximumIndex r)) (λ x h. omega arith) (without (literals l) a)
     (each-without (LiteralIn (maximumIndex l)) (literals l) a (literals-in l)))
     (each-map (LiteralIn (maximumIndex r)) (LiteralIn (maximumIndex l + maximumIndex r)) (raiseLiteral (maximumIndex l)) (λ x h. omega arith) (without (literals r) b)
     (each-without (LiteralIn (maximumIndex r)) (literals r) b (literals-in r)))
-literals-in (factor c a b bs) = each-without (LiteralIn (maximumIndex c)) (literals c) b (literals-in c)
+literals-in (factor number c a b bs) = each-without (LiteralIn (maximumIndex c)) (literals c) b (literals-in c)
 
 -- Tests of an order, as equations.
 pub leb-true : (m n : ℕ) → m ≤ n → leb m n ≡ true
@@ -87,6 +87,6 @@ joined-right m ρ ρ′ v i h =
 
 -- A maximum index is the number of uses.
 pub uses-length : (c : Derivation) → length (uses c) ≡ maximumIndex c
-uses-length (input ls) = refl
-uses-length (resolve l a r b bs) = length-append (uses l) (uses r) ∙ ap₂ _+_ (uses-length l) (uses-length r)
-uses-length (factor c a b bs) = uses-length c
+uses-length (input number ls) = refl
+uses-length (resolve number l a r b bs) = length-append (uses l) (uses r) ∙ ap₂ _+_ (uses-length l) (uses-length r)
+uses-length (factor number c a b bs) = uses-length c

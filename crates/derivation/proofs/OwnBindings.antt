@@ -32,10 +32,10 @@ abbrev pub FreeIn : Environment → Binding → Type 0
 FreeIn ρ b = ρ (b .0) ≡ none
 
 abbrev pub BindingsThere : (ℕ → Row) → ℕ → Derivation → Type 0
-BindingsThere row N (input ls) = Unit {0}
-BindingsThere row N (resolve l a r b bs) =
+BindingsThere row N (input number ls) = Unit {0}
+BindingsThere row N (resolve number l a r b bs) =
     BindingsThere row N l × BindingsThere row N r × (Each (BindingThere row N (maximumIndex l + maximumIndex r)) bs × Each (FreeIn (joined (maximumIndex l) (lookup l) (lookup r))) bs)
-BindingsThere row N (factor d a b bs) = BindingsThere row N d × (Each (BindingThere row N (maximumIndex d)) bs × Each (FreeIn (lookup d)) bs)
+BindingsThere row N (factor number d a b bs) = BindingsThere row N d × (Each (BindingThere row N (maximumIndex d)) bs × Each (FreeIn (lookup d)) bs)
 
 module _ (N : ℕ) (row : ℕ → Row) (below : (r s : ℕ) (xs : List ℕ) → row r ≡ application s xs → r < N → Below N xs) where
   -- What a step's expressions keep to.
@@ -58,8 +58,8 @@ module _ (N : ℕ) (row : ℕ → Row) (below : (r s : ℕ) (xs : List ℕ) → 
       )
 
   pub bindings-there : (c : Derivation) → Valid row c → KnownRows N c → BindingsThere row N c
-  bindings-there (input ls) K h = tt
-  bindings-there (resolve l a r b bs) K h =
+  bindings-there (input number ls) K h = tt
+  bindings-there (resolve number l a r b bs) K h =
       let c = K .2 in
       let p = each-numbered (LiteralIn (maximumIndex l)) (literals l) a (c .0, c .1) (c .3) (literals-in l) in
       let q = each-numbered (LiteralIn (maximumIndex r)) (literals r) b (not (c .0), c .2) (c .4) (literals-in r) in (
@@ -70,7 +70,7 @@ module _ (N : ℕ) (row : ℕ → Row) (below : (r s : ℕ) (xs : List ℕ) → 
             (kept-joined (maximumIndex l) (maximumIndex r) (lookup l) (lookup r) (lookup-in row l (K .0)) (lookup-in row r (K .1)))
             (known-numbered N l (h .0) a (c .0, c .1) (c .3)) (omega arith) (known-numbered N r (h .1) b (not (c .0), c .2) (c .4)) (omega arith),
       )
-  bindings-there (factor d a b bs) K h =
+  bindings-there (factor number d a b bs) K h =
       let c = K .1 in (
         bindings-there d (K .0) h,
         unified-bindings (maximumIndex d) (lookup d) (c .1) (c .2) bs (c .6) (known-lookup N row row (λ r l. refl) below d (K .0) h) (lookup-in row d (K .0))

@@ -116,8 +116,8 @@ module _ (row : ℕ → Row) (term : ℕ → Term ℕ) (termLaw : (r : ℕ) → 
             ∙ ap (instantiated (renamed m)) (map-without (writtenLiteral term (substitution term r)) (literals r) b)
             ∙ map-without (λ (x : Bool × Term Variable). (x .0, apply (renamed m) (x .1))) (written term r) b
 
-        pub is-resolvent : (Y : Type 0) → Resolvent Y (renamed (maximumIndex l)) (written term l) a (written term r) b (written term (resolve l a r b bs))
-        is-resolvent Y = record {
+        pub is-resolvent : (Y : Type 0) (number : ℕ) → Resolvent Y (renamed (maximumIndex l)) (written term l) a (written term r) b (written term (resolve number l a r b bs))
+        is-resolvent Y number = record {
           sign = s;
           left = writtenOut term (substitution term l) e;
           right = apply (renamed m) (writtenOut term (substitution term r) d);
@@ -126,7 +126,7 @@ module _ (row : ℕ → Row) (term : ℕ → Term ℕ) (termLaw : (r : ℕ) → 
           unifier = θ;
           mostGeneral = subst (λ (t : Term Variable). MostGeneralUnifier Y θ t (apply (renamed m) (writtenOut term (substitution term r) d))) (lefts e oe) (subst (λ (t : Term Variable). MostGeneralUnifier Y θ (writtenOut term both e) t) (rights d od)
               (most-general row term termLaw (In (m + n)) base both S arities e (raise m d) bs u κ oe′ od′ Y));
-          result = written-then term both (composed term both bs) θ (m + n) (value-after row term termLaw (In (m + n)) base both S arities e (raise m d) bs u κ oe′ od′) (literals (resolve l a r b bs)) (literals-in (resolve l a r b bs))
+          result = written-then term both (composed term both bs) θ (m + n) (value-after row term termLaw (In (m + n)) base both S arities e (raise m d) bs u κ oe′ od′) (literals (resolve number l a r b bs)) (literals-in (resolve number l a r b bs))
               ∙ ap (instantiated θ) (map-append (writtenLiteral term both) (without (literals l) a) (map (raiseLiteral m) (without (literals r) b)) ∙ ap₂ (λ (x y : Clause). x ++ y) left-part right-part);
         }
 
@@ -155,8 +155,8 @@ module _ (row : ℕ → Row) (term : ℕ → Term ℕ) (termLaw : (r : ℕ) → 
       abbrev φ : Variable → Term Variable
       φ = unifier row term termLaw (In N) (lookup c) (substitution term c) Sc arities e d bs u κc ie id
 
-      pub is-factor : (Y : Type 0) → Factor Y (written term c) a b (written term (factor c a b bs))
-      is-factor Y = record {
+      pub is-factor : (Y : Type 0) (number : ℕ) → Factor Y (written term c) a b (written term (factor number c a b bs))
+      is-factor Y number = record {
         sign = s;
         left = writtenOut term (substitution term c) e;
         right = writtenOut term (substitution term c) d;

@@ -113,8 +113,8 @@ module _ (row : ℕ → Row) (term : ℕ → Term ℕ) (termLaw : (r : ℕ) → 
       k
 
   pub lookup-solved : (c : Derivation) → Valid row c → Solved (In (maximumIndex c)) term (lookup c) (substitution term c)
-  lookup-solved (input ls) K = solved-none (In 1) term (lookup (input ls)) (λ x. refl)
-  lookup-solved (resolve l a r b bs) K =
+  lookup-solved (input number ls) K = solved-none (In 1) term (lookup (input number ls)) (λ x. refl)
+  lookup-solved (resolve number l a r b bs) K =
       let c = K .2 in
       let p = each-numbered (LiteralIn (maximumIndex l)) (literals l) a (c .0, c .1) (c .3) (literals-in l) in
       let q = each-numbered (LiteralIn (maximumIndex r)) (literals r) b (not (c .0), c .2) (c .4) (literals-in r) in
@@ -124,7 +124,7 @@ module _ (row : ℕ → Row) (term : ℕ → Term ℕ) (termLaw : (r : ℕ) → 
       (kept-joined (maximumIndex l) (maximumIndex r) (lookup l) (lookup r) kl kr) (omega arith) (omega arith)
       (joinedSubstitution (maximumIndex l) (substitution term l) (substitution term r))
       (solved-joined term (maximumIndex l) (maximumIndex r) (lookup l) (lookup r) kl kr (substitution term l) (substitution term r) (lookup-solved l (K .0)) (lookup-solved r (K .1)))
-  lookup-solved (factor t a b bs) K =
+  lookup-solved (factor number t a b bs) K =
       let c = K .1 in
       unified-solved (In (maximumIndex t)) (lookup t) (c .1) (c .2) bs (c .6) (lookup-in row t (K .0))
       (each-numbered (LiteralIn (maximumIndex t)) (literals t) a (c .0, c .1) (c .3) (literals-in t)) (each-numbered (LiteralIn (maximumIndex t)) (literals t) b (c .0, c .2) (c .4) (literals-in t))

@@ -13,7 +13,7 @@ use Rattle.unification.specs.Term.{Term}
 use Rattle.unification.specs.Unification.{mostWork, mostLinks, unified, unifying, noRoom}
 use Rattle.unification.proofs.Soundness.{BackEnd, back-run}
 use Rattle.unification.proofs.Tests.{true-not-false, some-not-none, some-injective}
-use Rattle.derivation.specs.Derivation.{literals, input, Literal, RowLiteral, Derivation, resolve, factor, numbered, without, raise, raiseLiteral, placed, maximumIndex, joined, lookup, uses}
+use Rattle.derivation.specs.Derivation.{literals, input, Literal, RowLiteral, Derivation, resolve, factor, numbered, without, raise, raiseLiteral, placed, maximumIndex, joined, lookup, uses, Use}
 use Rattle.derivation.specs.Ground.{instances, Ground, instanceAt, Assignment, SomeTrue, AllTrue}
 use Rattle.derivation.proofs.Literals.{uses-length}
 use Rattle.derivation.proofs.Validity.{Unified, Valid, lookup-in, respects-left, respects-right}
@@ -74,7 +74,7 @@ module _ (term : ℕ → Term ℕ) (A : Assignment) where
   holds-kept γ (x ∷ ls) (suc (suc a)) (suc (suc b)) l q n h = inr (holds-kept γ ls (suc a) (suc b) l q (λ z. n (ap suc z)) h)
 
   -- Instances of a resolvent's uses are the left parent's, then the right one's with indices raised.
-  instances-split : (γ : Variable → Ground) (k : ℕ) (us vs : List (List RowLiteral)) → AllTrue A (instances term γ k (us ++ vs)) → AllTrue A (instances term γ k us) × AllTrue A (instances term γ (k + length us) vs)
+  instances-split : (γ : Variable → Ground) (k : ℕ) (us vs : List Use) → AllTrue A (instances term γ k (us ++ vs)) → AllTrue A (instances term γ k us) × AllTrue A (instances term γ (k + length us) vs)
   instances-split γ k [] vs h = (tt, rw add-zero h)
   instances-split γ k (u ∷ us) vs h =
       let r = instances-split γ (suc k) us vs (h .1) in
@@ -85,9 +85,9 @@ module _ (term : ℕ → Term ℕ) (A : Assignment) where
   some-raised γ m k (l ∷ u) (inl h) = inl h
   some-raised γ m k (l ∷ u) (inr h) = inr (some-raised γ m k u h)
 
-  instances-raised : (γ : Variable → Ground) (m k : ℕ) (us : List (List RowLiteral)) → AllTrue A (instances term γ (m + k) us) → AllTrue A (instances term (raisedValues m γ) k us)
+  instances-raised : (γ : Variable → Ground) (m k : ℕ) (us : List Use) → AllTrue A (instances term γ (m + k) us) → AllTrue A (instances term (raisedValues m γ) k us)
   instances-raised γ m k [] h = tt
-  instances-raised γ m k (u ∷ us) h = (some-raised γ m k u (h .0), instances-raised γ m (suc k) us (rw add-suc (h .1)))
+  instances-raised γ m k (u ∷ us) h = (some-raised γ m k (u .1) (h .0), instances-raised γ m (suc k) us (rw add-suc (h .1)))
 
   holds-instance : (γ : Variable → Ground) (u : List RowLiteral) → SomeTrue A (instanceAt term γ 1 u) → SomeHolds γ (placed 1 u)
   holds-instance γ [] h = h
@@ -127,8 +127,8 @@ module _ (row : ℕ → Row) (term : ℕ → Term ℕ) (termLaw : (r : ℕ) → 
 
   module _ (A : Assignment) where
     pub sound : (c : Derivation) → Valid row c → (γ : Variable → Ground) → Respects term γ (lookup c) → AllTrue A (instances term γ 1 (uses c)) → SomeHolds term A γ (literals c)
-    sound (input ls) K γ R h = holds-instance term A γ ls (h .0)
-    sound (resolve l a r b bs) K γ R h =
+    sound (input number ls) K γ R h = holds-instance term A γ ls (h .0)
+    sound (resolve number l a r b bs) K γ R h =
         let c = K .2 in
         let u = unified-sound γ (joined (maximumIndex l) (lookup l) (lookup r)) (c .1) (raise (maximumIndex l) (c .2)) bs (c .5) R in
         let w = instances-split term A γ 1 (uses l) (uses r) h in
@@ -136,7 +136,7 @@ module _ (row : ℕ → Row) (term : ℕ → Term ℕ) (termLaw : (r : ℕ) → 
         holds-resolvent term A γ (maximumIndex l) (literals l) (literals r) a b (c .0) (c .1) (c .2) (c .3) (c .4) (u .1)
         (sound l (K .0) γ (respects-left term γ (maximumIndex l) (maximumIndex r) (lookup l) (lookup r) (u .0) (lookup-in row l (K .0))) (w .0))
         (sound r (K .1) (raisedValues term A (maximumIndex l) γ) (respects-right term γ (maximumIndex l) (maximumIndex r) (lookup l) (lookup r) (u .0) (lookup-in row r (K .1))) (instances-raised term A γ (maximumIndex l) 1 (uses r) v))
-    sound (factor t a b bs) K γ R h =
+    sound (factor number t a b bs) K γ R h =
         let c = K .1 in
         let u = unified-sound γ (lookup t) (c .1) (c .2) bs (c .6) R in
         holds-factor term A γ (literals t) a b (c .0) (c .1) (c .2) (c .3) (c .4) (c .5) (u .1) (sound t (K .0) γ (u .0) h)

@@ -22,9 +22,9 @@ Unified row ρ e d bs = (held : ℕ) × (n : ℕ) × (unify row held ρ e d ≡ 
 
 -- Each step names literals of fitting signs, and its bindings are their unification's.
 abbrev pub Valid : (ℕ → Row) → Derivation → Type 0
-Valid row (input ls) = Unit {0}
-Valid row (resolve l a r b bs) = Valid row l × Valid row r × ((s : Bool) × (e d : Expression) × (numbered (literals l) a ≡ some (s, e)) × (numbered (literals r) b ≡ some (not s, d)) × Unified row (joined (maximumIndex l) (lookup l) (lookup r)) e (raise (maximumIndex l) d) bs)
-Valid row (factor c a b bs) = Valid row c × ((s : Bool) × (e d : Expression) × (numbered (literals c) a ≡ some (s, e)) × (numbered (literals c) b ≡ some (s, d)) × (¬ (a ≡ b)) × Unified row (lookup c) e d bs)
+Valid row (input number ls) = Unit {0}
+Valid row (resolve number l a r b bs) = Valid row l × Valid row r × ((s : Bool) × (e d : Expression) × (numbered (literals l) a ≡ some (s, e)) × (numbered (literals r) b ≡ some (not s, d)) × Unified row (joined (maximumIndex l) (lookup l) (lookup r)) e (raise (maximumIndex l) d) bs)
+Valid row (factor number c a b bs) = Valid row c × ((s : Bool) × (e d : Expression) × (numbered (literals c) a ≡ some (s, e)) × (numbered (literals c) b ≡ some (s, d)) × (¬ (a ≡ b)) × Unified row (lookup c) e d bs)
 
 pub kept-joined : (m n : ℕ) (ρ ρ′ : Environment) → IndicesKept (In m) ρ → IndicesKept (In n) ρ′ → IndicesKept (In (m + n)) (joined m ρ ρ′)
 kept-joined m n ρ ρ′ h k x e p = try (leb (x .1) m) refl p
@@ -45,14 +45,14 @@ module _ (row : ℕ → Row) where
   unified-kept good base e d bs u h a b = rw (u .2) at (indices-kept-run good row mostLinks (noRoom (u .0)) base mostWork (unifying [] ((e, d) ∷ [])) (h, (a, b, tt)))
 
   pub lookup-in : (c : Derivation) → Valid row c → IndicesKept (In (maximumIndex c)) (lookup c)
-  lookup-in (input ls) K = λ x e p. absurd (some-not-none refl p)
-  lookup-in (resolve l a r b bs) K =
+  lookup-in (input number ls) K = λ x e p. absurd (some-not-none refl p)
+  lookup-in (resolve number l a r b bs) K =
       let c = K .2 in
       let p = each-numbered (LiteralIn (maximumIndex l)) (literals l) a (c .0, c .1) (c .3) (literals-in l) in
       let q = each-numbered (LiteralIn (maximumIndex r)) (literals r) b (not (c .0), c .2) (c .4) (literals-in r) in
       unified-kept (In (maximumIndex l + maximumIndex r)) (joined (maximumIndex l) (lookup l) (lookup r)) (c .1) (raise (maximumIndex l) (c .2)) bs (c .5)
       (kept-joined (maximumIndex l) (maximumIndex r) (lookup l) (lookup r) (lookup-in l (K .0)) (lookup-in r (K .1))) (omega arith) (omega arith)
-  lookup-in (factor t a b bs) K =
+  lookup-in (factor number t a b bs) K =
       let c = K .1 in
       unified-kept (In (maximumIndex t)) (lookup t) (c .1) (c .2) bs (c .6) (lookup-in t (K .0))
       (each-numbered (LiteralIn (maximumIndex t)) (literals t) a (c .0, c .1) (c .3) (literals-in t)) (each-numbered (LiteralIn (maximumIndex t)) (literals t) b (c .0, c .2) (c .4) (literals-in t))

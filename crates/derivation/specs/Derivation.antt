@@ -23,13 +23,19 @@ literalOf n = (eqb (n % 2) 1, n / 2)
 abbrev pub inputLiterals : Record → List RowLiteral
 inputLiterals r = map literalOf (take (r .count) (r .fields))
 
--- A clause with the derivations of its parents, and the bindings that its own step added, the newest first.
+-- A clause: its number, the derivations of its parents, and the bindings that its own step added, the newest first.
 pub data Derivation : Type 0 where
-  input : List RowLiteral → Derivation
+  input : ℕ → List RowLiteral → Derivation
   -- left clause and literal, right clause and literal
-  resolve : Derivation → ℕ → Derivation → ℕ → List Binding → Derivation
+  resolve : ℕ → Derivation → ℕ → Derivation → ℕ → List Binding → Derivation
   -- clause, literal kept, literal deleted
-  factor : Derivation → ℕ → ℕ → List Binding → Derivation
+  factor : ℕ → Derivation → ℕ → ℕ → List Binding → Derivation
+
+-- The number that the file gives a clause.
+abbrev pub clauseNumber : Derivation → ℕ
+clauseNumber (input number ls) = number
+clauseNumber (resolve number l a r b bs) = number
+clauseNumber (factor number c a b bs) = number
 
 -- Literal numbers start at 1: the literal of a number, if there is one, and all literals but that one.
 abbrev pub numbered {ℓ} : {A : Type ℓ} → List A → ℕ → Option A
@@ -56,20 +62,20 @@ abbrev pub placed : ℕ → List RowLiteral → List Literal
 placed k ls = map (λ l. (l .0, (l .1, k))) ls
 
 abbrev pub maximumIndex : Derivation → ℕ
-maximumIndex (input ls) = 1
-maximumIndex (resolve l a r b bs) = maximumIndex l + maximumIndex r
-maximumIndex (factor c a b bs) = maximumIndex c
+maximumIndex (input number ls) = 1
+maximumIndex (resolve number l a r b bs) = maximumIndex l + maximumIndex r
+maximumIndex (factor number c a b bs) = maximumIndex c
 
 abbrev pub literals : Derivation → List Literal
-literals (input ls) = placed 1 ls
-literals (resolve l a r b bs) = without (literals l) a ++ map (raiseLiteral (maximumIndex l)) (without (literals r) b)
-literals (factor c a b bs) = without (literals c) b
+literals (input number ls) = placed 1 ls
+literals (resolve number l a r b bs) = without (literals l) a ++ map (raiseLiteral (maximumIndex l)) (without (literals r) b)
+literals (factor number c a b bs) = without (literals c) b
 
 -- The bindings that a clause's own step added.
 abbrev pub ownBindings : Derivation → List Binding
-ownBindings (input ls) = []
-ownBindings (resolve l a r b bs) = bs
-ownBindings (factor c a b bs) = bs
+ownBindings (input number ls) = []
+ownBindings (resolve number l a r b bs) = bs
+ownBindings (factor number c a b bs) = bs
 
 -- Both parents' environments as one: up to the left maximum index m the left one's; above it the index is lowered by m, looked up
 -- in the right one, and the answer raised again.
@@ -82,12 +88,16 @@ joined m left right x = pick (leb (x .1) m) (left x) (raiseAnswer m (right (x .0
 
 -- Looking up a variable in a clause: its own bindings come first, then its parents'.
 abbrev pub lookup : Derivation → Environment
-lookup (input ls) x = none
-lookup (resolve l a r b bs) x = extend (joined (maximumIndex l) (lookup l) (lookup r)) bs x
-lookup (factor c a b bs) x = extend (lookup c) bs x
+lookup (input number ls) x = none
+lookup (resolve number l a r b bs) x = extend (joined (maximumIndex l) (lookup l) (lookup r)) bs x
+lookup (factor number c a b bs) x = extend (lookup c) bs x
 
--- Document 01, "Uses, values and instances": the input clauses of a derivation, each as often as it is used.
-abbrev pub uses : Derivation → List (List RowLiteral)
-uses (input ls) = ls ∷ []
-uses (resolve l a r b bs) = uses l ++ uses r
-uses (factor c a b bs) = uses c
+-- Document 01, "Uses, values and instances": the input clauses of a derivation, each as often as it is used. A use is the input clause's
+-- number with its literals.
+abbrev pub Use : Type 0
+Use = ℕ × List RowLiteral
+
+abbrev pub uses : Derivation → List Use
+uses (input number ls) = (number, ls) ∷ []
+uses (resolve number l a r b bs) = uses l ++ uses r
+uses (factor number c a b bs) = uses c

@@ -8,7 +8,7 @@ use Prim.Native.Nat.{ℕ, suc}
 use Rattle.unification.specs.Environment.{Environment, Respects}
 use Rattle.unification.specs.Row.{Variable, writtenOut}
 use Rattle.unification.specs.Term.{Term, Terms, var, app, nil, cons, apply}
-use Rattle.derivation.specs.Derivation.{RowLiteral, Derivation}
+use Rattle.derivation.specs.Derivation.{RowLiteral, Derivation, Use}
 use Rattle.derivation.specs.Written.{substitution}
 
 -- A variable-free term. The one thing that stands where a variable might is the extra constant.
@@ -36,9 +36,9 @@ GroundLiteral = Bool × Ground
 abbrev pub instanceAt : (ℕ → Term ℕ) → (Variable → Ground) → ℕ → List RowLiteral → List GroundLiteral
 instanceAt term γ k ls = map (λ l. (l .0, writtenOut term γ (l .1, k))) ls
 
-abbrev pub instances : (ℕ → Term ℕ) → (Variable → Ground) → ℕ → List (List RowLiteral) → List (List GroundLiteral)
+abbrev pub instances : (ℕ → Term ℕ) → (Variable → Ground) → ℕ → List Use → List (List GroundLiteral)
 instances term γ k [] = []
-instances term γ k (u ∷ us) = instanceAt term γ k u ∷ instances term γ (suc k) us
+instances term γ k (u ∷ us) = instanceAt term γ k (u .1) ∷ instances term γ (suc k) us
 
 -- A term of symbols that exist, each with as many arguments as its arity, and of the extra constant.
 module _ (arity : ℕ → Option ℕ) where

@@ -27,9 +27,9 @@ joinedSubstitution m left right x = pick (leb (x .1) m) (left x) (apply (renamed
 -- the value that looking up gives, written out (`WritesOut` below says so, and that nothing else does).
 module _ (term : ℕ → Term ℕ) where
   abbrev pub substitution : Derivation → Variable → Term Variable
-  substitution (input ls) x = var x
-  substitution (resolve l a r b bs) x = composed term (joinedSubstitution (maximumIndex l) (substitution l) (substitution r)) bs x
-  substitution (factor c a b bs) x = composed term (substitution c) bs x
+  substitution (input number ls) x = var x
+  substitution (resolve number l a r b bs) x = composed term (joinedSubstitution (maximumIndex l) (substitution l) (substitution r)) bs x
+  substitution (factor number c a b bs) x = composed term (substitution c) bs x
 
   -- Literals written out by a substitution.
   abbrev pub writtenLiteral : (Variable → Term Variable) → Literal → Bool × Term Variable

@@ -21,7 +21,7 @@ use Rattle.tables.specs.Cells.{withClauseCells}
 use Rattle.fields.specs.Fields.{arityIn}
 use Rattle.entry.specs.Progress.{cellsOfRow, nodeTableOf, countsOf, Kept, Next}
 use Rattle.verdict.specs.Refusal.{outOfRange, notThere, repeatedRow, variableLiteral, reasonNumber, kindOfRecord, zeros, inRange, argumentRows, hasArity, allBelow, allThere, differsFromAll, allApplications}
-use Rattle.verdict.specs.State.{arities, State, withSymbol, withRow, withClause, entry, rowsOf, derivations, arityOf, rowOf, bindingsOf, held}
+use Rattle.verdict.specs.State.{arities, State, withSymbol, withRow, withClause, entry, rowsOf, derivations, arityOf, rowOf, bindingsOf, held, nextClause}
 use Rattle.verdict.specs.Step.{stands, Result, require, step}
 use Rattle.verdict.specs.Tables.{Tables, symbolCells, rowCells, clauseCells, bindingCells, filled, filledTables}
 use Rattle.verdict.proofs.Acceptance.{cells-length}
@@ -269,9 +269,9 @@ module _ (F : List ℕ) (t : Tables) (k : ℕ) (S : State) (n : Counts) (here : 
       ls = inputLiterals (decoded (recordPart F k))
 
       c : Derivation
-      c = input (inputLiterals (decoded (recordPart F k)))
+      c = input (nextClause S) (inputLiterals (decoded (recordPart F k)))
 
-      at : step S k rec ≡ require (inRange inputKind rec) outOfRange (require (allBelow (length (rowsOf S)) (map (λ (x : RowLiteral). x .1) (inputLiterals rec))) notThere (require (allApplications (rowOf S) (inputLiterals rec)) variableLiteral (stands (withClause S k (input (inputLiterals rec))))))
+      at : step S k rec ≡ require (inRange inputKind rec) outOfRange (require (allBelow (length (rowsOf S)) (map (λ (x : RowLiteral). x .1) (inputLiterals rec))) notThere (require (allApplications (rowOf S) (inputLiterals rec)) variableLiteral (stands (withClause S k (input (nextClause S) (inputLiterals rec))))))
       at = at-kind S k rec inputKind kd
 
       rows : allBelow (n .rows) (map (λ (x : RowLiteral). x .1) (inputLiterals rec)) ≡ allBelow (length (rowsOf S)) (map (λ (x : RowLiteral). x .1) (inputLiterals rec))
@@ -283,30 +283,30 @@ module _ (F : List ℕ) (t : Tables) (k : ℕ) (S : State) (n : Counts) (here : 
           let m : rec .count ≤ 7 = leb→le (rec .count) 7 (to-T (leb (rec .count) 7) (d .0)) in
           sym (length-map (inputLiterals rec) (λ (x : RowLiteral). (x .0, (x .1, 1))) ∙ length-map (take (rec .count) (rec .fields)) literalOf ∙ length-take-le (rec .count) (rec .fields) m)
 
-      counts : moreClauses n ≡ countsOf (withClause S k (input (inputLiterals rec)))
-      counts = ap moreClauses (K .counts) ∙ (λ i. record { symbols = length (S .symbols); rows = length (S .rows); clauses = add-one (length (S .clauses)) i; bindings = (sym (add-zero (held S)) ∙ sym (held-clause S k (input (inputLiterals rec)))) i })
+      counts : moreClauses n ≡ countsOf (withClause S k (input (nextClause S) (inputLiterals rec)))
+      counts = ap moreClauses (K .counts) ∙ (λ i. record { symbols = length (S .symbols); rows = length (S .rows); clauses = add-one (length (S .clauses)) i; bindings = (sym (add-zero (held S)) ∙ sym (held-clause S k (input (nextClause S) (inputLiterals rec)))) i })
 
-      made : inRange inputKind rec ≡ true → withClauses (withClauseCells (here .clauses) (n .clauses) k (countOf part) 1 (n .bindings) 0) ≡ filledTables (withClause S k (input (inputLiterals rec))) t
-      made q = λ i. record { symbols = symbols-here i; rows = rows-here i; clauses = clause-table (input (inputLiterals rec)) (countOf part) 1 (n .bindings) 0 (small q) refl (ap (λ (x : Counts). x .bindings) (K .counts)) refl i; bindings = (bindings-here ∙ ap (λ (x : List ℕ). filled 32768 x (t .bindings)) (sym (append-nil (bindingCells (derivations S))))) i }
+      made : inRange inputKind rec ≡ true → withClauses (withClauseCells (here .clauses) (n .clauses) k (countOf part) 1 (n .bindings) 0) ≡ filledTables (withClause S k (input (nextClause S) (inputLiterals rec))) t
+      made q = λ i. record { symbols = symbols-here i; rows = rows-here i; clauses = clause-table (input (nextClause S) (inputLiterals rec)) (countOf part) 1 (n .bindings) 0 (small q) refl (ap (λ (x : Counts). x .bindings) (K .counts)) refl i; bindings = (bindings-here ∙ ap (λ (x : List ℕ). filled 32768 x (t .bindings)) (sym (append-nil (bindingCells (derivations S))))) i }
 
       third : inRange inputKind rec ≡ true → allBelow (n .rows) (map (λ (x : RowLiteral). x .1) (inputLiterals rec)) ≡ true → (b : Bool) → noVariable N (inputLiterals rec) ≡ b
           → InputNext (pick b (inputLeft (Stands (moreClauses n)) (withClauseCells (here .clauses) (n .clauses) k (countOf part) 1 (n .bindings) 0)) (inputLeft (Refused (reasonNumber variableLiteral)) (here .clauses)))
       third q p b v = by b v (sym (variable-tests (rowsOf S) (rows-fit F t k S n here N A K l) (omega (arith, many)) N (K .nodes) (inputLiterals rec) (rows-below (length (rowsOf S)) (inputLiterals rec) (sym rows ∙ p))) ∙ v)
         where
-          path : (b : Bool) → allApplications (rowOf S) (inputLiterals rec) ≡ b → step S k rec ≡ require b variableLiteral (stands (withClause S k (input (inputLiterals rec))))
-          path b z = at ∙ (λ i. require (q i) outOfRange (require ((sym rows ∙ p) i) notThere (require (z i) variableLiteral (stands (withClause S k (input (inputLiterals rec)))))))
+          path : (b : Bool) → allApplications (rowOf S) (inputLiterals rec) ≡ b → step S k rec ≡ require b variableLiteral (stands (withClause S k (input (nextClause S) (inputLiterals rec))))
+          path b z = at ∙ (λ i. require (q i) outOfRange (require ((sym rows ∙ p) i) notThere (require (z i) variableLiteral (stands (withClause S k (input (nextClause S) (inputLiterals rec)))))))
 
           by : (b : Bool) → noVariable N (inputLiterals rec) ≡ b → allApplications (rowOf S) (inputLiterals rec) ≡ b
               → InputNext (pick b (inputLeft (Stands (moreClauses n)) (withClauseCells (here .clauses) (n .clauses) k (countOf part) 1 (n .bindings) 0)) (inputLeft (Refused (reasonNumber variableLiteral)) (here .clauses)))
-          by true v z = (withClause S k (input (inputLiterals rec)), path true z, kept-next F t k S n here N A K l (withClause S k (input (inputLiterals rec))) (path true z) (moreClauses n) (withClauses (withClauseCells (here .clauses) (n .clauses) k (countOf part) 1 (n .bindings) 0)) N A counts (made q) (K .nodes) (K .values))
+          by true v z = (withClause S k (input (nextClause S) (inputLiterals rec)), path true z, kept-next F t k S n here N A K l (withClause S k (input (nextClause S) (inputLiterals rec))) (path true z) (moreClauses n) (withClauses (withClauseCells (here .clauses) (n .clauses) k (countOf part) 1 (n .bindings) 0)) N A counts (made q) (K .nodes) (K .values))
           by false v z = (variableLiteral, path false z, refl, K .tables, K .nodes, K .values)
 
       second : inRange inputKind rec ≡ true → (b : Bool) → allBelow (n .rows) (map (λ (x : RowLiteral). x .1) (inputLiterals rec)) ≡ b
           → InputNext (pick b (pick (noVariable N (inputLiterals rec)) (inputLeft (Stands (moreClauses n)) (withClauseCells (here .clauses) (n .clauses) k (countOf part) 1 (n .bindings) 0)) (inputLeft (Refused (reasonNumber variableLiteral)) (here .clauses))) (inputLeft (Refused (reasonNumber notThere)) (here .clauses)))
       second q true p = third q p (noVariable N (inputLiterals rec)) refl
-      second q false p = (notThere, at ∙ (λ i. require (q i) outOfRange (require ((sym rows ∙ p) i) notThere (require (allApplications (rowOf S) (inputLiterals rec)) variableLiteral (stands (withClause S k (input (inputLiterals rec))))))), refl, K .tables, K .nodes, K .values)
+      second q false p = (notThere, at ∙ (λ i. require (q i) outOfRange (require ((sym rows ∙ p) i) notThere (require (allApplications (rowOf S) (inputLiterals rec)) variableLiteral (stands (withClause S k (input (nextClause S) (inputLiterals rec))))))), refl, K .tables, K .nodes, K .values)
 
       try : (b : Bool) → inRange inputKind rec ≡ b
           → InputNext (pick b (pick (allBelow (n .rows) (map (λ (x : RowLiteral). x .1) (inputLiterals rec))) (pick (noVariable N (inputLiterals rec)) (inputLeft (Stands (moreClauses n)) (withClauseCells (here .clauses) (n .clauses) k (countOf part) 1 (n .bindings) 0)) (inputLeft (Refused (reasonNumber variableLiteral)) (here .clauses))) (inputLeft (Refused (reasonNumber notThere)) (here .clauses))) (inputLeft (Refused (reasonNumber outOfRange)) (here .clauses)))
       try true q = second q (allBelow (n .rows) (map (λ (x : RowLiteral). x .1) (inputLiterals rec))) refl
-      try false q = (outOfRange, at ∙ ap (λ (b : Bool). require b outOfRange (require (allBelow (length (rowsOf S)) (map (λ (x : RowLiteral). x .1) (inputLiterals rec))) notThere (require (allApplications (rowOf S) (inputLiterals rec)) variableLiteral (stands (withClause S k (input (inputLiterals rec))))))) q, refl, K .tables, K .nodes, K .values)
+      try false q = (outOfRange, at ∙ ap (λ (b : Bool). require b outOfRange (require (allBelow (length (rowsOf S)) (map (λ (x : RowLiteral). x .1) (inputLiterals rec))) notThere (require (allApplications (rowOf S) (inputLiterals rec)) variableLiteral (stands (withClause S k (input (nextClause S) (inputLiterals rec))))))) q, refl, K .tables, K .nodes, K .values)

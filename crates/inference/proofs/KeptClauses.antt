@@ -121,9 +121,9 @@ module _ {F : List ℕ} {t : Tables} {k : ℕ} {S : State} {n : Counts} {here : 
   all-free ρ (b ∷ bs) h = (h .0, all-free ρ bs (h .1))
 
   clause-in : (d : Derivation) → BindingsThere (rowOf S) (length (rowsOf S)) d → BindingsIn N d
-  clause-in (input ls) h = tt
-  clause-in (resolve l a r b bs) h = (clause-in l (h .0), clause-in r (h .1), all-in (maximumIndex l + maximumIndex r) bs (h .2 .0), all-free (joined (maximumIndex l) (lookup l) (lookup r)) bs (h .2 .1))
-  clause-in (factor d a b bs) h = (clause-in d (h .0), all-in (maximumIndex d) bs (h .1 .0), all-free (lookup d) bs (h .1 .1))
+  clause-in (input number ls) h = tt
+  clause-in (resolve number l a r b bs) h = (clause-in l (h .0), clause-in r (h .1), all-in (maximumIndex l + maximumIndex r) bs (h .2 .0), all-free (joined (maximumIndex l) (lookup l) (lookup r)) bs (h .2 .1))
+  clause-in (factor number d a b bs) h = (clause-in d (h .0), all-in (maximumIndex d) bs (h .1 .0), all-free (lookup d) bs (h .1 .1))
 
   pub bindings-in : (c : ℕ) (d : Derivation) → clauseOf S c ≡ some d → BindingsIn N d
   bindings-in c d q =

@@ -15,7 +15,7 @@ use Rattle.unification.proofs.Tests.{some-not-none, some-injective}
 use Rattle.derivation.specs.Derivation.{literals, Literal, Derivation, resolve, factor, numbered, without, raiseLiteral, maximumIndex}
 use Rattle.derivation.specs.Stored.{literalsCell, indexCell}
 use Rattle.verdict.specs.Refusal.{tooLarge, mostLiterals, mostIndex, isThere, onBoth, resultFits, withinLimits}
-use Rattle.verdict.specs.State.{State, clauseOf}
+use Rattle.verdict.specs.State.{State, clauseOf, nextClause}
 use Rattle.verdict.specs.Step.{require, step, addClause, unifyResolve, unifyFactor, onNamed}
 use Rattle.inference.specs.Stepping.{atomNamed, Resolving, Factoring, UnifiedTables, finished, stepFinished, ResolveNamed, FactorNamed, StepRead}
 use Rattle.entry.proofs.Entering.{and-false}
@@ -50,7 +50,7 @@ module _ {F : List ℕ} {k : ℕ} {n : Counts} {C B N A : List ℕ} {x y : Atom}
   r = R .right .clause
 
   abbrev result : List Binding → Derivation
-  result bs = resolve (R .left .clause) (fieldB (decoded (recordPart F k))) (R .right .clause) (fieldD (decoded (recordPart F k))) bs
+  result bs = resolve (nextClause S) (R .left .clause) (fieldB (decoded (recordPart F k))) (R .right .clause) (fieldD (decoded (recordPart F k))) bs
 
   left-fewer : length (without (literals (R .left .clause)) (fieldB (decoded (recordPart F k)))) + 1 ≡ length (literals (R .left .clause))
   left-fewer = one-fewer (literals l) (fieldB rec) (R .left .literal) (literal-named S (fieldA rec) (fieldB rec) (atomNamed (R .left)) (R .isLeft) .1)
@@ -99,7 +99,7 @@ module _ {F : List ℕ} {k : ℕ} {n : Counts} {C B N A : List ℕ} {x y : Atom}
 
   -- What is left of the step.
   limits : withinLimits (R .step .state) resolveKind (decoded (recordPart F k)) ≡ resultFits (result [])
-  limits = ap₂ (λ (o p : Option (Derivation × Literal)). onBoth (λ x y. resultFits (resolve (x .0) (fieldB rec) (y .0) (fieldD rec) [])) o p) (R .isLeft) (R .isRight)
+  limits = ap₂ (λ (o p : Option (Derivation × Literal)). onBoth (λ x y. resultFits (resolve (nextClause S) (x .0) (fieldB rec) (y .0) (fieldD rec) [])) o p) (R .isLeft) (R .isRight)
 
   limited : (d : Bool) → resultFits (result []) ≡ d → Step (R .step) resolveKind true true true d
   limited d q = step-tests (R .step) resolveKind (resolve-kind (R .step) (R .isResolve)) refl refl refl true true true d (R .ranged) (ap₂ (λ (o p : Option (Derivation × Literal)). isThere o && isThere p) (R .isLeft) (R .isRight)) (R .signs) (limits ∙ q)
@@ -118,7 +118,7 @@ module _ {F : List ℕ} {k : ℕ} {n : Counts} {C B N A : List ℕ} {x y : Atom}
 
   entered : resultFits (result []) ≡ true → step (R .step .state) k (decoded (recordPart F k)) ≡ addClause (R .step .state) k result (unifyResolve (R .step .state) (atomNamed (R .left)) (atomNamed (R .right)))
   unfolding require
-  entered q = limited true q ∙ ap₂ (λ (o p : Option (Derivation × Literal)). onNamed (λ x y. addClause S k (resolve (x .0) (fieldB rec) (y .0) (fieldD rec)) (unifyResolve S x y)) o p) (R .isLeft) (R .isRight)
+  entered q = limited true q ∙ ap₂ (λ (o p : Option (Derivation × Literal)). onNamed (λ x y. addClause S k (resolve (nextClause S) (x .0) (fieldB rec) (y .0) (fieldD rec)) (unifyResolve S x y)) o p) (R .isLeft) (R .isRight)
 
   module _ (lc rc li ri : ℕ) (pl : lc ≡ literalsCell C (x .clause)) (pr : rc ≡ literalsCell C (y .clause)) (ql : li ≡ indexCell C (x .clause)) (qr : ri ≡ indexCell C (y .clause)) (few : (lc + rc) - 2 ≤ 128) (low : li + ri ≤ 4096) where
     fits : resultFits (result []) ≡ true
@@ -133,7 +133,7 @@ module _ {F : List ℕ} {k : ℕ} {n : Counts} {C B N A : List ℕ} {x y : Atom}
 
 module _ {F : List ℕ} {k : ℕ} {n : Counts} {C B N A : List ℕ} {x y : Atom} (R : FactorNamed F k n C B N A x y) where
   abbrev factored : List Binding → Derivation
-  factored bs = factor (R .kept .clause) (fieldB (decoded (recordPart F k))) (fieldC (decoded (recordPart F k))) bs
+  factored bs = factor (nextClause (R .step .state)) (R .kept .clause) (fieldB (decoded (recordPart F k))) (fieldC (decoded (recordPart F k))) bs
 
   same-parent : R .deleted .clause ≡ R .kept .clause
   same-parent = some-injective (sym (R .deleted .isClause) ∙ ap (clauseOf (R .step .state)) (R .sameClause) ∙ R .kept .isClause)
@@ -151,14 +151,14 @@ module _ {F : List ℕ} {k : ℕ} {n : Counts} {C B N A : List ℕ} {x y : Atom}
   factor-limits =
       let c = R .kept .clause in
       let m : length (literals (factored [])) ≤ 128 = omega (arith, kept-fewer, literals-small (R .step) (x .clause) c (R .kept .isClause)) in
-      ap₂ (λ (o p : Option (Derivation × Literal)). onBoth (λ x y. resultFits (factor (x .0) (fieldB (decoded (recordPart F k))) (fieldC (decoded (recordPart F k))) [])) o p) (R .isKept) (R .isDeleted)
+      ap₂ (λ (o p : Option (Derivation × Literal)). onBoth (λ x y. resultFits (factor (nextClause (R .step .state)) (x .0) (fieldB (decoded (recordPart F k))) (fieldC (decoded (recordPart F k))) [])) o p) (R .isKept) (R .isDeleted)
       ∙ ap₂ (λ (a b : Bool). a && b) (le-leb (length (literals (factored []))) 128 m) (le-leb (maximumIndex c) 4096 (index-small (R .step) (x .clause) c (R .kept .isClause)))
 
   factor-entered : step (R .step .state) k (decoded (recordPart F k)) ≡ addClause (R .step .state) k factored (unifyFactor (R .step .state) (atomNamed (R .kept)) (atomNamed (R .deleted)))
   unfolding require
   factor-entered =
       step-tests (R .step) factorKind (factor-kind (R .step) (R .isFactor)) refl refl refl true true true true (R .ranged) (ap₂ (λ (o p : Option (Derivation × Literal)). isThere o && isThere p) (R .isKept) (R .isDeleted)) (R .signs) factor-limits
-      ∙ ap₂ (λ (o p : Option (Derivation × Literal)). onNamed (λ x y. addClause (R .step .state) k (factor (x .0) (fieldB (decoded (recordPart F k))) (fieldC (decoded (recordPart F k)))) (unifyFactor (R .step .state) x y)) o p) (R .isKept) (R .isDeleted)
+      ∙ ap₂ (λ (o p : Option (Derivation × Literal)). onNamed (λ x y. addClause (R .step .state) k (factor (nextClause (R .step .state)) (x .0) (fieldB (decoded (recordPart F k))) (fieldC (decoded (recordPart F k)))) (unifyFactor (R .step .state) x y)) o p) (R .isKept) (R .isDeleted)
 
   module _ (lc : ℕ) (pl : lc ≡ literalsCell C (x .clause)) where
     lc-kept : lc ≡ length (literals (R .kept .clause))

@@ -102,8 +102,8 @@ module _ {F C : List ℕ} {base c o : ℕ} (K : Collectable F C base c o) where
         try d (storedResolve k la sa qa lb sb qb s) fits few = absurd (omega arith)
         try d (storedFactor k l t qa qb s) fits few = absurd (omega arith)
         try d (storedInput {ls = ls} k q s) fits few =
-            let n : count ≡ length (literals (input ls)) = pc ∙ s .literalCount in
-            let m : length (literals (input ls)) ≡ length (inputLiterals (recordOf F C c)) = length-map ls (λ (l : RowLiteral). (l .0, (l .1, 1))) ∙ ap length (sym q) in
+            let n : count ≡ length (literals (input number ls)) = pc ∙ s .literalCount in
+            let m : length (literals (input number ls)) ≡ length (inputLiterals (recordOf F C c)) = length-map ls (λ (l : RowLiteral). (l .0, (l .1, 1))) ∙ ap length (sym q) in
             let f = input-few (recordPart F (recordCell C c)) in
             (omega (arith, n, m, f), omega (arith, n, few), fits)
 

@@ -95,10 +95,10 @@ module _ (N : List ℕ) (T : NodesOk N) where
   length-bindings o (b ∷ bs) A = length-put (putBindings N o bs A) (slot N (b .0 .0) (o + b .0 .1)) (b .1 .0 + 1) (o + b .1 .1) ∙ length-bindings o bs A
 
   pub length-clause : (d : Derivation) (o : ℕ) (A : List ℕ) → length (putClause N o d A) ≡ length A
-  length-clause (input ls) o A = refl
-  length-clause (resolve l a r b bs) o A =
+  length-clause (input number ls) o A = refl
+  length-clause (resolve number l a r b bs) o A =
       length-clause r (o + maximumIndex l) (putClause N o l (putBindings N o bs A)) ∙ length-clause l o (putBindings N o bs A) ∙ length-bindings o bs A
-  length-clause (factor d a b bs) o A = length-clause d o (putBindings N o bs A) ∙ length-bindings o bs A
+  length-clause (factor number d a b bs) o A = length-clause d o (putBindings N o bs A) ∙ length-bindings o bs A
 
   -- One binding more.
   one-read : (o m : ℕ) (b : Binding) → BindingIn N m b → (bs : List Binding) (x : Variable) (p q : Option Expression) → (c : Bool) → leb (x .1) o ≡ c
@@ -201,8 +201,8 @@ within-joined o m n ρ ρ′ x R = try (leb (x .1) o) refl (leb (x .1) (o + m)) 
 module _ (N : List ℕ) (T : NodesOk N) where
   pub clause-read : (d : Derivation) → BindingsIn N d → (o : ℕ) → o + maximumIndex d ≤ 4096 → (A : List ℕ) → length A ≡ 524416 → (x : Variable) → InStep N 4096 x → isVariable N (x .0) ≡ true
       → readCell N (putClause N o d A) x ≡ orElse (within o (maximumIndex d) (lookup d) x) (readCell N A x)
-  clause-read (input ls) K o fits A room x g v = sym (ap (λ (q : Option Expression). orElse q (readCell N A x)) (within-nothing o 1 x))
-  clause-read (resolve l a r b bs) K o fits A room x g v =
+  clause-read (input number ls) K o fits A room x g v = sym (ap (λ (q : Option Expression). orElse q (readCell N A x)) (within-nothing o 1 x))
+  clause-read (resolve number l a r b bs) K o fits A room x g v =
       let m = maximumIndex l in
       let n = maximumIndex r in
       let both = joined m (lookup l) (lookup r) in
@@ -214,7 +214,7 @@ module _ (N : List ℕ) (T : NodesOk N) where
       ∙ ap (orElse (within o (m + n) both x)) (bindings-read N T o (m + n) fits bs (K .2) A room x g v)
       ∙ own-first o (m + n) both bs (K .3) x (readCell N A x)
       ∙ combine o (m + n) both bs x (readCell N A x) (λ h. own-in N (m + n) (x .0) (x .1 - o) (omega arith) bs (K .2))
-  clause-read (factor d a b bs) K o fits A room x g v =
+  clause-read (factor number d a b bs) K o fits A room x g v =
       let m = maximumIndex d in
       clause-read d (K .0) o fits (putBindings N o bs A) (length-bindings N T o bs A ∙ room) x g v
       ∙ ap (orElse (within o m (lookup d) x)) (bindings-read N T o m fits bs (K .1) A room x g v)

@@ -180,14 +180,14 @@ module _ {F C B N A : List ℕ} {c o rc u p : ℕ} {w : List ℕ} (L : Loadable 
 
 -- A clause's bindings are its own and then its parents'.
 put-own : (N : List ℕ) (o : ℕ) (d : Derivation) (A : List ℕ) → putClause N o d A ≡ putParents N o d (putBindings N o (ownBindings d) A)
-put-own N o (input ls) A = refl
-put-own N o (resolve l a r b bs) A = refl
-put-own N o (factor d a b bs) A = refl
+put-own N o (input number ls) A = refl
+put-own N o (resolve number l a r b bs) A = refl
+put-own N o (factor number d a b bs) A = refl
 
 own-all : (N : List ℕ) (d : Derivation) → BindingsIn N d → AllIn N (maximumIndex d) (ownBindings d)
-own-all N (input ls) K = tt
-own-all N (resolve l a r b bs) K = K .2
-own-all N (factor d a b bs) K = K .1
+own-all N (input number ls) K = tt
+own-all N (resolve number l a r b bs) K = K .2
+own-all N (factor number d a b bs) K = K .1
 
 -- The array's cells decide what a variable reads.
 module _ {F C B N A A₂ : List ℕ} {c o : ℕ} (L : Loadable F C B N A c o) where
@@ -224,7 +224,7 @@ pub walk-ends : {F C B N A₀ A : List ℕ} {c o d q u : ℕ} → Loadable F C B
 walk-ends {F} {C} {B} {N} {A₀} {A} {c} {o} {d} {q} L W pu four = all-loaded L (W .ready .room) (λ f s. cells f s (W .ready .derivation) (W .ready .stored))
   where
     cells : (f : Derivation) → Stored F C B c f → (g : Derivation) → Stored F C B d g → A ≡ putClause N o f A₀
-    cells f s g (storedInput {ls = ls} k q₁ t) = sym (W .rest f (input ls) s (storedInput k q₁ t))
+    cells f s g (storedInput {ls = ls} k q₁ t) = sym (W .rest f (input number ls) s (storedInput k q₁ t))
     cells f s g (storedResolve k la sa qa lb sb qb t) = absurd (omega arith)
     cells f s g (storedFactor k la sa qa qb t) = absurd (omega arith)
 

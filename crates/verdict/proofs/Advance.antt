@@ -15,7 +15,7 @@ use Rattle.unification.proofs.Lists.{Each}
 use Rattle.unification.proofs.Tests.{to-T, both-true, true-not-false}
 use Rattle.derivation.specs.Derivation.{input, inputLiterals, Derivation, resolve, factor}
 use Rattle.verdict.specs.Refusal.{tests, Reason, kindOfRecord, zeros, argumentRows, leftOf, rightOf, deletedOf, differsFromAll}
-use Rattle.verdict.specs.State.{State, start, withRow, withClause, rowsOf}
+use Rattle.verdict.specs.State.{State, start, withRow, withClause, rowsOf, derivations, nextClause}
 use Rattle.verdict.specs.Step.{stands, refused, Result, step, unifyResolve, unifyFactor, enter, read, allStand, refusedAt}
 use Rattle.verdict.specs.Verdict.{ending}
 use Rattle.verdict.proofs.Inversions.{tests-passed, stands-same, all-stand, named-stands, clause-added, Passed}
@@ -34,9 +34,9 @@ abbrev pub Distinct : List Row → Type 0
 Distinct [] = Unit {0}
 Distinct (w ∷ ws) = (differsFromAll w ws ≡ true) × Distinct ws
 
--- What the records read so far add up to.
+-- What the records read so far add up to; each adds one thing at most.
 pub record Tally (F : List ℕ) (k : ℕ) (S : State) : Type 0 where
-  pub total : length (S .symbols) + (length (S .rows) + length (S .clauses)) ≡ k
+  pub total : length (S .symbols) + (length (S .rows) + length (S .clauses)) ≤ k
   pub aritiesRead : Each (λ (s : ℕ × ℕ). countOf (recordPart F (s .0)) ≡ s .1) (S .symbols)
   pub rowsFit : Each RowFits (rowsOf S)
   pub distinct : Distinct (rowsOf S)
@@ -44,11 +44,11 @@ pub record Tally (F : List ℕ) (k : ℕ) (S : State) : Type 0 where
 pub record Standing (F : List ℕ) (k : ℕ) (S : State) : Type 0 where
   pub before : read start 0 (take k (records F)) ≡ allStand S
   pub ok : StateOk k S
-  pub sourced : Sourced F (S .clauses)
+  pub sourced : Sourced (derivations S)
   pub tally : Tally F k S
 
 pub standing-start : (F : List ℕ) → Standing F 0 start
-standing-start F = record { before = refl; ok = start-ok; sourced = tt; tally = record { total = refl; aritiesRead = tt; rowsFit = tt; distinct = tt } }
+standing-start F = record { before = refl; ok = start-ok; sourced = tt; tally = record { total = omega arith; aritiesRead = tt; rowsFit = tt; distinct = tt } }
 
 -- Reading goes on where it stopped.
 read-on : (S : State) (j : ℕ) (xs ys : List Record) (T : State) → read S j xs ≡ allStand T → read S j (xs ++ ys) ≡ read T (j + length xs) ys
@@ -114,22 +114,22 @@ module _ (F : List ℕ) (k : ℕ) (S : State) (H : Standing F k S) (l : k < reco
     one-more applicationKind a z =
         let c = both-true (leb (rec .count) 6) (zeros (drop (1 + rec .count) (rec .fields))) (a .ranged) in
         row-more (application (fieldA rec) (argumentRows rec)) (few-arguments (leb→le (rec .count) 6 (to-T (leb (rec .count) 6) (c .0)))) (a .fresh) (stands-same z)
-    one-more inputKind a z = clause-more (input (inputLiterals rec)) (stands-same z)
+    one-more inputKind a z = clause-more (input (nextClause S) (inputLiterals rec)) (stands-same z)
     one-more resolveKind a z =
         let s = named-stands _ (leftOf S rec) (rightOf S rec) T z in
-        let c = clause-added S k (resolve (s .0 .0) (fieldB rec) (s .1 .0) (fieldD rec)) (unifyResolve S (s .0) (s .1)) T (s .4) in
-        clause-more (resolve (s .0 .0) (fieldB rec) (s .1 .0) (fieldD rec) (c .0)) (c .3)
+        let c = clause-added S k (resolve (nextClause S) (s .0 .0) (fieldB rec) (s .1 .0) (fieldD rec)) (unifyResolve S (s .0) (s .1)) T (s .4) in
+        clause-more (resolve (nextClause S) (s .0 .0) (fieldB rec) (s .1 .0) (fieldD rec) (c .0)) (c .3)
     one-more factorKind a z =
         let s = named-stands _ (leftOf S rec) (deletedOf S rec) T z in
-        let c = clause-added S k (factor (s .0 .0) (fieldB rec) (fieldC rec)) (unifyFactor S (s .0) (s .1)) T (s .4) in
-        clause-more (factor (s .0 .0) (fieldB rec) (fieldC rec) (c .0)) (c .3)
+        let c = clause-added S k (factor (nextClause S) (s .0 .0) (fieldB rec) (fieldC rec)) (unifyFactor S (s .0) (s .1)) T (s .4) in
+        clause-more (factor (nextClause S) (s .0 .0) (fieldB rec) (fieldC rec) (c .0)) (c .3)
     one-more otherKind a z = absurd (true-not-false (a .known) refl)
 
     pub advance : Standing F (suc k) T
     advance =
         let a = all-stand (tests S (kindOfRecord rec) rec) (enter S k (kindOfRecord rec) rec) T q in
         let o = one-more (kindOfRecord rec) (tests-passed S (kindOfRecord rec) rec (a .0)) (a .1) in
-        record { before = before-next; ok = step-ok k S (H .ok) k rec T seven q; sourced = step-sourced F S k T q (H .sourced); tally = o }
+        record { before = before-next; ok = step-ok k S (H .ok) k rec T seven q; sourced = step-sourced S k rec T seven q (H .sourced); tally = o }
 
   pub refused-there : (p : Reason) → step S k (decoded (recordPart F k)) ≡ refused p → ending F ≡ refusedAt S p k
   unfolding ending

@@ -20,7 +20,7 @@ use Rattle.derivation.specs.Derivation.{Literal, Derivation, resolve, factor, r
 use Rattle.derivation.specs.Written.{renamed}
 use Rattle.verdict.specs.Demands.{atomOf, StepAtoms, ofResolve, ofFactor, FirstFailing, failsHere, passesHere, AllPass, Due, byTest, inResolve, inFactor}
 use Rattle.verdict.specs.Refusal.{tests, Reason, unification, badKind, outOfRange, notThere, repeatedRow, variableLiteral, wrongSigns, tooLarge, reasonNumber, kindOfRecord, leftOf, rightOf, deletedOf, isThere}
-use Rattle.verdict.specs.State.{State, rowOf, held}
+use Rattle.verdict.specs.State.{State, rowOf, held, nextClause}
 use Rattle.verdict.specs.Step.{stands, refused, step, unifyResolve, unifyFactor, enter}
 use Rattle.verdict.proofs.Inversions.{tests-passed, all-refused, is-there, clause-refused, never-both}
 use Rattle.verdict.proofs.Resolution.{enter-resolve, enter-factor, resolve-no-unifier, factor-no-unifier, resolve-not-endless, factor-not-endless}
@@ -102,12 +102,12 @@ by-unification S k r inputKind q e a z = absurd (stands-refused z)
 by-unification S k r resolveKind q e a z =
     let P = tests-passed S resolveKind r a in
     let n = named-both (leftOf S r) (rightOf S r) (P .there) in
-    let c = clause-refused S k (resolve (n .0 .0) (fieldB r) (n .1 .0) (fieldD r)) (unifyResolve S (n .0) (n .1)) q (sym (enter-resolve S k r (n .0) (n .1) (n .2) (n .3)) ∙ z) in
+    let c = clause-refused S k (resolve (nextClause S) (n .0 .0) (fieldB r) (n .1 .0) (fieldD r)) (unifyResolve S (n .0) (n .1)) q (sym (enter-resolve S k r (n .0) (n .1) (n .2) (n .3)) ∙ z) in
     (c .0, c .2, resolving e (n .2) (n .3) (signs-resolve S r (n .0) (n .1) (n .2) (n .3) (P .signs)) (c .1))
 by-unification S k r factorKind q e a z =
     let P = tests-passed S factorKind r a in
     let n = named-both (leftOf S r) (deletedOf S r) (P .there) in
-    let c = clause-refused S k (factor (n .0 .0) (fieldB r) (fieldC r)) (unifyFactor S (n .0) (n .1)) q (sym (enter-factor S k r (n .0) (n .1) (n .2) (n .3)) ∙ z) in
+    let c = clause-refused S k (factor (nextClause S) (n .0 .0) (fieldB r) (fieldC r)) (unifyFactor S (n .0) (n .1)) q (sym (enter-factor S k r (n .0) (n .1) (n .2) (n .3)) ∙ z) in
     (c .0, c .2, factoring e (n .2) (n .3) (signs-factor S r (n .0) (n .1) (n .2) (n .3) (P .signs) .0) (c .1))
 by-unification S k r otherKind q e a z = absurd (true-not-false (a .0) refl)
 

@@ -19,7 +19,7 @@ use Rattle.derivation.specs.Written.{substitution, renamed}
 use Rattle.derivation.proofs.Resolvents.{no-resolvent, is-resolvent, no-factor, is-factor, standardized-apart}
 use Rattle.verdict.specs.Demands.{atomOf, StepAtoms, ofResolve, ofFactor, ResolventAdded, FactorAdded, StandsOrLimit, itStands, resultTooLarge, workAllDone, bindingsAllHeld}
 use Rattle.verdict.specs.Refusal.{tests, Reason, badKind, outOfRange, notThere, repeatedRow, variableLiteral, wrongSigns, tooLarge, kindOfRecord, knownKind, inRange, leftOf, rightOf, deletedOf, allThere, isNew, onApplications, fittingSigns, withinLimits}
-use Rattle.verdict.specs.State.{State, rowOf, termOf, held}
+use Rattle.verdict.specs.State.{State, rowOf, termOf, held, nextClause}
 use Rattle.verdict.specs.Step.{stands, refused, Result, require, requireAll, step, addClause, unifyResolve, unifyFactor, enter}
 use Rattle.verdict.proofs.Inversions.{tests-passed, all-stand, named-stands, literal-named, clause-added}
 use Rattle.verdict.proofs.Reading.{term-of-row, one-arity}
@@ -31,10 +31,10 @@ pub at-kind : (S : State) (k : ℕ) (r : Record) (kind : Kind) → kindOfRecord 
 at-kind S k r kind e = ap (λ (z : Kind). requireAll (tests S z r) (enter S k z r)) e
 
 -- On the literals that it names, a step is its unification.
-pub enter-resolve : (S : State) (k : ℕ) (r : Record) (x y : Derivation × Literal) → leftOf S r ≡ some x → rightOf S r ≡ some y → enter S k resolveKind r ≡ addClause S k (resolve (x .0) (fieldB r) (y .0) (fieldD r)) (unifyResolve S x y)
+pub enter-resolve : (S : State) (k : ℕ) (r : Record) (x y : Derivation × Literal) → leftOf S r ≡ some x → rightOf S r ≡ some y → enter S k resolveKind r ≡ addClause S k (resolve (nextClause S) (x .0) (fieldB r) (y .0) (fieldD r)) (unifyResolve S x y)
 enter-resolve S k r x y p q = rw (p, q)
 
-pub enter-factor : (S : State) (k : ℕ) (r : Record) (x y : Derivation × Literal) → leftOf S r ≡ some x → deletedOf S r ≡ some y → enter S k factorKind r ≡ addClause S k (factor (x .0) (fieldB r) (fieldC r)) (unifyFactor S x y)
+pub enter-factor : (S : State) (k : ℕ) (r : Record) (x y : Derivation × Literal) → leftOf S r ≡ some x → deletedOf S r ≡ some y → enter S k factorKind r ≡ addClause S k (factor (nextClause S) (x .0) (fieldB r) (fieldC r)) (unifyFactor S x y)
 enter-factor S k r x y p q = rw (p, q)
 
 module _ (S : State) (H : StateOk 4096 S) (k : ℕ) (r : Record) where
@@ -50,9 +50,9 @@ module _ (S : State) (H : StateOk 4096 S) (k : ℕ) (r : Record) where
       let s = named-stands _ (leftOf S r) (rightOf S r) T (a .1) in
       made (s .0) (s .1) (named-resolve S r (s .0) (s .1) (s .2) (s .3) (tests-passed S resolveKind r (a .0))) (s .4)
     where
-      made : (x y : Derivation × Literal) → NamedResolve S r x y → addClause S k (resolve (x .0) (fieldB r) (y .0) (fieldD r)) (unifyResolve S x y) ≡ stands T → ResolventAdded Y S k r T
+      made : (x y : Derivation × Literal) → NamedResolve S r x y → addClause S k (resolve (nextClause S) (x .0) (fieldB r) (y .0) (fieldD r)) (unifyResolve S x y) ≡ stands T → ResolventAdded Y S k r T
       made x y N z =
-          let c = clause-added S k (resolve (x .0) (fieldB r) (y .0) (fieldD r)) (unifyResolve S x y) T z in
+          let c = clause-added S k (resolve (nextClause S) (x .0) (fieldB r) (y .0) (fieldD r)) (unifyResolve S x y) T z in
           let L = order-of 4096 S H (fieldA r) (x .0) (N .isLeft) .valid in
           let R = order-of 4096 S H (fieldC r) (y .0) (N .isRight) .valid in
           record {
@@ -60,10 +60,10 @@ module _ (S : State) (H : StateOk 4096 S) (k : ℕ) (r : Record) where
             right = y .0;
             isLeft = N .isLeft;
             isRight = N .isRight;
-            clause = resolve (x .0) (fieldB r) (y .0) (fieldD r) (c .0);
+            clause = resolve (nextClause S) (x .0) (fieldB r) (y .0) (fieldD r) (c .0);
             added = sym (c .3);
             apart = standardized-apart (rowOf S) (termOf S) law (x .0) (y .0) L R;
-            resolvent = is-resolvent (rowOf S) (termOf S) law (x .0) (y .0) L R (fieldB r) (fieldD r) (x .1 .0) (x .1 .1) (y .1 .1) (N .isLeftLiteral) (N .isRightLiteral ∙ ap (λ (b : Bool). some (b, y .1 .1)) (N .signs)) one (c .0) (held S, c .1, c .2) Y;
+            resolvent = is-resolvent (rowOf S) (termOf S) law (x .0) (y .0) L R (fieldB r) (fieldD r) (x .1 .0) (x .1 .1) (y .1 .1) (N .isLeftLiteral) (N .isRightLiteral ∙ ap (λ (b : Bool). some (b, y .1 .1)) (N .signs)) one (c .0) (held S, c .1, c .2) Y (nextClause S);
           }
 
   pub factor-added : (Y : Type 0) (T : State) → kindOfRecord r ≡ factorKind → step S k r ≡ stands T → FactorAdded Y S k r T
@@ -72,15 +72,15 @@ module _ (S : State) (H : StateOk 4096 S) (k : ℕ) (r : Record) where
       let s = named-stands _ (leftOf S r) (deletedOf S r) T (a .1) in
       made (s .0) (s .1) (named-factor S r (s .0) (s .1) (s .2) (s .3) (tests-passed S factorKind r (a .0))) (s .4)
     where
-      made : (x y : Derivation × Literal) → NamedFactor S r x y → addClause S k (factor (x .0) (fieldB r) (fieldC r)) (unifyFactor S x y) ≡ stands T → FactorAdded Y S k r T
+      made : (x y : Derivation × Literal) → NamedFactor S r x y → addClause S k (factor (nextClause S) (x .0) (fieldB r) (fieldC r)) (unifyFactor S x y) ≡ stands T → FactorAdded Y S k r T
       made x y N z =
-          let c = clause-added S k (factor (x .0) (fieldB r) (fieldC r)) (unifyFactor S x y) T z in
+          let c = clause-added S k (factor (nextClause S) (x .0) (fieldB r) (fieldC r)) (unifyFactor S x y) T z in
           record {
             parent = x .0;
             isParent = N .isParent;
-            clause = factor (x .0) (fieldB r) (fieldC r) (c .0);
+            clause = factor (nextClause S) (x .0) (fieldB r) (fieldC r) (c .0);
             added = sym (c .3);
-            factored = is-factor (rowOf S) (termOf S) law (x .0) (order-of 4096 S H (fieldA r) (x .0) (N .isParent) .valid) (fieldB r) (fieldC r) (x .1 .0) (x .1 .1) (y .1 .1) (N .isKept) (N .isDeleted ∙ ap (λ (b : Bool). some (b, y .1 .1)) (N .signs)) one (c .0) (held S, c .1, c .2) (N .different) Y;
+            factored = is-factor (rowOf S) (termOf S) law (x .0) (order-of 4096 S H (fieldA r) (x .0) (N .isParent) .valid) (fieldB r) (fieldC r) (x .1 .0) (x .1 .1) (y .1 .1) (N .isKept) (N .isDeleted ∙ ap (λ (b : Bool). some (b, y .1 .1)) (N .signs)) one (c .0) (held S, c .1, c .2) (N .different) Y (nextClause S);
           }
 
   -- The atoms of a resolve whose unification clashes or meets an occurrence.
@@ -157,12 +157,12 @@ module _ (S : State) (H : StateOk 4096 S) (k : ℕ) (r : Record) where
   unifiable-stands Y range s t (ofResolve {x} {y} e p q) signs τ z =
       let f = subst (λ (kind : Kind). fittingSigns S kind r ≡ true) e signs in
       let g = signs-resolve S r x y p q f in
-      outcome resolveKind (resolve (x .0) (fieldB r) (y .0) (fieldD r)) (unifyResolve S x y)
+      outcome resolveKind (resolve (nextClause S) (x .0) (fieldB r) (y .0) (fieldD r)) (unifyResolve S x y)
       (at-kind S k r resolveKind e ∙ to-limits resolveKind refl (subst (λ (kind : Kind). inRange kind r ≡ true) e range) (rw (p, q)) refl refl f ∙ ap (require (withinLimits S resolveKind r) tooLarge) (enter-resolve S k r x y p q))
       (λ w. resolve-no-unifier Y x y p q g (inl w) τ z) (λ w. resolve-no-unifier Y x y p q g (inr w) τ z) (resolve-not-endless x y p q)
   unifiable-stands Y range s t (ofFactor {x} {y} e p q) signs τ z =
       let f = subst (λ (kind : Kind). fittingSigns S kind r ≡ true) e signs in
       let g = signs-factor S r x y p q f .0 in
-      outcome factorKind (factor (x .0) (fieldB r) (fieldC r)) (unifyFactor S x y)
+      outcome factorKind (factor (nextClause S) (x .0) (fieldB r) (fieldC r)) (unifyFactor S x y)
       (at-kind S k r factorKind e ∙ to-limits factorKind refl (subst (λ (kind : Kind). inRange kind r ≡ true) e range) (rw (p, q)) refl refl f ∙ ap (require (withinLimits S factorKind r) tooLarge) (enter-factor S k r x y p q))
       (λ w. factor-no-unifier Y x y p q g (inl w) τ z) (λ w. factor-no-unifier Y x y p q g (inr w) τ z) (factor-not-endless x y p q)

@@ -18,7 +18,7 @@ use Rattle.unification.proofs.Meaning.{follow-unb, follow-appl}
 use Rattle.unification.proofs.Rows.{Below, RowOk, RowsOk, eqb-below, row-below}
 use Rattle.unification.proofs.Stability.{follow-agree}
 use Rattle.unification.proofs.Tests.{to-T}
-use Rattle.derivation.specs.Derivation.{literals, input, Literal, RowLiteral, Derivation, numbered, raise, maximumIndex, ownBindings, joined, lookup, uses}
+use Rattle.derivation.specs.Derivation.{literals, input, Literal, Derivation, numbered, raise, maximumIndex, ownBindings, joined, lookup, Use, uses}
 use Rattle.derivation.proofs.Chains.{short-joined}
 use Rattle.derivation.proofs.Known.{Known, KnownRows, KnownEnvironment, known-numbered, known-joined, known-variable, known-arguments, known-lookup, valid-stable, known-more}
 use Rattle.derivation.proofs.Literals.{leb-false-lt}
@@ -78,15 +78,15 @@ unfolding mostIndex
 index-enough = lit≤ tt
 
 -- Inputs stay inputs while clauses are added.
-inputs-more : (cs ds : List Derivation) → ((i : ℕ) (c : Derivation) → entry cs i ≡ some c → entry ds i ≡ some c) → (us : List (List RowLiteral)) → InputsOf cs us → InputsOf ds us
+inputs-more : (cs ds : List Derivation) → ((i : ℕ) (c : Derivation) → entry cs i ≡ some c → entry ds i ≡ some c) → (us : List Use) → InputsOf cs us → InputsOf ds us
 inputs-more cs ds f [] h = tt
-inputs-more cs ds f (u ∷ us) h = ((h .0 .0, f (h .0 .0) (input u) (h .0 .1)), inputs-more cs ds f us (h .1))
+inputs-more cs ds f (u ∷ us) h = (f (u .0) (input (u .0) (u .1)) (h .0), inputs-more cs ds f us (h .1))
 
-pub inputs-append : (cs : List Derivation) (us vs : List (List RowLiteral)) → InputsOf cs us → InputsOf cs vs → InputsOf cs (us ++ vs)
+pub inputs-append : (cs : List Derivation) (us vs : List Use) → InputsOf cs us → InputsOf cs vs → InputsOf cs (us ++ vs)
 inputs-append cs [] vs h k = k
 inputs-append cs (u ∷ us) vs h k = (h .0, inputs-append cs us vs (h .1) k)
 
-pub inputs-kept : (c : Derivation) (cs : List Derivation) (us : List (List RowLiteral)) → InputsOf cs us → InputsOf (c ∷ cs) us
+pub inputs-kept : (c : Derivation) (cs : List Derivation) (us : List Use) → InputsOf cs us → InputsOf (c ∷ cs) us
 inputs-kept c cs us h = inputs-more cs (c ∷ cs) (λ j d q. entry-more c cs j d q) us h
 
 rows-more : (ar ar′ : ℕ → Option ℕ) → ((s k : ℕ) → ar s ≡ some k → ar′ s ≡ some k) → (ws : List Row) → RowsOk ar ws → RowsOk ar′ ws

@@ -16,7 +16,7 @@ use Rattle.unification.proofs.Tests.{to-T, both-true, true-not-false, some-inje
 use Rattle.derivation.specs.Derivation.{literals, input, Literal, inputLiterals, Derivation, resolve, factor, numbered, raise, placed, maximumIndex, joined, lookup, uses}
 use Rattle.derivation.proofs.Validity.{Valid}
 use Rattle.verdict.specs.Refusal.{tests, mostLiterals, mostIndex, kindOfRecord, zeros, argumentRows, leftOf, rightOf, deletedOf, hasArity, allBelow, equalSigns, fittingSigns, resultFits}
-use Rattle.verdict.specs.State.{State, rowsOf, derivations, arityOf, clauseOf, rowOf, held}
+use Rattle.verdict.specs.State.{State, rowsOf, derivations, arityOf, clauseOf, rowOf, held, nextClause}
 use Rattle.verdict.specs.Step.{stands, step, addClause, unifyResolve, unifyFactor, enter}
 use Rattle.verdict.proofs.Inversions.{tests-passed, stands-same, all-stand, named-stands, literal-named, has-arity, all-below, rows-below, opposite-signs, equal-signs, not-equal, entry-new, clause-added, Passed}
 use Rattle.verdict.proofs.Standing.{StateOk, literals-enough, index-enough, inputs-append, inputs-kept, no-chains, symbol-added, row-added, clause-entered, order-of, inputs-of, ChainsAfter, resolve-chains, factor-chains}
@@ -28,7 +28,7 @@ pub record NamedResolve (S : State) (r : Record) (x y : Derivation × Literal) :
   pub isRight : clauseOf S (fieldC r) ≡ some (y .0)
   pub isRightLiteral : numbered (literals (y .0)) (fieldD r) ≡ some (y .1)
   pub signs : y .1 .0 ≡ not (x .1 .0)
-  pub literalsFit : length (literals (resolve (x .0) (fieldB r) (y .0) (fieldD r) [])) ≤ mostLiterals
+  pub literalsFit : length (literals (resolve (nextClause S) (x .0) (fieldB r) (y .0) (fieldD r) [])) ≤ mostLiterals
   pub indexFits : maximumIndex (x .0) + maximumIndex (y .0) ≤ mostIndex
 
 pub record NamedFactor (S : State) (r : Record) (x y : Derivation × Literal) : Type 0 where
@@ -38,7 +38,7 @@ pub record NamedFactor (S : State) (r : Record) (x y : Derivation × Literal) : 
   pub isDeleted : numbered (literals (x .0)) (fieldC r) ≡ some (y .1)
   pub signs : y .1 .0 ≡ x .1 .0
   pub different : ¬ (fieldB r ≡ fieldC r)
-  pub literalsFit : length (literals (factor (x .0) (fieldB r) (fieldC r) [])) ≤ mostLiterals
+  pub literalsFit : length (literals (factor (nextClause S) (x .0) (fieldB r) (fieldC r) [])) ≤ mostLiterals
   pub indexFits : maximumIndex (x .0) ≤ mostIndex
 
 fits : (c : Derivation) → resultFits c ≡ true → (length (literals c) ≤ mostLiterals) × (maximumIndex c ≤ mostIndex)
@@ -62,7 +62,7 @@ pub named-resolve : (S : State) (r : Record) (x y : Derivation × Literal) → l
 named-resolve S r x y p q a =
     let l = literal-named S (fieldA r) (fieldB r) x p in
     let m = literal-named S (fieldC r) (fieldD r) y q in
-    let f = fits (resolve (x .0) (fieldB r) (y .0) (fieldD r) []) (rw (p, q) at (a .limits)) in
+    let f = fits (resolve (nextClause S) (x .0) (fieldB r) (y .0) (fieldD r) []) (rw (p, q) at (a .limits)) in
     record { isLeft = l .0; isLeftLiteral = l .1; isRight = m .0; isRightLiteral = m .1; signs = signs-resolve S r x y p q (a .signs); literalsFit = f .0; indexFits = f .1 }
 
 pub named-factor : (S : State) (r : Record) (x y : Derivation × Literal) → leftOf S r ≡ some x → deletedOf S r ≡ some y → Passed S factorKind r → NamedFactor S r x y
@@ -71,7 +71,7 @@ named-factor S r x y p q a =
     let m = literal-named S (fieldA r) (fieldC r) y q in
     let e = same-parent S r x y p q in
     let s = signs-factor S r x y p q (a .signs) in
-    let f = fits (factor (x .0) (fieldB r) (fieldC r) []) (rw (p, q) at (a .limits)) in
+    let f = fits (factor (nextClause S) (x .0) (fieldB r) (fieldC r) []) (rw (p, q) at (a .limits)) in
     record { isParent = l .0; sameParent = e; isKept = l .1; isDeleted = subst (λ (c : Derivation). numbered (literals c) (fieldC r) ≡ some (y .1)) e (m .1); signs = s .0; different = s .1; literalsFit = f .0; indexFits = f .1 }
 
 module _ (n : ℕ) (S : State) (H : StateOk n S) (k : ℕ) (r : Record) (T : State) where
@@ -79,26 +79,26 @@ module _ (n : ℕ) (S : State) (H : StateOk n S) (k : ℕ) (r : Record) (T : Sta
   ws = rowsOf S
 
   -- The bindings of a step are unification's, so its clause is valid.
-  pub valid-resolve : (x y : Derivation × Literal) → NamedResolve S r x y → (bs : List Binding) (m : ℕ) → unifyResolve S x y ≡ unified bs m → Valid (rowOf S) (resolve (x .0) (fieldB r) (y .0) (fieldD r) bs)
+  pub valid-resolve : (x y : Derivation × Literal) → NamedResolve S r x y → (bs : List Binding) (m : ℕ) → unifyResolve S x y ≡ unified bs m → Valid (rowOf S) (resolve (nextClause S) (x .0) (fieldB r) (y .0) (fieldD r) bs)
   valid-resolve x y N bs m u = (
     order-of n S H (fieldA r) (x .0) (N .isLeft) .valid,
     order-of n S H (fieldC r) (y .0) (N .isRight) .valid,
     (x .1 .0, x .1 .1, y .1 .1, N .isLeftLiteral, N .isRightLiteral ∙ ap (λ (b : Bool). some (b, y .1 .1)) (N .signs), (held S, m, u)),
   )
 
-  pub valid-factor : (x y : Derivation × Literal) → NamedFactor S r x y → (bs : List Binding) (m : ℕ) → unifyFactor S x y ≡ unified bs m → Valid (rowOf S) (factor (x .0) (fieldB r) (fieldC r) bs)
+  pub valid-factor : (x y : Derivation × Literal) → NamedFactor S r x y → (bs : List Binding) (m : ℕ) → unifyFactor S x y ≡ unified bs m → Valid (rowOf S) (factor (nextClause S) (x .0) (fieldB r) (fieldC r) bs)
   valid-factor x y N bs m u = (
     order-of n S H (fieldA r) (x .0) (N .isParent) .valid,
     (x .1 .0, x .1 .1, y .1 .1, N .isKept, N .isDeleted ∙ ap (λ (b : Bool). some (b, y .1 .1)) (N .signs), N .different, (held S, m, u)),
   )
 
-  resolve-entered : (x y : Derivation × Literal) → NamedResolve S r x y → addClause S k (resolve (x .0) (fieldB r) (y .0) (fieldD r)) (unifyResolve S x y) ≡ stands T → StateOk (suc n) T
+  resolve-entered : (x y : Derivation × Literal) → NamedResolve S r x y → addClause S k (resolve (nextClause S) (x .0) (fieldB r) (y .0) (fieldD r)) (unifyResolve S x y) ≡ stands T → StateOk (suc n) T
   resolve-entered x y N q =
       let X = order-of n S H (fieldA r) (x .0) (N .isLeft) in
       let Y = order-of n S H (fieldC r) (y .0) (N .isRight) in
-      let c = clause-added S k (resolve (x .0) (fieldB r) (y .0) (fieldD r)) (unifyResolve S x y) T q in
+      let c = clause-added S k (resolve (nextClause S) (x .0) (fieldB r) (y .0) (fieldD r)) (unifyResolve S x y) T q in
       let z = subst (ChainsAfter n S H (joined (maximumIndex (x .0)) (lookup (x .0)) (lookup (y .0)))) (c .2) (resolve-chains n S H x y X Y (fieldB r) (fieldD r) (N .isLeftLiteral) (N .isRightLiteral)) in
-      let new = resolve (x .0) (fieldB r) (y .0) (fieldD r) (c .0) in
+      let new = resolve (nextClause S) (x .0) (fieldB r) (y .0) (fieldD r) (c .0) in
       subst (StateOk (suc n)) (c .3) (clause-entered n S H k new (room-left (c .0) (c .1) (c .2))
       (record { valid = valid-resolve x y N (c .0) (c .1) (c .2); known = (X .known, Y .known); chains = z .0; literalsFit = N .literalsFit; indexFits = N .indexFits })
       (inputs-kept new (derivations S) (uses (x .0) ++ uses (y .0)) (inputs-append (derivations S) (uses (x .0)) (uses (y .0)) (inputs-of n S H (fieldA r) (x .0) (N .isLeft)) (inputs-of n S H (fieldC r) (y .0) (N .isRight)))))
@@ -106,12 +106,12 @@ module _ (n : ℕ) (S : State) (H : StateOk n S) (k : ℕ) (r : Record) (T : Sta
       room-left : (bs : List Binding) (m : ℕ) → unifyResolve S x y ≡ unified bs m → held S + length bs ≤ mostBindings
       room-left bs m u = bindings-fit (rowOf S) (held S) (joined (maximumIndex (x .0)) (lookup (x .0)) (lookup (y .0))) (x .1 .1) (raise (maximumIndex (x .0)) (y .1 .1)) bs m u (H .heldOk)
 
-  factor-entered : (x y : Derivation × Literal) → NamedFactor S r x y → addClause S k (factor (x .0) (fieldB r) (fieldC r)) (unifyFactor S x y) ≡ stands T → StateOk (suc n) T
+  factor-entered : (x y : Derivation × Literal) → NamedFactor S r x y → addClause S k (factor (nextClause S) (x .0) (fieldB r) (fieldC r)) (unifyFactor S x y) ≡ stands T → StateOk (suc n) T
   factor-entered x y N q =
       let X = order-of n S H (fieldA r) (x .0) (N .isParent) in
-      let c = clause-added S k (factor (x .0) (fieldB r) (fieldC r)) (unifyFactor S x y) T q in
+      let c = clause-added S k (factor (nextClause S) (x .0) (fieldB r) (fieldC r)) (unifyFactor S x y) T q in
       let z = subst (ChainsAfter n S H (lookup (x .0))) (c .2) (factor-chains n S H x y X (fieldB r) (fieldC r) (N .isKept) (N .isDeleted)) in
-      let new = factor (x .0) (fieldB r) (fieldC r) (c .0) in
+      let new = factor (nextClause S) (x .0) (fieldB r) (fieldC r) (c .0) in
       subst (StateOk (suc n)) (c .3) (clause-entered n S H k new (room-left (c .0) (c .1) (c .2))
       (record { valid = valid-factor x y N (c .0) (c .1) (c .2); known = X .known; chains = z .0; literalsFit = N .literalsFit; indexFits = N .indexFits })
       (inputs-kept new (derivations S) (uses (x .0)) (inputs-of n S H (fieldA r) (x .0) (N .isParent))))
@@ -138,9 +138,9 @@ module _ (n : ℕ) (S : State) (H : StateOk n S) (k : ℕ) (r : Record) (T : Sta
       let c = both-true (leb (r .count) 7) (zeros (drop (r .count) (r .fields))) (a .ranged) in
       let f = few-literals (leb→le (r .count) 7 (to-T (leb (r .count) 7) (c .0))) in
       let h = H .heldOk in
-      subst (StateOk (suc n)) (stands-same q) (clause-entered n S H k (input (inputLiterals r)) (omega arith)
-      (record { valid = tt; known = rows-below (length ws) (inputLiterals r) (a .there); chains = no-chains ws (held S + 0) (lookup (input (inputLiterals r))) (λ x. refl); literalsFit = omega (arith, literals-enough, f); indexFits = index-enough })
-      ((length (derivations S), entry-new (input (inputLiterals r)) (derivations S)), tt))
+      subst (StateOk (suc n)) (stands-same q) (clause-entered n S H k (input (nextClause S) (inputLiterals r)) (omega arith)
+      (record { valid = tt; known = rows-below (length ws) (inputLiterals r) (a .there); chains = no-chains ws (held S + 0) (lookup (input (nextClause S) (inputLiterals r))) (λ x. refl); literalsFit = omega (arith, literals-enough, f); indexFits = index-enough })
+      (entry-new (input (nextClause S) (inputLiterals r)) (derivations S), tt))
   entered resolveKind l a q =
       let s = named-stands _ (leftOf S r) (rightOf S r) T q in
       resolve-entered (s .0) (s .1) (named-resolve S r (s .0) (s .1) (s .2) (s .3) a) (s .4)

@@ -3,23 +3,55 @@ use mathlib.Core.Path.{_≡_, refl, sym, ap, ap₂, _∙_, subst}
 use mathlib.Core.Bool.{Bool, true, false}
 use mathlib.Core.Option.{some}
 use mathlib.Core.List.{List, [], _∷_, _++_, map, append-assoc}
-use Prim.Native.Nat.{ℕ, zero, suc, _+_, _*_, _<_}
+use Prim.Native.Nat.{ℕ, zero, suc, _+_, _-_, _*_, _/_, _%_, _≤_, _<_}
 use native.Mathlib.Nat.{add-zero}
 use native.Mathlib.Omega.{arith}
 use lib.Dec.{eqb, eqb→eq}
 use lib.ListN.{length, getD, length-append, length-map, List·getD-append}
 use lib.Seq.{getD-append-add}
-use Rattle.record.specs.Record.{pick, Record, recordPart, decoded, fieldA, fieldB, fieldC, fieldD}
+use Rattle.record.specs.Record.{pick}
 use Rattle.unification.specs.Bindings.{bindingAt, bindingsFrom}
 use Rattle.unification.specs.Environment.{Binding}
 use Rattle.unification.proofs.Tests.{to-T, some-not-none, some-injective}
-use Rattle.derivation.specs.Derivation.{input, inputLiterals, Derivation, resolve, factor, ownBindings}
-use Rattle.derivation.specs.Stored.{recordCell, recordOf, Cells, Stored, storedInput, storedResolve, storedFactor}
+use Rattle.derivation.specs.Derivation.{input, RowLiteral, literalOf, Derivation, resolve, factor, ownBindings, clauseNumber}
+use Rattle.derivation.specs.Stored.{literalNumber, cellsOfOrigin, originList, originCode, originNumbers, literalsCell, Cells, Stored, storedInput, storedResolve, storedFactor}
 use Rattle.verdict.specs.State.{entry, bindingsOf}
 use Rattle.verdict.specs.Tables.{cellsOfClause, clauseCells, cellsOfBindings, bindingCells}
 use Rattle.verdict.proofs.Acceptance.{cells-length}
 use Rattle.verdict.proofs.Inversions.{entry-below, entry-more}
-use Rattle.verdict.proofs.Sources.{SourceOf, Sourced, clausesBefore, bareClause, clause-cell, entry-numbered}
+use Rattle.verdict.proofs.Sources.{Sourced, earlier, source-of, earlier-length, number-of}
+
+abbrev pub bareClause : ℕ × Derivation → Derivation
+bareClause c = c .1
+
+-- The cells of clause n in the table of clauses.
+pub clause-cell : (cs : List (ℕ × Derivation)) (n i : ℕ) (c : ℕ × Derivation) → i < 5 → entry cs n ≡ some c → getD (clauseCells cs) (5 * n + i) 0 ≡ getD (cellsOfClause (c .0) (bindingsOf (map bareClause (earlier cs n))) (c .1)) i 0
+clause-cell [] n i c l q = absurd (some-not-none refl q)
+clause-cell (d ∷ cs) n i c l q = try (eqb n (length cs)) refl q (λ p. clause-cell cs n i c l p)
+  where
+    five : List ℕ
+    five = cellsOfClause (d .0) (bindingsOf (map bareClause cs)) (d .1)
+
+    try : (b : Bool) → eqb n (length cs) ≡ b → pick b (some d) (entry cs n) ≡ some c
+        → (entry cs n ≡ some c → getD (clauseCells cs) (5 * n + i) 0 ≡ getD (cellsOfClause (c .0) (bindingsOf (map bareClause (earlier cs n))) (c .1)) i 0)
+        → getD (clauseCells cs ++ five) (5 * n + i) 0 ≡ getD (cellsOfClause (c .0) (bindingsOf (map bareClause (pick b cs (earlier cs n)))) (c .1)) i 0
+    try true p r k =
+        let e : n ≡ length cs = eqb→eq n (length cs) (to-T (eqb n (length cs)) p) in
+        let z : 5 * n + i ≡ length (clauseCells cs) + i = omega (arith, cells-length cs) in
+        ap (λ (j : ℕ). getD (clauseCells cs ++ five) j 0) z ∙ getD-append-add (clauseCells cs) five i 0
+        ∙ ap (λ (x : ℕ × Derivation). getD (cellsOfClause (x .0) (bindingsOf (map bareClause cs)) (x .1)) i 0) (some-injective r)
+    try false p r k =
+        let z = entry-below cs n c r in
+        List·getD-append (clauseCells cs) five 0 (5 * n + i) (omega (arith, cells-length cs)) ∙ k r
+
+-- The clause of a number, with its record.
+pub entry-numbered : (cs : List (ℕ × Derivation)) (n : ℕ) (d : Derivation) → entry (map (λ (c : ℕ × Derivation). c .1) cs) n ≡ some d → (k : ℕ) × (entry cs n ≡ some (k, d))
+entry-numbered [] n d q = absurd (some-not-none refl q)
+entry-numbered (c ∷ cs) n d q = try (eqb n (length cs)) (subst (λ (m : ℕ). pick (eqb n m) (some (c .1)) (entry (map bareClause cs) n) ≡ some d) (length-map cs bareClause) q) (λ p. entry-numbered cs n d p)
+  where
+    try : (b : Bool) → pick b (some (c .1)) (entry (map bareClause cs) n) ≡ some d → (entry (map bareClause cs) n ≡ some d → (k : ℕ) × (entry cs n ≡ some (k, d))) → (k : ℕ) × (pick b (some c) (entry cs n) ≡ some (k, d))
+    try true p h = (c .0, ap (λ (x : Derivation). some (c .0, x)) (some-injective p))
+    try false p h = h p
 
 -- Bindings are read off their cells.
 pub bindings-length : (bs : List Binding) → length (cellsOfBindings bs) ≡ 4 * length bs
@@ -68,13 +100,13 @@ read-bindings X Y (b ∷ bs) first l =
 
 -- The bindings of clause n stand after those of the clauses before it.
 pub clause-bindings : (cs : List (ℕ × Derivation)) (Y : List ℕ) (n : ℕ) (c : ℕ × Derivation) → entry cs n ≡ some c
-    → bindingsFrom (bindingCells (map bareClause cs) ++ Y) (bindingsOf (map bareClause (clausesBefore cs n))) (length (ownBindings (c .1))) ≡ ownBindings (c .1)
+    → bindingsFrom (bindingCells (map bareClause cs) ++ Y) (bindingsOf (map bareClause (earlier cs n))) (length (ownBindings (c .1))) ≡ ownBindings (c .1)
 clause-bindings [] Y n c q = absurd (some-not-none refl q)
 clause-bindings (d ∷ cs) Y n c q = try (eqb n (length cs)) q (λ p Z. clause-bindings cs Z n c p)
   where
     try : (b : Bool) → pick b (some d) (entry cs n) ≡ some c
-        → (entry cs n ≡ some c → (Z : List ℕ) → bindingsFrom (bindingCells (map bareClause cs) ++ Z) (bindingsOf (map bareClause (clausesBefore cs n))) (length (ownBindings (c .1))) ≡ ownBindings (c .1))
-        → bindingsFrom ((bindingCells (map bareClause cs) ++ cellsOfBindings (ownBindings (d .1))) ++ Y) (bindingsOf (map bareClause (pick b cs (clausesBefore cs n)))) (length (ownBindings (c .1))) ≡ ownBindings (c .1)
+        → (entry cs n ≡ some c → (Z : List ℕ) → bindingsFrom (bindingCells (map bareClause cs) ++ Z) (bindingsOf (map bareClause (earlier cs n))) (length (ownBindings (c .1))) ≡ ownBindings (c .1))
+        → bindingsFrom ((bindingCells (map bareClause cs) ++ cellsOfBindings (ownBindings (d .1))) ++ Y) (bindingsOf (map bareClause (pick b cs (earlier cs n)))) (length (ownBindings (c .1))) ≡ ownBindings (c .1)
     try true p k =
         let e : d ≡ c = some-injective p in
         let f : (bindingCells (map bareClause cs) ++ cellsOfBindings (ownBindings (d .1))) ++ Y ≡ bindingCells (map bareClause cs) ++ (cellsOfBindings (ownBindings (d .1)) ++ Y) = simp append-assoc in
@@ -84,10 +116,35 @@ clause-bindings (d ∷ cs) Y n c q = try (eqb n (length cs)) q (λ p Z. clause-b
         let f : (bindingCells (map bareClause cs) ++ cellsOfBindings (ownBindings (d .1))) ++ Y ≡ bindingCells (map bareClause cs) ++ (cellsOfBindings (ownBindings (d .1)) ++ Y) = simp append-assoc in
         rw f (k p (cellsOfBindings (ownBindings (d .1)) ++ Y))
 
+-- Literals are read off their numbers, and numbers off their literals.
+pub literal-back : (l : RowLiteral) → literalOf (literalNumber l) ≡ l
+literal-back l = try (l .0) refl
+  where
+    signed : (b : Bool) → l .0 ≡ b → eqb ((2 * l .1 + pick b 1 0) % 2) 1 ≡ b → (2 * l .1 + pick b 1 0) / 2 ≡ l .1 → literalOf (2 * l .1 + pick (l .0) 1 0) ≡ l
+    signed b q s h =
+        let x : eqb ((2 * l .1 + pick (l .0) 1 0) % 2) 1 ≡ l .0 = ap (λ (c : Bool). eqb ((2 * l .1 + pick c 1 0) % 2) 1) q ∙ s ∙ sym q in
+        let y : (2 * l .1 + pick (l .0) 1 0) / 2 ≡ l .1 = ap (λ (c : Bool). (2 * l .1 + pick c 1 0) / 2) q ∙ h in
+        λ i. (x i, y i)
+
+    try : (b : Bool) → l .0 ≡ b → literalOf (2 * l .1 + pick (l .0) 1 0) ≡ l
+    try true q =
+        let e : (2 * l .1 + 1) % 2 ≡ 1 = omega arith in
+        signed true q (rw e refl) (omega arith)
+    try false q =
+        let e : (2 * l .1 + 0) % 2 ≡ 0 = omega arith in
+        signed false q (rw e refl) (omega arith)
+
+pub literals-back : (ls : List RowLiteral) → map literalOf (map literalNumber ls) ≡ ls
+literals-back [] = refl
+literals-back (l ∷ ls) = ap₂ (λ (x : RowLiteral) (xs : List RowLiteral). x ∷ xs) (literal-back l) (literals-back ls)
+
 -- Tables that begin with the state's cells.
-module _ (F : List ℕ) (cs : List (ℕ × Derivation)) (H : Sourced F cs) (C Y : List ℕ) where
+module _ (cs : List (ℕ × Derivation)) (H : Sourced (map (λ (c : ℕ × Derivation). c .1) cs)) (X C Y : List ℕ) where
   abbrev ds : List Derivation
   ds = map (λ (c : ℕ × Derivation). c .1) cs
+
+  abbrev tableO : List ℕ
+  tableO = originList (map (λ (c : ℕ × Derivation). c .1) cs) ++ X
 
   abbrev tableC : List ℕ
   tableC = clauseCells cs ++ C
@@ -95,13 +152,10 @@ module _ (F : List ℕ) (cs : List (ℕ × Derivation)) (H : Sourced F cs) (C Y 
   abbrev tableB : List ℕ
   tableB = bindingCells (map (λ (c : ℕ × Derivation). c .1) cs) ++ Y
 
-  cell-there : (n i : ℕ) (c : ℕ × Derivation) → i < 5 → entry cs n ≡ some c → getD tableC (5 * n + i) 0 ≡ getD (cellsOfClause (c .0) (bindingsOf (map bareClause (clausesBefore cs n))) (c .1)) i 0
+  cell-there : (n i : ℕ) (c : ℕ × Derivation) → i < 5 → entry cs n ≡ some c → getD tableC (5 * n + i) 0 ≡ getD (cellsOfClause (c .0) (bindingsOf (map bareClause (earlier cs n))) (c .1)) i 0
   cell-there n i c l q =
       let z = entry-below cs n c q in
       List·getD-append (clauseCells cs) C 0 (5 * n + i) (omega (arith, cells-length cs)) ∙ clause-cell cs n i c l q
-
-  record-there : (n : ℕ) (c : ℕ × Derivation) → entry cs n ≡ some c → recordCell tableC n ≡ c .0
-  record-there n c q = rw add-zero at (cell-there n 0 c (omega arith) q)
 
   cells-there : (n : ℕ) (c : ℕ × Derivation) → entry cs n ≡ some c → Cells tableC tableB n (c .1)
   cells-there n c q = record {
@@ -109,44 +163,3 @@ module _ (F : List ℕ) (cs : List (ℕ × Derivation)) (H : Sourced F cs) (C Y 
     index = cell-there n 2 c (omega arith) q;
     own = ap₂ (λ (f m : ℕ). bindingsFrom tableB f m) (cell-there n 3 c (omega arith) q) (cell-there n 4 c (omega arith) q) ∙ clause-bindings cs Y n c q;
   }
-
-  source-of : (ks : List (ℕ × Derivation)) → Sourced F ks → (n : ℕ) (c : ℕ × Derivation) → entry ks n ≡ some c → SourceOf F (map bareClause (clausesBefore ks n)) (c .0) (c .1)
-  source-of [] G n c q = absurd (some-not-none refl q)
-  source-of (k ∷ ks) G n c q = try (eqb n (length ks)) q (λ p. source-of ks (G .1) n c p)
-    where
-      try : (b : Bool) → pick b (some k) (entry ks n) ≡ some c → (entry ks n ≡ some c → SourceOf F (map bareClause (clausesBefore ks n)) (c .0) (c .1)) → SourceOf F (map bareClause (pick b ks (clausesBefore ks n))) (c .0) (c .1)
-      try true p h = subst (λ (x : ℕ × Derivation). SourceOf F (map bareClause ks) (x .0) (x .1)) (some-injective p) (G .0)
-      try false p h = h p
-
-  -- A clause before clause n is a clause, with a smaller number.
-  before-entry : (ks : List (ℕ × Derivation)) (n m : ℕ) (d : Derivation) → entry (map bareClause (clausesBefore ks n)) m ≡ some d → (entry (map bareClause ks) m ≡ some d) × (m < n)
-  before-entry [] n m d q = absurd (some-not-none refl q)
-  before-entry (k ∷ ks) n m d q = try (eqb n (length ks)) refl q (λ p. before-entry ks n m d p)
-    where
-      try : (b : Bool) → eqb n (length ks) ≡ b → entry (map bareClause (pick b ks (clausesBefore ks n))) m ≡ some d → (entry (map bareClause (clausesBefore ks n)) m ≡ some d → (entry (map bareClause ks) m ≡ some d) × (m < n)) → (entry (map bareClause (k ∷ ks)) m ≡ some d) × (m < n)
-      try true e p h =
-          let z : n ≡ length ks = eqb→eq n (length ks) (to-T (eqb n (length ks)) e) in
-          let l = entry-below (map bareClause ks) m d p in
-          let w : length (map bareClause ks) ≡ length ks = length-map ks bareClause in
-          (entry-more (k .1) (map bareClause ks) m d p, omega arith)
-      try false e p h = (entry-more (k .1) (map bareClause ks) m d (h p .0), h p .1)
-
-  pub stored-clause : (d : Derivation) (n : ℕ) → entry (map (λ (c : ℕ × Derivation). c .1) cs) n ≡ some d → Stored F (clauseCells cs ++ C) (bindingCells (map (λ (c : ℕ × Derivation). c .1) cs) ++ Y) n d
-  stored-clause (input ls) n q =
-      let e = entry-numbered cs n (input ls) q in
-      let s = source-of cs H n (e .0, input ls) (e .1) in
-      let r = ap (λ (k : ℕ). decoded (recordPart F k)) (record-there n (e .0, input ls) (e .1)) in
-      storedInput (ap (λ (x : Record). x .kind) r ∙ s .0) (ap inputLiterals r ∙ s .1) (cells-there n (e .0, input ls) (e .1))
-  stored-clause (resolve l a r b bs) n q =
-      let e = entry-numbered cs n (resolve l a r b bs) q in
-      let s = source-of cs H n (e .0, resolve l a r b bs) (e .1) in
-      let w = ap (λ (k : ℕ). decoded (recordPart F k)) (record-there n (e .0, resolve l a r b bs) (e .1)) in
-      let x = before-entry cs n (fieldA (recordOf F tableC n)) l (ap (λ (y : Record). entry (map bareClause (clausesBefore cs n)) (fieldA y)) w ∙ s .1) in
-      let y = before-entry cs n (fieldC (recordOf F tableC n)) r (ap (λ (y : Record). entry (map bareClause (clausesBefore cs n)) (fieldC y)) w ∙ s .3) in
-      storedResolve (ap (λ (x : Record). x .kind) w ∙ s .0) (x .1) (stored-clause l (fieldA (recordOf F tableC n)) (x .0)) (ap fieldB w ∙ s .2) (y .1) (stored-clause r (fieldC (recordOf F tableC n)) (y .0)) (ap fieldD w ∙ s .4) (cells-there n (e .0, resolve l a r b bs) (e .1))
-  stored-clause (factor d a b bs) n q =
-      let e = entry-numbered cs n (factor d a b bs) q in
-      let s = source-of cs H n (e .0, factor d a b bs) (e .1) in
-      let w = ap (λ (k : ℕ). decoded (recordPart F k)) (record-there n (e .0, factor d a b bs) (e .1)) in
-      let x = before-entry cs n (fieldA (recordOf F tableC n)) d (ap (λ (y : Record). entry (map bareClause (clausesBefore cs n)) (fieldA y)) w ∙ s .1) in
-      storedFactor (ap (λ (x : Record). x .kind) w ∙ s .0) (x .1) (stored-clause d (fieldA (recordOf F tableC n)) (x .0)) (ap fieldB w ∙ s .2) (ap fieldC w ∙ s .3) (cells-there n (e .0, factor d a b bs) (e .1))

@@ -14,7 +14,7 @@ use Rattle.unification.specs.Row.{Expression, Variable, writtenOut}
 use Rattle.unification.specs.Term.{Term, apply}
 use Rattle.unification.specs.Unification.{mostWork, mostLinks, Failure, clash, occurs, overwork, full, unifying, noRoom}
 use Rattle.unification.specs.Unifier.{Unifies, NoUnifier}
-use Rattle.derivation.specs.Derivation.{literals, input, Literal, RowLiteral, Derivation, raise, maximumIndex, joined, lookup, uses}
+use Rattle.derivation.specs.Derivation.{literals, input, Literal, Derivation, raise, maximumIndex, joined, lookup, Use, uses}
 use Rattle.derivation.specs.Ground.{instances, Ground, Values, valueIn, WellFormedInstances, Assignment, AllTrue}
 use Rattle.derivation.specs.Textbook.{Resolvent, Factor, StandardizedApart}
 use Rattle.derivation.specs.Written.{written, substitution, renamed, WritesOut}
@@ -157,10 +157,10 @@ pub record FollowingEnds (file : List ℕ) : Type 0 where
 
 -- ── Demand 3: a variable-free refutation behind every acceptance ──
 
--- Every use is an input clause of the file.
-abbrev pub InputsOf : List Derivation → List (List RowLiteral) → Type 0
+-- Every use is the input clause of its number.
+abbrev pub InputsOf : List Derivation → List Use → Type 0
 InputsOf cs [] = Unit {0}
-InputsOf cs (u ∷ us) = ((i : ℕ) × (entry cs i ≡ some (input u))) × InputsOf cs us
+InputsOf cs (u ∷ us) = (entry cs (u .0) ≡ some (input (u .0) (u .1))) × InputsOf cs us
 
 pub record Refutation (S : State) (n : ℕ) : Type 0 where
   pub first : LowestEmpty S n

@@ -9,7 +9,7 @@ use Rattle.record.specs.Record.{Record, otherKind, Kind, symbolKind, variableKi
 use Rattle.unification.specs.Row.{variable, Row, application, noSymbol}
 use Rattle.unification.specs.Unification.{Failure, failureNumber}
 use Rattle.derivation.specs.Derivation.{literals, Literal, RowLiteral, inputLiterals, Derivation, resolve, factor, numbered, maximumIndex}
-use Rattle.verdict.specs.State.{State, rowsOf, arityOf, clauseOf, rowOf}
+use Rattle.verdict.specs.State.{State, rowsOf, arityOf, clauseOf, rowOf, nextClause}
 
 -- Reasons 1 to 9. What unification gives is in the crate unification.
 pub data Reason : Type 0 where
@@ -188,8 +188,8 @@ withinLimits S symbolKind r = true
 withinLimits S variableKind r = true
 withinLimits S applicationKind r = true
 withinLimits S inputKind r = true
-withinLimits S resolveKind r = onBoth (λ x y. resultFits (resolve (x .0) (fieldB r) (y .0) (fieldD r) [])) (leftOf S r) (rightOf S r)
-withinLimits S factorKind r = onBoth (λ x y. resultFits (factor (x .0) (fieldB r) (fieldC r) [])) (leftOf S r) (deletedOf S r)
+withinLimits S resolveKind r = onBoth (λ x y. resultFits (resolve (nextClause S) (x .0) (fieldB r) (y .0) (fieldD r) [])) (leftOf S r) (rightOf S r)
+withinLimits S factorKind r = onBoth (λ x y. resultFits (factor (nextClause S) (x .0) (fieldB r) (fieldC r) [])) (leftOf S r) (deletedOf S r)
 withinLimits S otherKind r = true
 
 -- The tests of a record, in the order of their numbers.

@@ -49,6 +49,10 @@ arityOf S s = entry (arities S) s
 abbrev pub clauseOf : State → ℕ → Option Derivation
 clauseOf S n = entry (derivations S) n
 
+-- The number that the next clause gets.
+abbrev pub nextClause : State → ℕ
+nextClause S = length (derivations S)
+
 abbrev pub rowOf : State → ℕ → Row
 rowOf S r = rowAt (rowsOf S) r
 

@@ -9,7 +9,7 @@ use Rattle.unification.specs.Environment.{Binding}
 use Rattle.unification.specs.Unification.{unify, Outcome, unified, failed}
 use Rattle.derivation.specs.Derivation.{input, Literal, inputLiterals, Derivation, resolve, factor, raise, maximumIndex, joined, lookup}
 use Rattle.verdict.specs.Refusal.{tests, Reason, unification, badKind, notThere, kindOfRecord, leftOf, rightOf, deletedOf, newRow}
-use Rattle.verdict.specs.State.{State, withSymbol, withRow, withClause, rowOf, held}
+use Rattle.verdict.specs.State.{State, withSymbol, withRow, withClause, rowOf, held, nextClause}
 
 -- A record that stands gives the next state; a refused one its reason.
 pub data Result : Type 0 where
@@ -49,11 +49,11 @@ abbrev pub enter : State → ℕ → Kind → Record → Result
 enter S k symbolKind r = stands (withSymbol S k (r .count))
 enter S k variableKind r = stands (withRow S k (newRow variableKind r))
 enter S k applicationKind r = stands (withRow S k (newRow applicationKind r))
-enter S k inputKind r = stands (withClause S k (input (inputLiterals r)))
+enter S k inputKind r = stands (withClause S k (input (nextClause S) (inputLiterals r)))
 enter S k resolveKind r =
-    onNamed (λ x y. addClause S k (resolve (x .0) (fieldB r) (y .0) (fieldD r)) (unifyResolve S x y)) (leftOf S r) (rightOf S r)
+    onNamed (λ x y. addClause S k (resolve (nextClause S) (x .0) (fieldB r) (y .0) (fieldD r)) (unifyResolve S x y)) (leftOf S r) (rightOf S r)
 enter S k factorKind r =
-    onNamed (λ x y. addClause S k (factor (x .0) (fieldB r) (fieldC r)) (unifyFactor S x y)) (leftOf S r) (deletedOf S r)
+    onNamed (λ x y. addClause S k (factor (nextClause S) (x .0) (fieldB r) (fieldC r)) (unifyFactor S x y)) (leftOf S r) (deletedOf S r)
 enter S k otherKind r = refused badKind
 
 -- Record k on a state.
