@@ -7,11 +7,12 @@ use Prim.Native.Nat.{ℕ, zero, suc, _+_, _-_, _*_, _/_, _%_, _≤_, _<_}
 use native.Mathlib.Nat.{add-zero}
 use native.Mathlib.Omega.{arith}
 use lib.Dec.{eqb, eqb→eq}
-use lib.ListN.{length, getD, length-append, length-map, List·getD-append}
-use lib.Seq.{getD-append-add}
+use lib.ListN.{length, getD, take, replicate, length-append, length-map, length-replicate, List·getD-append}
+use lib.Seq.{ext-getD, getD-append-add, take-append-seam}
 use Rattle.record.specs.Record.{pick}
 use Rattle.unification.specs.Bindings.{bindingAt, bindingsFrom}
 use Rattle.unification.specs.Environment.{Binding}
+use Rattle.unification.specs.Nodes.{part}
 use Rattle.unification.proofs.Tests.{to-T, some-not-none, some-injective}
 use Rattle.derivation.specs.Derivation.{input, RowLiteral, literalOf, Derivation, resolve, factor, ownBindings, clauseNumber}
 use Rattle.derivation.specs.Stored.{literalNumber, cellsOfOrigin, originList, originCode, originNumbers, literalsCell, Cells, Stored, storedInput, storedResolve, storedFactor}
@@ -19,7 +20,7 @@ use Rattle.verdict.specs.State.{entry, bindingsOf}
 use Rattle.verdict.specs.Tables.{cellsOfClause, clauseCells, cellsOfBindings, bindingCells}
 use Rattle.verdict.proofs.Acceptance.{cells-length}
 use Rattle.verdict.proofs.Inversions.{entry-below, entry-more}
-use Rattle.verdict.proofs.Sources.{Sourced, earlier, source-of, earlier-length, number-of}
+use Rattle.verdict.proofs.Sources.{SourceOf, Sourced, earlier, source-of, earlier-length, number-of}
 
 abbrev pub bareClause : ℕ × Derivation → Derivation
 bareClause c = c .1
@@ -163,3 +164,110 @@ module _ (cs : List (ℕ × Derivation)) (H : Sourced (map (λ (c : ℕ × Deriv
     index = cell-there n 2 c (omega arith) q;
     own = ap₂ (λ (f m : ℕ). bindingsFrom tableB f m) (cell-there n 3 c (omega arith) q) (cell-there n 4 c (omega arith) q) ∙ clause-bindings cs Y n c q;
   }
+
+  -- Every clause has eight cells in the table of origins.
+  eight : (older : List Derivation) (d : Derivation) → SourceOf older d → length (cellsOfOrigin d) ≡ 8
+  eight older (input number ls) s =
+      ap suc (length-append (map literalNumber ls) (replicate (7 - length ls) 0) ∙ omega (arith, length-map ls literalNumber, length-replicate {A = ℕ} (7 - length ls) 0, s .1))
+  eight older (factor number c a b bs) s = refl
+  eight older (resolve number l a r b bs) s = refl
+
+  origin-length : (ks : List Derivation) → Sourced ks → length (originList ks) ≡ 8 * length ks
+  origin-length [] G = refl
+  origin-length (k ∷ ks) G = length-append (originList ks) (cellsOfOrigin k) ∙ omega (arith, origin-length ks (G .1), eight ks k (G .0))
+
+  origin-cell : (ks : List Derivation) → Sourced ks → (n i : ℕ) (d : Derivation) → i < 8 → entry ks n ≡ some d → getD (originList ks) (8 * n + i) 0 ≡ getD (cellsOfOrigin d) i 0
+  origin-cell [] G n i d l q = absurd (some-not-none refl q)
+  origin-cell (k ∷ ks) G n i d l q = try (eqb n (length ks)) refl q (λ p. origin-cell ks (G .1) n i d l p)
+    where
+      try : (b : Bool) → eqb n (length ks) ≡ b → pick b (some k) (entry ks n) ≡ some d → (entry ks n ≡ some d → getD (originList ks) (8 * n + i) 0 ≡ getD (cellsOfOrigin d) i 0)
+          → getD (originList ks ++ cellsOfOrigin k) (8 * n + i) 0 ≡ getD (cellsOfOrigin d) i 0
+      try true p r h =
+          let e : n ≡ length ks = eqb→eq n (length ks) (to-T (eqb n (length ks)) p) in
+          let z : 8 * n + i ≡ length (originList ks) + i = omega (arith, origin-length ks (G .1)) in
+          ap (λ (j : ℕ). getD (originList ks ++ cellsOfOrigin k) j 0) z ∙ getD-append-add (originList ks) (cellsOfOrigin k) i 0
+          ∙ ap (λ (x : Derivation). getD (cellsOfOrigin x) i 0) (some-injective r)
+      try false p r h =
+          let z = entry-below ks n d r in
+          List·getD-append (originList ks) (cellsOfOrigin k) 0 (8 * n + i) (omega (arith, origin-length ks (G .1))) ∙ h r
+
+  -- The cells of clause n in the table of origins: cell 0, and number i.
+  origin-there : (n i : ℕ) (d : Derivation) → i < 8 → entry ds n ≡ some d → getD tableO (8 * n + i) 0 ≡ getD (cellsOfOrigin d) i 0
+  origin-there n i d l q =
+      let z = entry-below ds n d q in
+      List·getD-append (originList ds) X 0 (8 * n + i) (omega (arith, origin-length ds H)) ∙ origin-cell ds H n i d l q
+
+  code-there : (n : ℕ) (d : Derivation) → entry ds n ≡ some d → originCode tableO n ≡ getD (cellsOfOrigin d) 0 0
+  code-there n d q = rw add-zero at (origin-there n 0 d (omega arith) q)
+
+  number-there : (n i : ℕ) (d : Derivation) → i < 7 → entry ds n ≡ some d → part tableO n i ≡ getD (cellsOfOrigin d) (suc i) 0
+  unfolding part
+  number-there n i d l q =
+      let z : 8 * n + 1 + i ≡ 8 * n + suc i = omega arith in
+      ap (λ (j : ℕ). getD tableO j 0) z ∙ origin-there n (suc i) d (omega arith) q
+
+  -- An earlier clause, with a smaller number.
+  before-entry : (ks : List Derivation) (n m : ℕ) (c d : Derivation) → entry ks n ≡ some c → entry (earlier ks n) m ≡ some d → (entry ks m ≡ some d) × (m < n)
+  before-entry ks n m c d r q = (kept ks n m d q, let l = entry-below (earlier ks n) m d q in omega (arith, earlier-length ks n c r))
+    where
+      kept : (ks : List Derivation) (n m : ℕ) (d : Derivation) → entry (earlier ks n) m ≡ some d → entry ks m ≡ some d
+      kept [] n m d q = q
+      kept (k ∷ ks) n m d q = try (eqb n (length ks)) q (λ p. kept ks n m d p)
+        where
+          try : (b : Bool) → entry (pick b ks (earlier ks n)) m ≡ some d → (entry (earlier ks n) m ≡ some d → entry ks m ≡ some d) → entry (k ∷ ks) m ≡ some d
+          try true p h = entry-more k ks m d p
+          try false p h = entry-more k ks m d (h p)
+
+  -- Seven numbers, read one by one.
+  seven-numbers : (xs : List ℕ) → length xs ≡ 7 → getD xs 0 0 ∷ getD xs 1 0 ∷ getD xs 2 0 ∷ getD xs 3 0 ∷ getD xs 4 0 ∷ getD xs 5 0 ∷ getD xs 6 0 ∷ [] ≡ xs
+  seven-numbers xs l = ext-getD 0 (getD xs 0 0 ∷ getD xs 1 0 ∷ getD xs 2 0 ∷ getD xs 3 0 ∷ getD xs 4 0 ∷ getD xs 5 0 ∷ getD xs 6 0 ∷ []) xs (sym l) at
+    where
+      at : (i : ℕ) → i < 7 → getD (getD xs 0 0 ∷ getD xs 1 0 ∷ getD xs 2 0 ∷ getD xs 3 0 ∷ getD xs 4 0 ∷ getD xs 5 0 ∷ getD xs 6 0 ∷ []) i 0 ≡ getD xs i 0
+      at zero h = refl
+      at (suc zero) h = refl
+      at (suc (suc zero)) h = refl
+      at (suc (suc (suc zero))) h = refl
+      at (suc (suc (suc (suc zero)))) h = refl
+      at (suc (suc (suc (suc (suc zero))))) h = refl
+      at (suc (suc (suc (suc (suc (suc zero)))))) h = refl
+      at (suc (suc (suc (suc (suc (suc (suc i))))))) h = absurd (omega arith)
+
+  pub stored-clause : (d : Derivation) (n : ℕ) → entry (map (λ (c : ℕ × Derivation). c .1) cs) n ≡ some d
+      → Stored (originList (map (λ (c : ℕ × Derivation). c .1) cs) ++ X) (clauseCells cs ++ C) (bindingCells (map (λ (c : ℕ × Derivation). c .1) cs) ++ Y) n d
+  stored-clause (input number ls) n q =
+      let s = source-of ds H n (input number ls) q in
+      let e : number ≡ n = number-of ds H n (input number ls) q in
+      let w = entry-numbered cs n (input number ls) q in
+      let c = cells-there n (w .0, input number ls) (w .1) in
+      let numbers : List ℕ = map literalNumber ls ++ replicate (7 - length ls) 0 in
+      let at : (i : ℕ) → i < 7 → part tableO n i ≡ getD (map literalNumber ls ++ replicate (7 - length ls) 0) i 0 = λ i l. number-there n i (input number ls) l q in
+      let all : originNumbers tableO n ≡ map literalNumber ls ++ replicate (7 - length ls) 0 =
+        (λ i. at 0 (omega arith) i ∷ at 1 (omega arith) i ∷ at 2 (omega arith) i ∷ at 3 (omega arith) i ∷ at 4 (omega arith) i ∷ at 5 (omega arith) i ∷ at 6 (omega arith) i ∷ [])
+        ∙ seven-numbers (map literalNumber ls ++ replicate (7 - length ls) 0) (let z = eight (earlier ds n) (input number ls) s in omega arith) in
+      let count : literalsCell tableC n ≡ length (map literalNumber ls) = c .literalCount ∙ length-map ls (λ (l : RowLiteral). (l .0, (l .1, 1))) ∙ sym (length-map ls literalNumber) in
+      subst (λ (m : ℕ). Stored tableO tableC tableB n (input m ls)) (sym e)
+      (storedInput (code-there n (input number ls) q)
+      (ap₂ (λ (m : ℕ) (xs : List ℕ). map literalOf (take m xs)) count all ∙ ap (map literalOf) (take-append-seam (map literalNumber ls) (replicate (7 - length ls) 0)) ∙ literals-back ls)
+      (subst (λ (m : ℕ). Cells tableC tableB n (input m ls)) e c))
+  stored-clause (resolve number l a r b bs) n q =
+      let s = source-of ds H n (resolve number l a r b bs) q in
+      let e : number ≡ n = number-of ds H n (resolve number l a r b bs) q in
+      let w = entry-numbered cs n (resolve number l a r b bs) q in
+      let x = before-entry ds n (clauseNumber l) (resolve number l a r b bs) l q (s .1) in
+      let y = before-entry ds n (clauseNumber r) (resolve number l a r b bs) r q (s .2) in
+      let at : (i : ℕ) → i < 7 → part tableO n i ≡ getD (clauseNumber l ∷ a ∷ clauseNumber r ∷ b ∷ 0 ∷ 0 ∷ 0 ∷ []) i 0 = λ i k. number-there n i (resolve number l a r b bs) k q in
+      subst (λ (m : ℕ). Stored tableO tableC tableB n (resolve m l a r b bs)) (sym e)
+      (storedResolve (code-there n (resolve number l a r b bs) q)
+      (subst (λ (m : ℕ). m < n) (sym (at 0 (omega arith))) (x .1)) (subst (λ (m : ℕ). Stored tableO tableC tableB m l) (sym (at 0 (omega arith))) (stored-clause l (clauseNumber l) (x .0))) (at 1 (omega arith))
+      (subst (λ (m : ℕ). m < n) (sym (at 2 (omega arith))) (y .1)) (subst (λ (m : ℕ). Stored tableO tableC tableB m r) (sym (at 2 (omega arith))) (stored-clause r (clauseNumber r) (y .0))) (at 3 (omega arith))
+      (subst (λ (m : ℕ). Cells tableC tableB n (resolve m l a r b bs)) e (cells-there n (w .0, resolve number l a r b bs) (w .1))))
+  stored-clause (factor number d a b bs) n q =
+      let s = source-of ds H n (factor number d a b bs) q in
+      let e : number ≡ n = number-of ds H n (factor number d a b bs) q in
+      let w = entry-numbered cs n (factor number d a b bs) q in
+      let x = before-entry ds n (clauseNumber d) (factor number d a b bs) d q (s .1) in
+      let at : (i : ℕ) → i < 7 → part tableO n i ≡ getD (clauseNumber d ∷ a ∷ b ∷ 0 ∷ 0 ∷ 0 ∷ 0 ∷ []) i 0 = λ i k. number-there n i (factor number d a b bs) k q in
+      subst (λ (m : ℕ). Stored tableO tableC tableB n (factor m d a b bs)) (sym e)
+      (storedFactor (code-there n (factor number d a b bs) q)
+      (subst (λ (m : ℕ). m < n) (sym (at 0 (omega arith))) (x .1)) (subst (λ (m : ℕ). Stored tableO tableC tableB m d) (sym (at 0 (omega arith))) (stored-clause d (clauseNumber d) (x .0))) (at 1 (omega arith)) (at 2 (omega arith))
+      (subst (λ (m : ℕ). Cells tableC tableB n (factor m d a b bs)) e (cells-there n (w .0, factor number d a b bs) (w .1))))
