@@ -1,4 +1,4 @@
--- Laws of literal numbers: in a list without one element, in two lists joined, in a list of changed elements, and in a record's fields.
+-- Laws of literal numbers: in a list without one element, in two lists joined, in a list of changed elements, and in an origin's numbers.
 use mathlib.Core.Path.{_≡_, refl, sym, ap, _∙_}
 use mathlib.Core.Bool.{Bool, true, false}
 use mathlib.Core.Option.{Option, none, some}
@@ -7,8 +7,10 @@ use Prim.Native.Nat.{ℕ, zero, suc, _+_, _-_, _≤_, _<_}
 use native.Mathlib.Omega.{arith}
 use lib.Dec.{eqb, leb, ltb}
 use lib.ListN.{length, take, length-take, length-map}
-use Rattle.record.specs.Record.{pick, countOf, fieldOf, fieldsOf, decoded}
-use Rattle.derivation.specs.Derivation.{Literal, RowLiteral, literalOf, inputLiterals, numbered, without, raiseLiteral, placed}
+use Rattle.record.specs.Record.{pick}
+use Rattle.unification.specs.Nodes.{part}
+use Rattle.derivation.specs.Derivation.{Literal, RowLiteral, literalOf, numbered, without, raiseLiteral, placed}
+use Rattle.derivation.specs.Stored.{originNumbers}
 use Rattle.clauses.specs.Named.{leftOver, passed, raiseNamed}
 use Rattle.derivation.proofs.Literals.{map-numbered}
 use native.Mathlib.Numerals.{add-one}
@@ -120,28 +122,31 @@ pub raise-named-twice : (m k : ℕ) (o : Option Literal) → raiseNamed m (raise
 raise-named-twice m k none = refl
 raise-named-twice m k (some l) = let z : m + (k + l .1 .1) ≡ m + k + l .1 .1 = omega arith in ap (λ (i : ℕ). some (l .0, (l .1 .0, i))) z
 
--- The fields of a record by number.
-numbered-fields : (bytes : List ℕ) (n : ℕ) → 1 ≤ n → n ≤ 7 → numbered (fieldsOf bytes) n ≡ some (fieldOf bytes (n - 1))
-numbered-fields bytes zero l h = absurd (omega arith)
-numbered-fields bytes (suc zero) l h = refl
-numbered-fields bytes (suc (suc zero)) l h = refl
-numbered-fields bytes (suc (suc (suc zero))) l h = refl
-numbered-fields bytes (suc (suc (suc (suc zero)))) l h = refl
-numbered-fields bytes (suc (suc (suc (suc (suc zero))))) l h = refl
-numbered-fields bytes (suc (suc (suc (suc (suc (suc zero)))))) l h = refl
-numbered-fields bytes (suc (suc (suc (suc (suc (suc (suc zero))))))) l h = refl
-numbered-fields bytes (suc (suc (suc (suc (suc (suc (suc (suc n)))))))) l h = absurd (omega arith)
+-- The seven numbers of an origin by number.
+numbered-origin : (O : List ℕ) (p n : ℕ) → 1 ≤ n → n ≤ 7 → numbered (originNumbers O p) n ≡ some (part O p (n - 1))
+numbered-origin O p zero l h = absurd (omega arith)
+numbered-origin O p (suc zero) l h = refl
+numbered-origin O p (suc (suc zero)) l h = refl
+numbered-origin O p (suc (suc (suc zero))) l h = refl
+numbered-origin O p (suc (suc (suc (suc zero)))) l h = refl
+numbered-origin O p (suc (suc (suc (suc (suc zero))))) l h = refl
+numbered-origin O p (suc (suc (suc (suc (suc (suc zero)))))) l h = refl
+numbered-origin O p (suc (suc (suc (suc (suc (suc (suc zero))))))) l h = refl
+numbered-origin O p (suc (suc (suc (suc (suc (suc (suc (suc n)))))))) l h = absurd (omega arith)
 
--- An input clause's literals are its record's fields.
-pub input-few : (bytes : List ℕ) → length (inputLiterals (decoded bytes)) ≤ 7
-input-few bytes = rw length-map (rw length-take (omega arith))
+-- An input clause's literals are its origin's numbers.
+pub input-few : (O : List ℕ) (p n count : ℕ) → n ≤ length (placed 1 (map literalOf (take count (originNumbers O p)))) → n ≤ 7
+input-few O p n count h =
+    let h′ : n ≤ length (map literalOf (take count (originNumbers O p))) = rw length-map at h in
+    let h″ : n ≤ length (take count (originNumbers O p)) = rw length-map at h′ in
+    let h‴ = rw length-take at h″ in
+    omega arith
 
-pub input-numbered : (bytes : List ℕ) (n : ℕ) → 1 ≤ n → n ≤ length (placed 1 (inputLiterals (decoded bytes)))
-    → numbered (placed 1 (inputLiterals (decoded bytes))) n ≡ some (literalOf (fieldOf bytes (n - 1)) .0, (literalOf (fieldOf bytes (n - 1)) .1, 1))
-input-numbered bytes n l h =
-    let few : length (inputLiterals (decoded bytes)) ≤ 7 = input-few bytes in
-    let h′ : n ≤ length (inputLiterals (decoded bytes)) = rw length-map at h in
-    let h″ : n ≤ length (take (countOf bytes) (fieldsOf bytes)) = rw length-map at h′ in
-    map-numbered (λ (l : RowLiteral). (l .0, (l .1, 1))) (inputLiterals (decoded bytes)) n (literalOf (fieldOf bytes (n - 1)))
-    (map-numbered literalOf (take (countOf bytes) (fieldsOf bytes)) n (fieldOf bytes (n - 1))
-    (numbered-take (fieldsOf bytes) (countOf bytes) n h″ ∙ numbered-fields bytes n l (omega arith)))
+pub input-numbered : (O : List ℕ) (p count n : ℕ) → 1 ≤ n → n ≤ length (placed 1 (map literalOf (take count (originNumbers O p))))
+    → numbered (placed 1 (map literalOf (take count (originNumbers O p)))) n ≡ some (literalOf (part O p (n - 1)) .0, (literalOf (part O p (n - 1)) .1, 1))
+input-numbered O p count n l h =
+    let h′ : n ≤ length (map literalOf (take count (originNumbers O p))) = rw length-map at h in
+    let h″ : n ≤ length (take count (originNumbers O p)) = rw length-map at h′ in
+    map-numbered (λ (l : RowLiteral). (l .0, (l .1, 1))) (map literalOf (take count (originNumbers O p))) n (literalOf (part O p (n - 1)))
+    (map-numbered literalOf (take count (originNumbers O p)) n (part O p (n - 1))
+    (numbered-take (originNumbers O p) count n h″ ∙ numbered-origin O p n l (input-few O p n count h)))

@@ -5,12 +5,12 @@ use mathlib.Core.List.{List, map}
 use Prim.Native.Nat.{ℕ, _+_, _-_, _/_, _%_, _≤_, _<_}
 use native.Mathlib.Omega.{arith}
 use lib.Dec.{eqb}
-use lib.ListN.{length, length-append, length-map}
-use Rattle.record.specs.Record.{recordPart, kindOf, fieldOf, fieldA, fieldB, fieldC, fieldD}
+use lib.ListN.{length, take, length-append, length-map}
+use Rattle.unification.specs.Nodes.{part}
 use Rattle.unification.specs.Row.{same}
-use Rattle.derivation.specs.Derivation.{literals, input, RowLiteral, literalOf, inputLiterals, Derivation, resolve, factor, numbered, without, raiseLiteral, placed, maximumIndex}
+use Rattle.derivation.specs.Derivation.{literals, input, RowLiteral, literalOf, Derivation, resolve, factor, numbered, without, raiseLiteral, placed, maximumIndex}
 use Rattle.clauses.specs.Named.{namedLiteral, StoredClause, StoredLiteral, leftOver, passed, raiseNamed, ComesFrom, ComesUp, ComesFromInput}
-use Rattle.derivation.specs.Stored.{recordCell, literalsCell, indexCell, recordOf, Cells, Stored, storedInput, storedResolve, storedFactor}
+use Rattle.derivation.specs.Stored.{literalsCell, indexCell, originCode, originNumbers, Cells, Stored, storedInput, storedResolve, storedFactor}
 use Rattle.clauses.proofs.Numbers.{length-without, numbered-without, passed-in, numbered-left, numbered-right, numbered-raised, raise-named-zero, raise-named-twice, input-few, input-numbered}
 use Rattle.clauses.specs.declared.literal.NamedLiteral.the-variants.{Found}
 
@@ -20,33 +20,33 @@ maximum-low (resolve number l a r b bs) = let h = maximum-low l in omega arith
 maximum-low (factor number d a b bs) = maximum-low d
 
 -- The cells of a stored clause.
-pub stored-cells : {F C B : List ℕ} {c : ℕ} {d : Derivation} → Stored F C B c d → Cells C B c d
+pub stored-cells : {O C B : List ℕ} {c : ℕ} {d : Derivation} → Stored O C B c d → Cells C B c d
 stored-cells (storedInput k q s) = s
 stored-cells (storedResolve k la sa qa lb sb qb s) = s
 stored-cells (storedFactor k l s₁ qa qb s) = s
 
-module _ {F C : List ℕ} {c n : ℕ} (low : 1 ≤ n) (high : n ≤ literalsCell C c) where
+module _ {O C : List ℕ} {c n : ℕ} (low : 1 ≤ n) (high : n ≤ literalsCell C c) where
   -- A factor's literal comes from its parent, past the deleted one.
-  pub factor-from : {p a : ℕ} → (recordOf F C c .kind ≡ 4 → ⊥) → (recordOf F C c .kind ≡ 5 → ⊥) → p ≡ fieldA (recordOf F C c) → a ≡ fieldC (recordOf F C c)
-      → {B : List ℕ} {d : Derivation} → Stored F C B c d → (p < c) × ComesFrom F C B d n p (passed n a) 0
-  factor-from no₄ no₅ pp pa (storedInput k q s) = absurd (no₄ k)
-  factor-from no₄ no₅ pp pa (storedResolve k la sa qa lb sb qb s) = absurd (no₅ k)
-  factor-from {p} {a} no₄ no₅ pp pa {B} (storedFactor {b = b} {d = e} k l t qa qb s) =
+  pub factor-from : {p a : ℕ} → (originCode O c ≡ 1 → ⊥) → (originCode O c ≡ 3 → ⊥) → p ≡ part O c 0 → a ≡ part O c 2
+      → {B : List ℕ} {d : Derivation} → Stored O C B c d → (p < c) × ComesFrom O C B d n p (passed n a) 0
+  factor-from no₁ no₃ pp pa (storedInput k q s) = absurd (no₁ k)
+  factor-from no₁ no₃ pp pa (storedResolve k la sa qa lb sb qb s) = absurd (no₃ k)
+  factor-from {p} {a} no₁ no₃ pp pa {B} (storedFactor {b = b} {d = e} k l t qa qb s) =
       let z : b ≡ a = sym qb ∙ sym pa in
-      let t′ : Stored F C B p e = subst (λ (k : ℕ). Stored F C B k e) (sym pp) t in
+      let t′ : Stored O C B p e = subst (λ (k : ℕ). Stored O C B k e) (sym pp) t in
       let few : n ≤ length (without (literals e) b) = let h = s .literalCount in omega arith in
       let few′ : n ≤ leftOver (literalsCell C p) a = subst (λ (k : ℕ). n ≤ k) (length-without (literals e) b ∙ ap₂ leftOver (sym (stored-cells t′ .literalCount)) z) few in
       let i = passed-in (literalsCell C p) a n low few′ in
       (omega arith, record { source = e; stored = t′; low = i .0; high = i .1; same = numbered-without (literals e) b n low ∙ ap (λ (k : ℕ). numbered (literals e) (passed n k)) z ∙ raise-named-zero (numbered (literals e) (passed n a)); fits = omega arith })
 
   -- A resolvent's literal comes from the left parent, if that has so many left.
-  pub left-from : {p a : ℕ} → recordOf F C c .kind ≡ 5 → p ≡ fieldA (recordOf F C c) → a ≡ fieldB (recordOf F C c) → n ≤ leftOver (literalsCell C p) a
-      → {B : List ℕ} {d : Derivation} → Stored F C B c d → (p < c) × ComesFrom F C B d n p (passed n a) 0
-  left-from five pp pa few (storedInput k q s) = absurd (omega arith)
-  left-from five pp pa few (storedFactor k l s₁ qa qb s) = absurd (omega arith)
-  left-from {p} {a} five pp pa few {B} (storedResolve {a = a₁} {b = b₁} {l = l} {r = r} k la sa qa lb sb qb s) =
+  pub left-from : {p a : ℕ} → originCode O c ≡ 3 → p ≡ part O c 0 → a ≡ part O c 1 → n ≤ leftOver (literalsCell C p) a
+      → {B : List ℕ} {d : Derivation} → Stored O C B c d → (p < c) × ComesFrom O C B d n p (passed n a) 0
+  left-from three pp pa few (storedInput k q s) = absurd (omega arith)
+  left-from three pp pa few (storedFactor k l s₁ qa qb s) = absurd (omega arith)
+  left-from {p} {a} three pp pa few {B} (storedResolve {a = a₁} {b = b₁} {l = l} {r = r} k la sa qa lb sb qb s) =
       let z : a₁ ≡ a = sym qa ∙ sym pa in
-      let t : Stored F C B p l = subst (λ (k : ℕ). Stored F C B k l) (sym pp) sa in
+      let t : Stored O C B p l = subst (λ (k : ℕ). Stored O C B k l) (sym pp) sa in
       let few′ : n ≤ length (without (literals l) a₁) = subst (λ (k : ℕ). n ≤ k) (sym (length-without (literals l) a₁ ∙ ap₂ leftOver (sym (stored-cells t .literalCount)) z)) few in
       let i = passed-in (literalsCell C p) a n low few in (
         omega arith,
@@ -63,14 +63,14 @@ module _ {F C : List ℕ} {c n : ℕ} (low : 1 ≤ n) (high : n ≤ literalsCell
       )
 
   -- Else it comes from the right parent, with indices raised by the left maximum index.
-  pub right-from : {p a q b kept m : ℕ} → recordOf F C c .kind ≡ 5 → p ≡ fieldA (recordOf F C c) → a ≡ fieldB (recordOf F C c)
-      → q ≡ fieldC (recordOf F C c) → b ≡ fieldD (recordOf F C c) → kept ≡ leftOver (literalsCell C p) a → kept < n → m ≡ indexCell C p
-      → {B : List ℕ} {d : Derivation} → Stored F C B c d → (q < c) × ComesFrom F C B d n q (passed (n - kept) b) m
-  right-from five pp pa pq pb pk more pm (storedInput k q s) = absurd (omega arith)
-  right-from five pp pa pq pb pk more pm (storedFactor k l s₁ qa qb s) = absurd (omega arith)
-  right-from {p} {a} {q} {b} {kept} {m} five pp pa pq pb pk more pm {B} (storedResolve {a = a₁} {b = b₁} {l = l} {r = r} k la sa qa lb sb qb s) =
-      let t : Stored F C B p l = subst (λ (k : ℕ). Stored F C B k l) (sym pp) sa in
-      let t′ : Stored F C B q r = subst (λ (k : ℕ). Stored F C B k r) (sym pq) sb in
+  pub right-from : {p a q b kept m : ℕ} → originCode O c ≡ 3 → p ≡ part O c 0 → a ≡ part O c 1
+      → q ≡ part O c 2 → b ≡ part O c 3 → kept ≡ leftOver (literalsCell C p) a → kept < n → m ≡ indexCell C p
+      → {B : List ℕ} {d : Derivation} → Stored O C B c d → (q < c) × ComesFrom O C B d n q (passed (n - kept) b) m
+  right-from three pp pa pq pb pk more pm (storedInput k q s) = absurd (omega arith)
+  right-from three pp pa pq pb pk more pm (storedFactor k l s₁ qa qb s) = absurd (omega arith)
+  right-from {p} {a} {q} {b} {kept} {m} three pp pa pq pb pk more pm {B} (storedResolve {a = a₁} {b = b₁} {l = l} {r = r} k la sa qa lb sb qb s) =
+      let t : Stored O C B p l = subst (λ (k : ℕ). Stored O C B k l) (sym pp) sa in
+      let t′ : Stored O C B q r = subst (λ (k : ℕ). Stored O C B k r) (sym pq) sb in
       let z : length (without (literals l) a₁) ≡ kept = length-without (literals l) a₁ ∙ ap₂ leftOver (sym (stored-cells t .literalCount)) (sym qa ∙ sym pa) ∙ sym pk in
       let y : b₁ ≡ b = sym qb ∙ sym pb in
       let x : maximumIndex l ≡ m = sym (stored-cells t .index) ∙ sym pm in
@@ -95,35 +95,32 @@ module _ {F C : List ℕ} {c n : ℕ} (low : 1 ≤ n) (high : n ≤ literalsCell
       )
 
 -- From clause to clause.
-pub from-itself : {F C B : List ℕ} {c n : ℕ} {d : Derivation} → 1 ≤ n → n ≤ literalsCell C c → Stored F C B c d → ComesFrom F C B d n c n 0
+pub from-itself : {O C B : List ℕ} {c n : ℕ} {d : Derivation} → 1 ≤ n → n ≤ literalsCell C c → Stored O C B c d → ComesFrom O C B d n c n 0
 from-itself {n = n} {d = d} low high s = record { source = d; stored = s; low = low; high = high; same = raise-named-zero (numbered (literals d) n); fits = omega arith }
 
-pub from-further : {F C B : List ℕ} {d : Derivation} {n p k m q j i : ℕ} → (h : ComesFrom F C B d n p k m) → ComesFrom F C B (h .source) k q j i → ComesFrom F C B d n q j (m + i)
+pub from-further : {O C B : List ℕ} {d : Derivation} {n p k m q j i : ℕ} → (h : ComesFrom O C B d n p k m) → ComesFrom O C B (h .source) k q j i → ComesFrom O C B d n q j (m + i)
 from-further {m = m} {j = j} {i = i} h g =
     let a = h .fits in
     let b = g .fits in
     record { source = g .source; stored = g .stored; low = g .low; high = g .high; same = h .same ∙ ap (raiseNamed m) (g .same) ∙ raise-named-twice m i (numbered (literals (g .source)) j); fits = omega arith }
 
--- In an input clause the literal is a field of the record.
-input-at : {F C B : List ℕ} {p k : ℕ} {d : Derivation} → recordOf F C p .kind ≡ 4 → 1 ≤ k → k ≤ literalsCell C p → Stored F C B p d
-    → (k ≤ 7) × (numbered (literals d) k ≡ some (literalOf (fieldOf (recordPart F (recordCell C p)) (k - 1)) .0, (literalOf (fieldOf (recordPart F (recordCell C p)) (k - 1)) .1, 1)))
-input-at four low high (storedResolve k la sa qa lb sb qb s) = absurd (omega arith)
-input-at four low high (storedFactor k l s₁ qa qb s) = absurd (omega arith)
-input-at {F} {C} {p = p} {k = k} four low high (storedInput {ls = ls} kk q s) =
-    let e : length (placed 1 ls) ≡ length (placed 1 (inputLiterals (recordOf F C p))) = ap (λ (l : List RowLiteral). length (placed 1 l)) (sym q) in
-    let h : k ≤ length (placed 1 (inputLiterals (recordOf F C p))) = let z = s .literalCount in omega arith in
-    let few = input-few (recordPart F (recordCell C p)) in
-    let h′ : k ≤ length (inputLiterals (recordOf F C p)) = rw length-map at h in
-    (omega arith, ap (λ (l : List RowLiteral). numbered (placed 1 l) k) (sym q) ∙ input-numbered (recordPart F (recordCell C p)) k low h)
+-- In an input clause the literal is one of its seven numbers.
+input-at : {O C B : List ℕ} {p k : ℕ} {d : Derivation} → originCode O p ≡ 1 → 1 ≤ k → k ≤ literalsCell C p → Stored O C B p d
+    → (k ≤ 7) × (numbered (literals d) k ≡ some (literalOf (part O p (k - 1)) .0, (literalOf (part O p (k - 1)) .1, 1)))
+input-at one low high (storedResolve k la sa qa lb sb qb s) = absurd (omega arith)
+input-at one low high (storedFactor k l s₁ qa qb s) = absurd (omega arith)
+input-at {O} {C} {p = p} {k = k} one low high (storedInput {ls = ls} kk q s) =
+    let h : k ≤ length (placed 1 (map literalOf (take (literalsCell C p) (originNumbers O p)))) = let z = s .literalCount in rw q (omega arith) in
+    (input-few O p k (literalsCell C p) h, ap (λ (l : List RowLiteral). numbered (placed 1 l) k) (sym q) ∙ input-numbered O p (literalsCell C p) k low h)
 
-pub input-found : {F C : List ℕ} {c n p k m x : ℕ} → ComesFromInput F C c n p k m → x ≡ fieldOf (recordPart F (recordCell C p)) (k - 1)
-    → (B : List ℕ) (d : Derivation) → Stored F C B c d → Found (eqb (x % 2) 1) (x / 2) (m + 1) ≡ namedLiteral (numbered (literals d) n)
+pub input-found : {O C : List ℕ} {c n p k m x : ℕ} → ComesFromInput O C c n p k m → x ≡ part O p (k - 1)
+    → (B : List ℕ) (d : Derivation) → Stored O C B c d → Found (eqb (x % 2) 1) (x / 2) (m + 1) ≡ namedLiteral (numbered (literals d) n)
 input-found {m = m} {x = x} h q B d s =
     let f = h .from B d s in
     sym (ap namedLiteral (f .same ∙ ap (raiseNamed m) (input-at (h .isInput) (f .low) (f .high) (f .stored) .1 ∙ ap (λ (y : ℕ). some (literalOf y .0, (literalOf y .1, 1))) (sym q))))
 
 -- What the code asks of the place found.
-pub input-small : {F C : List ℕ} {c n p k m : ℕ} → ComesFromInput F C c n p k m → StoredClause F C c → (1 ≤ k) × (k ≤ 7) × (m + 1 ≤ 4096)
+pub input-small : {O C : List ℕ} {c n p k m : ℕ} → ComesFromInput O C c n p k m → StoredClause O C c → (1 ≤ k) × (k ≤ 7) × (m + 1 ≤ 4096)
 input-small h S =
     let f = h .from (S .bindings) (S .derivation) (S .stored) in
     let few = input-at (h .isInput) (f .low) (f .high) (f .stored) .0 in
@@ -132,51 +129,42 @@ input-small h S =
     let b = S .fits in
     (f .low, few, omega arith)
 
--- What the code of one step up asks and says, in its own numbers: rc the record's number, w its bytes, u its kind.
-pub comes-up : {F C : List ℕ} {c n p j k m : ℕ} → k ≡ j → StoredLiteral F C c n → ((B : List ℕ) (d : Derivation) → Stored F C B c d → (p < c) × ComesFrom F C B d n p j m) → ComesUp F C c n p k m
+-- What the code of one step up asks and says, in its own numbers: u is the code of the origin.
+pub comes-up : {O C : List ℕ} {c n p j k m : ℕ} → k ≡ j → StoredLiteral O C c n → ((B : List ℕ) (d : Derivation) → Stored O C B c d → (p < c) × ComesFrom O C B d n p j m) → ComesUp O C c n p k m
 comes-up q H up = rw q (record { below = up _ _ (H .clause .stored) .0; from = λ B d s. up B d s .1 })
 
-pub comes-high : {F C : List ℕ} {c n p k m : ℕ} → StoredLiteral F C c n → ((B : List ℕ) (d : Derivation) → Stored F C B c d → (p < c) × ComesFrom F C B d n p k m) → k ≤ literalsCell C p
+pub comes-high : {O C : List ℕ} {c n p k m : ℕ} → StoredLiteral O C c n → ((B : List ℕ) (d : Derivation) → Stored O C B c d → (p < c) × ComesFrom O C B d n p k m) → k ≤ literalsCell C p
 comes-high H up = up _ _ (H .clause .stored) .1 .high
 
-module _ {F C : List ℕ} {c n rc u : ℕ} {w : List ℕ} (H : StoredLiteral F C c n) (pr : rc ≡ recordCell C c) (pw : w ≡ recordPart F rc) (pu : u ≡ kindOf w) where
-  whole : w ≡ recordPart F (recordCell C c)
-  whole = pw ∙ ap (recordPart F) pr
+module _ {O C : List ℕ} {c n u : ℕ} (H : StoredLiteral O C c n) (pu : u ≡ originCode O c) where
+  pub factor-up : {p a : ℕ} → (originCode O c ≡ 1 → ⊥) → (u ≡ 3 → ⊥) → p ≡ part O c 0 → a ≡ part O c 2
+      → (B : List ℕ) (d : Derivation) → Stored O C B c d → (p < c) × ComesFrom O C B d n p (passed n a) 0
+  factor-up no₁ no₃ pp pa B d s = factor-from (H .low) (H .high) no₁ (λ z. no₃ (pu ∙ z)) pp pa s
 
-  pub factor-up : {p a : ℕ} → (recordOf F C c .kind ≡ 4 → ⊥) → (u ≡ 5 → ⊥) → p ≡ fieldOf w 0 → a ≡ fieldOf w 2
-      → (B : List ℕ) (d : Derivation) → Stored F C B c d → (p < c) × ComesFrom F C B d n p (passed n a) 0
-  factor-up no₄ no₅ pp pa B d s =
-      factor-from (H .low) (H .high) no₄ (λ z. no₅ (pu ∙ ap kindOf whole ∙ z)) (pp ∙ ap (λ (y : List ℕ). fieldOf y 0) whole) (pa ∙ ap (λ (y : List ℕ). fieldOf y 2) whole) s
-
-  module _ {p a count kept : ℕ} (five : u ≡ 5) (pp : p ≡ fieldOf w 0) (pa : a ≡ fieldOf w 1) (pc : count ≡ literalsCell C p) (pk : kept ≡ leftOver count a) where
-    isFive : recordOf F C c .kind ≡ 5
-    isFive = sym (pu ∙ ap kindOf whole) ∙ five
-
-    pub left-up : n ≤ kept → (B : List ℕ) (d : Derivation) → Stored F C B c d → (p < c) × ComesFrom F C B d n p (passed n a) 0
+  module _ {p a count kept : ℕ} (three : u ≡ 3) (pp : p ≡ part O c 0) (pa : a ≡ part O c 1) (pc : count ≡ literalsCell C p) (pk : kept ≡ leftOver count a) where
+    pub left-up : n ≤ kept → (B : List ℕ) (d : Derivation) → Stored O C B c d → (p < c) × ComesFrom O C B d n p (passed n a) 0
     left-up few B d s =
-        left-from (H .low) (H .high) isFive (pp ∙ ap (λ (y : List ℕ). fieldOf y 0) whole) (pa ∙ ap (λ (y : List ℕ). fieldOf y 1) whole)
-        (subst (λ (k : ℕ). n ≤ k) (pk ∙ ap (λ (k : ℕ). leftOver k a) pc) few) s
+        left-from (H .low) (H .high) (sym pu ∙ three) pp pa (subst (λ (k : ℕ). n ≤ k) (pk ∙ ap (λ (k : ℕ). leftOver k a) pc) few) s
 
-    pub right-up : {q b m : ℕ} → kept < n → q ≡ fieldOf w 2 → b ≡ fieldOf w 3 → m ≡ indexCell C p
-        → (B : List ℕ) (d : Derivation) → Stored F C B c d → (q < c) × ComesFrom F C B d n q (passed (n - kept) b) m
+    pub right-up : {q b m : ℕ} → kept < n → q ≡ part O c 2 → b ≡ part O c 3 → m ≡ indexCell C p
+        → (B : List ℕ) (d : Derivation) → Stored O C B c d → (q < c) × ComesFrom O C B d n q (passed (n - kept) b) m
     right-up more pq pb pm B d s =
-        right-from (H .low) (H .high) isFive (pp ∙ ap (λ (y : List ℕ). fieldOf y 0) whole) (pa ∙ ap (λ (y : List ℕ). fieldOf y 1) whole)
-        (pq ∙ ap (λ (y : List ℕ). fieldOf y 2) whole) (pb ∙ ap (λ (y : List ℕ). fieldOf y 3) whole) (pk ∙ ap (λ (k : ℕ). leftOver k a) pc) more pm s
+        right-from (H .low) (H .high) (sym pu ∙ three) pp pa pq pb (pk ∙ ap (λ (k : ℕ). leftOver k a) pc) more pm s
 
 -- One more step of the walk.
-pub walked : {F C : List ℕ} {c n p k m q j i : ℕ} → ((B : List ℕ) (d : Derivation) → Stored F C B c d → ComesFrom F C B d n p k m) → ComesUp F C p k q j i
-    → (B : List ℕ) (d : Derivation) → Stored F C B c d → ComesFrom F C B d n q j (m + i)
+pub walked : {O C : List ℕ} {c n p k m q j i : ℕ} → ((B : List ℕ) (d : Derivation) → Stored O C B c d → ComesFrom O C B d n p k m) → ComesUp O C p k q j i
+    → (B : List ℕ) (d : Derivation) → Stored O C B c d → ComesFrom O C B d n q j (m + i)
 walked h up B d s = let f = h B d s in from-further f (up .from B (f .source) (f .stored))
 
-pub walk-there : {F C : List ℕ} {c n p k m : ℕ} → StoredLiteral F C c n → ((B : List ℕ) (d : Derivation) → Stored F C B c d → ComesFrom F C B d n p k m) → StoredLiteral F C p k
+pub walk-there : {O C : List ℕ} {c n p k m : ℕ} → StoredLiteral O C c n → ((B : List ℕ) (d : Derivation) → Stored O C B c d → ComesFrom O C B d n p k m) → StoredLiteral O C p k
 walk-there H h =
     let S = H .clause in
     let f = h (S .bindings) (S .derivation) (S .stored) in
     let a = f .fits in
     let b = S .fits in
-    record { clause = record { bindings = S .bindings; derivation = f .source; stored = f .stored; fits = omega arith }; low = f .low; high = f .high }
+    record { clause = record { room = S .room; bindings = S .bindings; derivation = f .source; stored = f .stored; fits = omega arith }; low = f .low; high = f .high }
 
-pub walk-small : {F C : List ℕ} {c n p k m : ℕ} → StoredLiteral F C c n → ((B : List ℕ) (d : Derivation) → Stored F C B c d → ComesFrom F C B d n p k m) → m ≤ 4096
+pub walk-small : {O C : List ℕ} {c n p k m : ℕ} → StoredLiteral O C c n → ((B : List ℕ) (d : Derivation) → Stored O C B c d → ComesFrom O C B d n p k m) → m ≤ 4096
 walk-small H h =
     let S = H .clause in
     let f = h (S .bindings) (S .derivation) (S .stored) in

@@ -4,9 +4,10 @@ use mathlib.Core.Option.{Option, none, some}
 use mathlib.Core.List.{List}
 use Prim.Native.Nat.{ℕ, _+_, _-_, _≤_, _<_}
 use lib.Dec.{eqb, leb, ltb}
+use lib.ListN.{length}
 use Rattle.record.specs.Record.{pick}
 use Rattle.derivation.specs.Derivation.{literals, Literal, Derivation, numbered, raiseLiteral, maximumIndex}
-use Rattle.derivation.specs.Stored.{literalsCell, recordOf, Stored}
+use Rattle.derivation.specs.Stored.{literalsCell, originCode, Stored}
 use Rattle.clauses.specs.declared.literal.NamedLiteral.{NamedLiteral}
 use Rattle.clauses.specs.declared.literal.NamedLiteral.the-variants.{Found, Absent}
 
@@ -15,16 +16,17 @@ abbrev pub namedLiteral : Option Literal → NamedLiteral
 namedLiteral none = Absent
 namedLiteral (some l) = Found (l .0) (l .1 .0) (l .1 .1)
 
--- Clause c of the tables is some derivation, whose indices are within document 01's limit.
-pub record StoredClause (F C : List ℕ) (c : ℕ) : Type 0 where
+-- The table of origins is whole, and clause c of the tables is some derivation, whose indices are within document 01's limit.
+pub record StoredClause (O C : List ℕ) (c : ℕ) : Type 0 where
+  pub room : length O ≡ 32768
   pub bindings : List ℕ
   pub derivation : Derivation
-  pub stored : Stored F C bindings c derivation
+  pub stored : Stored O C bindings c derivation
   pub fits : maximumIndex derivation ≤ 4096
 
 -- Such a clause has a literal n.
-pub record StoredLiteral (F C : List ℕ) (c n : ℕ) : Type 0 where
-  pub clause : StoredClause F C c
+pub record StoredLiteral (O C : List ℕ) (c n : ℕ) : Type 0 where
+  pub clause : StoredClause O C c
   pub low : 1 ≤ n
   pub high : n ≤ literalsCell C c
 
@@ -41,9 +43,9 @@ raiseNamed m none = none
 raiseNamed m (some l) = some (raiseLiteral m l)
 
 -- Literal n of the derivation d is literal k of clause p, with its index raised by m.
-pub record ComesFrom (F C B : List ℕ) (d : Derivation) (n p k m : ℕ) : Type 0 where
+pub record ComesFrom (O C B : List ℕ) (d : Derivation) (n p k m : ℕ) : Type 0 where
   pub source : Derivation
-  pub stored : Stored F C B p source
+  pub stored : Stored O C B p source
   pub low : 1 ≤ k
   pub high : k ≤ literalsCell C p
   pub same : numbered (literals d) n ≡ raiseNamed m (numbered (literals source) k)
@@ -51,10 +53,10 @@ pub record ComesFrom (F C B : List ℕ) (d : Derivation) (n p k m : ℕ) : Type 
 
 -- Literal n of clause c is literal k of clause p, its index raised by m, whatever derivation clause c is. In `ComesUp` p is a parent of
 -- clause c; in `ComesFromInput` it is an input clause, where the literal is written.
-pub record ComesUp (F C : List ℕ) (c n p k m : ℕ) : Type 0 where
+pub record ComesUp (O C : List ℕ) (c n p k m : ℕ) : Type 0 where
   pub below : p < c
-  pub from : (B : List ℕ) (d : Derivation) → Stored F C B c d → ComesFrom F C B d n p k m
+  pub from : (B : List ℕ) (d : Derivation) → Stored O C B c d → ComesFrom O C B d n p k m
 
-pub record ComesFromInput (F C : List ℕ) (c n p k m : ℕ) : Type 0 where
-  pub isInput : recordOf F C p .kind ≡ 4
-  pub from : (B : List ℕ) (d : Derivation) → Stored F C B c d → ComesFrom F C B d n p k m
+pub record ComesFromInput (O C : List ℕ) (c n p k m : ℕ) : Type 0 where
+  pub isInput : originCode O p ≡ 1
+  pub from : (B : List ℕ) (d : Derivation) → Stored O C B c d → ComesFrom O C B d n p k m

@@ -1,16 +1,11 @@
 // What the tables hold of a clause, and its literals. `Named` in specs/ has the contracts; what a clause is stands in the crate derivation.
+use following::nodes::node;
 use tables::cell;
 ghost use mathlib.Core.Path.{_≡_};
-ghost use Rattle.derivation.specs.Stored.{recordCell, literalsCell, indexCell, firstCell, bindingsCell, recordOf};
+ghost use lib.ListN.{length};
+ghost use Rattle.derivation.specs.Stored.{literalsCell, indexCell, firstCell, bindingsCell, originCode};
 
 pub mod literal;
-
-// The record of clause c.
-pub fn record_cell(clauses: &[u16], c: u16) -> u16
-    ensures { λ r. ⌜ r ≡ recordCell (now (clauses .entry)) c ⌝ }
-{
-    cell(clauses, 5 * (c as usize))
-}
 
 // The number of literals of clause c.
 pub fn literals_cell(clauses: &[u16], c: u16) -> u16
@@ -40,9 +35,11 @@ pub fn bindings_cell(clauses: &[u16], c: u16) -> u16
     cell(clauses, 5 * (c as usize) + 4)
 }
 
-// The kind of clause c's record.
-pub fn clause_kind(file: &[u8], clauses: &[u16], c: u16) -> u8
-    ensures { λ r. ⌜ r ≡ recordOf (now (file .entry)) (now (clauses .entry)) c .kind ⌝ }
+// Cell 0 of clause c in the table of origins: 1 for an input clause, 2 for a factor, 3 for a resolve. Its seven numbers are read by
+// `part_of`, as a row's are.
+pub fn origin_code(origins: &[u16; 32768], c: u16) -> u16
+    requires { ⌜ length (now origins) ≡ 32768 ⌝ }
+    ensures { λ r. ⌜ r ≡ originCode (now (origins .entry)) c ⌝ }
 {
-    record::kind(record::record_part(file, record_cell(clauses, c) as usize))
+    node(origins, 8 * (c as usize))
 }

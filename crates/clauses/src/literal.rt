@@ -3,12 +3,12 @@ ghost use mathlib.Core.Path.{_≡_};
 ghost use mathlib.Core.List.{List};
 ghost use Prim.Native.Nat.{ℕ, _<_};
 ghost use Rattle.derivation.specs.Derivation.{Derivation, literals, numbered};
-ghost use Rattle.derivation.specs.Stored.{Stored, recordOf};
+ghost use Rattle.derivation.specs.Stored.{Stored, originCode};
 ghost use Rattle.clauses.specs.Named.{namedLiteral, StoredClause, StoredLiteral, leftOver, passed, ComesUp, ComesFromInput};
-use super::clause_kind;
 use super::index_cell;
 use super::literals_cell;
-use super::record_cell;
+use super::origin_code;
+use following::nodes::part_of;
 
 // A literal: its sign, true for a positive one, its atom's row and its index; or that the clause has no such literal.
 pub enum NamedLiteral {
@@ -45,22 +45,21 @@ fn passed_over(n: u16, a: u16) -> u16
 }
 
 // The parent that literal n of a resolvent or a factor comes from.
-fn parent_place(file: &[u8], clauses: &[u16], c: u16, n: u16) -> Place
-    requires { ⌜ StoredLiteral (now file) (now clauses) c n ⌝ }
-    requires { ⌜ (recordOf (now file) (now clauses) c .kind ≡ 4 → ⊥) ⌝ }
-    ensures { λ r. ⌜ ComesUp (now (file .entry)) (now (clauses .entry)) c n (r .clause) (r .number) (r .added) ⌝ }
+fn parent_place(origins: &[u16; 32768], clauses: &[u16], c: u16, n: u16) -> Place
+    requires { ⌜ StoredLiteral (now origins) (now clauses) c n ⌝ }
+    requires { ⌜ (originCode (now origins) c ≡ 1 → ⊥) ⌝ }
+    ensures { λ r. ⌜ ComesUp (now (origins .entry)) (now (clauses .entry)) c n (r .clause) (r .number) (r .added) ⌝ }
 {
-    let part = record::record_part(file, record_cell(clauses, c) as usize);
-    let left = record::field(part, 0);
-    let right = record::field(part, 2);
-    if record::kind(part) != 5 {
+    let left = part_of(origins, c, 0);
+    let right = part_of(origins, c, 2);
+    if origin_code(origins, c) != 3 {
         return Place {
             clause: left,
             number: passed_over(n, right),
             added: 0,
         };
     }
-    let a = record::field(part, 1);
+    let a = part_of(origins, c, 1);
     let kept = left_over(literals_cell(clauses, left), a);
     if n <= kept {
         return Place {
@@ -72,21 +71,21 @@ fn parent_place(file: &[u8], clauses: &[u16], c: u16, n: u16) -> Place
     let raised = index_cell(clauses, left);
     Place {
         clause: right,
-        number: passed_over(n - kept, record::field(part, 3)),
+        number: passed_over(n - kept, part_of(origins, c, 3)),
         added: raised,
     }
 }
 
 // The input clause that literal n of clause c comes from.
-fn input_place(file: &[u8], clauses: &[u16], c: u16, n: u16) -> Place
-    requires { ⌜ StoredLiteral (now file) (now clauses) c n ⌝ }
-    ensures { λ r. ⌜ ComesFromInput (now (file .entry)) (now (clauses .entry)) c n (r .clause) (r .number) (r .added) ⌝ }
+fn input_place(origins: &[u16; 32768], clauses: &[u16], c: u16, n: u16) -> Place
+    requires { ⌜ StoredLiteral (now origins) (now clauses) c n ⌝ }
+    ensures { λ r. ⌜ ComesFromInput (now (origins .entry)) (now (clauses .entry)) c n (r .clause) (r .number) (r .added) ⌝ }
 {
     let mut clause = c;
     let mut number = n;
     let mut added: u16 = 0;
-    while clause_kind(file, clauses, clause) != 4 {
-        let up = parent_place(file, clauses, clause, number);
+    while origin_code(origins, clause) != 1 {
+        let up = parent_place(origins, clauses, clause, number);
         clause = up.clause;
         number = up.number;
         added = added + up.added;
@@ -99,9 +98,9 @@ fn input_place(file: &[u8], clauses: &[u16], c: u16, n: u16) -> Place
 }
 
 // Literal n of clause c, from 1.
-pub fn literal(file: &[u8], clauses: &[u16], c: u16, n: u16) -> NamedLiteral
-    requires { ⌜ StoredClause (now file) (now clauses) c ⌝ }
-    ensures { λ r. ⌜ ((B : List ℕ) (d : Derivation) → Stored (now (file .entry)) (now (clauses .entry)) B c d → r ≡ namedLiteral (numbered (literals d) n)) ⌝ }
+pub fn literal(origins: &[u16; 32768], clauses: &[u16], c: u16, n: u16) -> NamedLiteral
+    requires { ⌜ StoredClause (now origins) (now clauses) c ⌝ }
+    ensures { λ r. ⌜ ((B : List ℕ) (d : Derivation) → Stored (now (origins .entry)) (now (clauses .entry)) B c d → r ≡ namedLiteral (numbered (literals d) n)) ⌝ }
 {
     if n == 0 {
         return NamedLiteral::Absent;
@@ -109,8 +108,7 @@ pub fn literal(file: &[u8], clauses: &[u16], c: u16, n: u16) -> NamedLiteral
     if literals_cell(clauses, c) < n {
         return NamedLiteral::Absent;
     }
-    let place = input_place(file, clauses, c, n);
-    let part = record::record_part(file, record_cell(clauses, place.clause) as usize);
-    let x = record::field(part, (place.number - 1) as u8);
+    let place = input_place(origins, clauses, c, n);
+    let x = part_of(origins, place.clause, place.number - 1);
     NamedLiteral::Found(x % 2 == 1, x / 2, place.added + 1)
 }

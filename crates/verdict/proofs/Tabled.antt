@@ -242,8 +242,8 @@ module _ (cs : List (ℕ × Derivation)) (H : Sourced (map (λ (c : ℕ × Deriv
       let numbers : List ℕ = map literalNumber ls ++ replicate (7 - length ls) 0 in
       let at : (i : ℕ) → i < 7 → part tableO n i ≡ getD (map literalNumber ls ++ replicate (7 - length ls) 0) i 0 = λ i l. number-there n i (input number ls) l q in
       let all : originNumbers tableO n ≡ map literalNumber ls ++ replicate (7 - length ls) 0 =
-        (λ i. at 0 (omega arith) i ∷ at 1 (omega arith) i ∷ at 2 (omega arith) i ∷ at 3 (omega arith) i ∷ at 4 (omega arith) i ∷ at 5 (omega arith) i ∷ at 6 (omega arith) i ∷ [])
-        ∙ seven-numbers (map literalNumber ls ++ replicate (7 - length ls) 0) (let z = eight (earlier ds n) (input number ls) s in omega arith) in
+      (λ i. at 0 (omega arith) i ∷ at 1 (omega arith) i ∷ at 2 (omega arith) i ∷ at 3 (omega arith) i ∷ at 4 (omega arith) i ∷ at 5 (omega arith) i ∷ at 6 (omega arith) i ∷ [])
+      ∙ seven-numbers (map literalNumber ls ++ replicate (7 - length ls) 0) (let z = eight (earlier ds n) (input number ls) s in omega arith) in
       let count : literalsCell tableC n ≡ length (map literalNumber ls) = c .literalCount ∙ length-map ls (λ (l : RowLiteral). (l .0, (l .1, 1))) ∙ sym (length-map ls literalNumber) in
       subst (λ (m : ℕ). Stored tableO tableC tableB n (input m ls)) (sym e)
       (storedInput (code-there n (input number ls) q)

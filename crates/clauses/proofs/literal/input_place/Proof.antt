@@ -3,36 +3,41 @@ use mathlib.Core.Path.{sym, _∙_}
 use mathlib.Core.List.{List}
 use Prim.Native.Nat.{ℕ}
 use native.Mathlib.Omega.{arith}
-use borrow.Author.Needs.{needs}
 use Rattle.derivation.specs.Derivation.{Derivation}
 use Rattle.derivation.specs.Stored.{Stored}
 use Rattle.clauses.specs.Named.{ComesFrom}
 use Rattle.clauses.proofs.Origins.{from-itself, walked, walk-there, walk-small}
+use borrow.Author.Needs.{needs}
 use Rattle.clauses.proofs.literal.input_place.Statement.{statement}
 use Rattle.clauses.proofs.literal.input_place.Tie as tie
+use Rattle.clauses.proofs.literal.input_place.Reads as reads
+use Rattle.clauses.proofs.literal.input_place.Lts as lts
+use Rattle.clauses.proofs.literal.parent_place.Reads as parent-place-reads
+use Rattle.clauses.proofs.origin_code.Reads as origin-code-reads
 
 abbrev Inv-loop : tie.InvT-loop
-Inv-loop file clauses c n clause₀ number₀ added₀ clause number added =
-    (B : List ℕ) (d : Derivation) → Stored file clauses B c d → ComesFrom file clauses B d n clause number added
+Inv-loop origins clauses c n clause₀ number₀ added₀ clause number added =
+    (B : List ℕ) (d : Derivation) → Stored origins clauses B c d → ComesFrom origins clauses B d n clause number added
 
 abbrev μ-loop : tie.MeasureT-loop
-μ-loop file clauses c n clause₀ number₀ added₀ clause number added =
+μ-loop origins clauses c n clause₀ number₀ added₀ clause number added =
     clause
 
 loop-holds : tie.Need-loop-holds Inv-loop μ-loop
 loop-holds c =
-    λ B d s. from-itself (c .before .before .pre .low) (c .before .before .pre .high) s
+    λ B d s. from-itself (c .before .pre .low) (c .before .pre .high) s
 
-clause-kind-requires : tie.Need-clause-kind-requires Inv-loop μ-loop
-clause-kind-requires c κs = search needs
+origin-code-requires : tie.Need-origin-code-requires Inv-loop μ-loop
+origin-code-requires c κs =
+    c .before .before .pre .clause .room
 
 parent-place-requires : tie.Need-parent-place-requires Inv-loop μ-loop
 parent-place-requires c κs =
-    (walk-there (c .before .before .before .before .before .pre) (c .before .before .loop .inv), λ z. c .if1 .taken (c .before .clause-kind .ensures ∙ z))
+    (walk-there (c .before .before .before .before .pre) (c .before .before .loop .inv), λ z. c .if1 .taken (c .before .origin-code .ensures ∙ z))
 
 add-added : tie.Need-add-added Inv-loop μ-loop
 add-added c =
-    omega (arith, walk-small (c .before .before .before .before .before .before .before .pre) (walked (c .before .before .before .before .loop .inv) (c .before .parent-place .ensures)))
+    omega (arith, walk-small (c .before .before .before .before .before .before .pre) (walked (c .before .before .before .before .loop .inv) (c .before .parent-place .ensures)))
 
 loop-less : tie.Need-loop-less Inv-loop μ-loop
 loop-less c =
@@ -44,7 +49,7 @@ loop-again c =
 
 returns : tie.Need-returns Inv-loop μ-loop
 returns c =
-    record { isInput = sym (c .before .clause-kind .ensures) ∙ c .if1 .left; from = c .before .before .loop .inv }
+    record { isInput = sym (c .before .origin-code .ensures) ∙ c .if1 .left; from = c .before .before .loop .inv }
 
 pub input-place-spec : {M : Type 1} → statement M
 input-place-spec =
@@ -53,7 +58,7 @@ input-place-spec =
     Inv-loop
     μ-loop
     loop-holds
-    clause-kind-requires
+    origin-code-requires
     parent-place-requires
     add-added
     loop-less

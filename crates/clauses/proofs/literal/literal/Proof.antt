@@ -3,14 +3,18 @@ use mathlib.Core.Path.{sym, ap, _∙_}
 use mathlib.Core.List.{List}
 use Prim.Native.Nat.{ℕ, _-_}
 use native.Mathlib.Omega.{arith}
-use borrow.Author.Needs.{needs}
-use Rattle.record.specs.Record.{recordPart, fieldOf}
 use Rattle.derivation.specs.Derivation.{literals, numbered}
 use Rattle.clauses.specs.Named.{namedLiteral}
 use Rattle.clauses.proofs.Numbers.{numbered-zero, numbered-past}
 use Rattle.clauses.proofs.Origins.{stored-cells, input-found, input-small}
+use borrow.Author.Needs.{needs}
 use Rattle.clauses.proofs.literal.literal.Statement.{statement}
 use Rattle.clauses.proofs.literal.literal.Tie as tie
+use Rattle.clauses.proofs.literal.literal.Reads as reads
+use Rattle.clauses.proofs.literal.literal.Lts as lts
+use Rattle.clauses.proofs.literal.input_place.Reads as input-place-reads
+use Rattle.clauses.proofs.literals_cell.Reads as literals-cell-reads
+use Rattle.following.proofs.nodes.part_of.Reads as part-of-reads
 
 returns : tie.Need-returns
 returns c =
@@ -25,35 +29,23 @@ returns-2 c =
 
 input-place-requires : tie.Need-input-place-requires
 input-place-requires c κs =
-    record { clause = c .before .before .before .before .before .pre; low = omega (arith, c .before .before .if1 .left); high = omega (arith, c .if2 .left, c .before .literals-cell .ensures) }
+    record { clause = c .before .before .before .before .pre; low = omega (arith, c .before .before .if1 .left); high = omega (arith, c .if2 .left, c .before .literals-cell .ensures) }
 
-record-cell-requires : tie.Need-record-cell-requires
-record-cell-requires c κs = search needs
+sub-part-of : tie.Need-sub-part-of
+sub-part-of c =
+    let small = input-small (c .before .input-place .ensures) (c .before .before .before .before .before .before .pre) in omega arith
 
-cast-record-part : tie.Need-cast-record-part
-cast-record-part c = search needs
+part-of-requires : tie.Need-part-of-requires
+part-of-requires c κs =
+    c .before .before .before .before .before .before .pre .room
 
-record-part-requires : tie.Need-record-part-requires
-record-part-requires c κs = search needs
-
-sub-field : tie.Need-sub-field
-sub-field c =
-    let small = input-small (c .before .before .before .input-place .ensures) (c .before .before .before .before .before .before .before .before .before .pre) in omega arith
-
-cast-field : tie.Need-cast-field
-cast-field c =
-    let small = input-small (c .before .before .before .input-place .ensures) (c .before .before .before .before .before .before .before .before .before .pre) in omega arith
-
-field-requires : tie.Need-field-requires
-field-requires c κs = search needs
-
-add-t13 : tie.Need-add-t13
-add-t13 c =
-    let small = input-small (c .before .before .before .before .before .input-place .ensures) (c .before .before .before .before .before .before .before .before .before .before .before .pre) in omega arith
+add-t10 : tie.Need-add-t10
+add-t10 c =
+    let small = input-small (c .before .before .before .input-place .ensures) (c .before .before .before .before .before .before .before .before .pre) in omega arith
 
 returns-3 : tie.Need-returns-3
 returns-3 c =
-    input-found (c .before .before .before .before .before .input-place .ensures) (c .before .field .ensures ∙ ap (λ (w : List ℕ). fieldOf w (c .before .before .before .before .before .input-place .result .number - 1)) (c .before .before .before .record-part .ensures ∙ ap (recordPart (c .before .before .before .before .before .before .before .before .before .before .before .args .file .now)) (c .before .before .before .before .record-cell .ensures)))
+    input-found (c .before .before .before .input-place .ensures) (c .before .part-of .ensures)
 
 pub literal-spec : {M : Type 1} → statement M
 literal-spec =
@@ -63,11 +55,7 @@ literal-spec =
     literals-cell-requires
     returns-2
     input-place-requires
-    record-cell-requires
-    cast-record-part
-    record-part-requires
-    sub-field
-    cast-field
-    field-requires
-    add-t13
+    sub-part-of
+    part-of-requires
+    add-t10
     returns-3)
