@@ -22,21 +22,21 @@ use Rattle.loading.proofs.ValidBindings.{in-larger, joined-in, lookup-i
 use borrow.Author.Tests.{le-leb, lt-leb}
 
 -- A clause of the tables is one derivation.
-pub stored-once : {F C B : List ℕ} {c : ℕ} {d e : Derivation} → Stored F C B c d → Stored F C B c e → d ≡ e
-stored-once (storedInput k q s) (storedInput k′ q′ s′) = ap input (sym q ∙ q′)
+pub stored-once : {O C B : List ℕ} {c : ℕ} {d e : Derivation} → Stored O C B c d → Stored O C B c e → d ≡ e
+stored-once {c = c} (storedInput k q s) (storedInput k′ q′ s′) = ap (input c) (sym q ∙ q′)
 stored-once (storedInput k q s) (storedResolve k′ la sa qa lb sb qb s′) = absurd (omega arith)
 stored-once (storedInput k q s) (storedFactor k′ la sa qa qb s′) = absurd (omega arith)
 stored-once (storedResolve k la sa qa lb sb qb s) (storedInput k′ q′ s′) = absurd (omega arith)
-stored-once (storedResolve k la sa qa lb sb qb s) (storedResolve k′ la′ sa′ qa′ lb′ sb′ qb′ s′) =
+stored-once {c = c} (storedResolve k la sa qa lb sb qb s) (storedResolve k′ la′ sa′ qa′ lb′ sb′ qb′ s′) =
     let l = stored-once sa sa′ in
     let r = stored-once sb sb′ in
-    λ i. resolve (l i) ((sym qa ∙ qa′) i) (r i) ((sym qb ∙ qb′) i) ((sym (s .own) ∙ s′ .own) i)
+    λ i. resolve c (l i) ((sym qa ∙ qa′) i) (r i) ((sym qb ∙ qb′) i) ((sym (s .own) ∙ s′ .own) i)
 stored-once (storedResolve k la sa qa lb sb qb s) (storedFactor k′ la′ sa′ qa′ qb′ s′) = absurd (omega arith)
 stored-once (storedFactor k la sa qa qb s) (storedInput k′ q′ s′) = absurd (omega arith)
 stored-once (storedFactor k la sa qa qb s) (storedResolve k′ la′ sa′ qa′ lb′ sb′ qb′ s′) = absurd (omega arith)
-stored-once (storedFactor k la sa qa qb s) (storedFactor k′ la′ sa′ qa′ qb′ s′) =
+stored-once {c = c} (storedFactor k la sa qa qb s) (storedFactor k′ la′ sa′ qa′ qb′ s′) =
     let l = stored-once sa sa′ in
-    λ i. factor (l i) ((sym qa ∙ qa′) i) ((sym qb ∙ qb′) i) ((sym (s .own) ∙ s′ .own) i)
+    λ i. factor c (l i) ((sym qa ∙ qa′) i) ((sym qb ∙ qb′) i) ((sym (s .own) ∙ s′ .own) i)
 
 -- Every variable of the step reads free.
 abbrev pub ReadsFree : List ℕ → ℕ → List ℕ → Type 0
@@ -68,15 +68,15 @@ within-zero m ρ x l h =
     rw (le-leb (x .1) (0 + m) (omega arith), lt-leb (x .1) 0 (omega arith)) (else-none (raiseAnswer 0 (ρ (x .0, x .1 - 0))) ∙ raise-zero (ρ (x .0, x .1 - 0)) ∙ ap (λ (k : ℕ). ρ (x .0, k)) z)
 
 -- A factor's parent, loaded into an array that reads free.
-pub factor-reads : {F C B N A A₁ : List ℕ} {c top : ℕ} {d : Derivation} → Stored F C B c d → maximumIndex d ≡ top → top ≤ 4096
-    → ReadsFree N top A → Loaded F C B N A A₁ c 0 → ReadsExactly N top A₁ (lookup d)
+pub factor-reads : {O C B N A A₁ : List ℕ} {c top : ℕ} {d : Derivation} → Stored O C B c d → maximumIndex d ≡ top → top ≤ 4096
+    → ReadsFree N top A → Loaded O C B N A A₁ c 0 → ReadsExactly N top A₁ (lookup d)
 factor-reads {N = N} {A = A} {d = d} s q fits free L x g v =
     let high = g .high in
     L .reads d s x (in-larger fits g) v ∙ ap (orElse (within 0 (maximumIndex d) (lookup d) x)) (free x g v) ∙ within-zero (maximumIndex d) (lookup d) x (g .low) (omega arith)
 
 -- A resolvent's parents, loaded one after the other, the right one above the left maximum index.
-pub resolve-reads : {F C B N A A₁ A₂ : List ℕ} {c e o top : ℕ} {l r : Derivation} → Stored F C B c l → Stored F C B e r → o ≡ maximumIndex l → maximumIndex l + maximumIndex r ≡ top → top ≤ 4096
-    → ReadsFree N top A → Loaded F C B N A A₁ c 0 → Loaded F C B N A₁ A₂ e o → ReadsExactly N top A₂ (joined (maximumIndex l) (lookup l) (lookup r))
+pub resolve-reads : {O C B N A A₁ A₂ : List ℕ} {c e o top : ℕ} {l r : Derivation} → Stored O C B c l → Stored O C B e r → o ≡ maximumIndex l → maximumIndex l + maximumIndex r ≡ top → top ≤ 4096
+    → ReadsFree N top A → Loaded O C B N A A₁ c 0 → Loaded O C B N A₁ A₂ e o → ReadsExactly N top A₂ (joined (maximumIndex l) (lookup l) (lookup r))
 resolve-reads {N = N} {A = A} {A₁ = A₁} {l = l} {r = r} sl sr po q fits free L L′ x g v =
     let high = g .high in
     let z : maximumIndex l ≡ 0 + maximumIndex l = omega arith in
@@ -101,15 +101,15 @@ models-exact N A top ρ T fits room reads kept ends =
     }
 
 -- The same from the loads of a step: what is left to show is that following ends.
-pub factor-models : {F C B N A A₁ : List ℕ} {c top : ℕ} {d : Derivation} → NodesOk N → Stored F C B c d → BindingsIn N d → maximumIndex d ≡ top → top ≤ 4096
-    → ReadsFree N top A → Loaded F C B N A A₁ c 0
+pub factor-models : {O C B N A A₁ : List ℕ} {c top : ℕ} {d : Derivation} → NodesOk N → Stored O C B c d → BindingsIn N d → maximumIndex d ≡ top → top ≤ 4096
+    → ReadsFree N top A → Loaded O C B N A A₁ c 0
     → ((e : Expression) → HasRow N (e .0) → Ends (follow (nodeRow N) mostLinks (lookup d) e)) → Models N top A₁ (lookup d)
 factor-models {N = N} {A₁ = A₁} {top = top} {d = d} T s K q fits free L ends =
     models-exact N A₁ top (lookup d) T fits (L .room) (factor-reads s q fits free L)
     (λ e f p g. subst (λ (k : ℕ). InStep N k f) q (lookup-in-step N d K e f p .1)) ends
 
-pub resolve-models : {F C B N A A₁ A₂ : List ℕ} {c e o top : ℕ} {l r : Derivation} → NodesOk N → Stored F C B c l → BindingsIn N l → Stored F C B e r → BindingsIn N r
-    → o ≡ maximumIndex l → maximumIndex l + maximumIndex r ≡ top → top ≤ 4096 → ReadsFree N top A → Loaded F C B N A A₁ c 0 → Loaded F C B N A₁ A₂ e o
+pub resolve-models : {O C B N A A₁ A₂ : List ℕ} {c e o top : ℕ} {l r : Derivation} → NodesOk N → Stored O C B c l → BindingsIn N l → Stored O C B e r → BindingsIn N r
+    → o ≡ maximumIndex l → maximumIndex l + maximumIndex r ≡ top → top ≤ 4096 → ReadsFree N top A → Loaded O C B N A A₁ c 0 → Loaded O C B N A₁ A₂ e o
     → ((f : Expression) → HasRow N (f .0) → Ends (follow (nodeRow N) mostLinks (joined (maximumIndex l) (lookup l) (lookup r)) f))
     → Models N top A₂ (joined (maximumIndex l) (lookup l) (lookup r))
 resolve-models {N = N} {A₂ = A₂} {top = top} {l = l} {r = r} T sl Kl sr Kr po q fits free L L′ ends =

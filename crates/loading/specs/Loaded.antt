@@ -51,11 +51,6 @@ putClause N o (input number ls) A = A
 putClause N o (resolve number l a r b bs) A = putClause N (o + maximumIndex l) r (putClause N o l (putBindings N o bs A))
 putClause N o (factor number d a b bs) A = putClause N o d (putBindings N o bs A)
 
-abbrev pub putParents : List ℕ → ℕ → Derivation → List ℕ → List ℕ
-putParents N o (input number ls) A = A
-putParents N o (resolve number l a r b bs) A = putClause N (o + maximumIndex l) r (putClause N o l A)
-putParents N o (factor number d a b bs) A = putClause N o d A
-
 -- A binding of a clause whose maximum index is m: of a variable of the table, to an expression of the table, at indices from 1 to m.
 pub record BindingIn (N : List ℕ) (m : ℕ) (b : Binding) : Type 0 where
   pub bound : InStep N m (b .0)
@@ -78,31 +73,25 @@ BindingsIn N (resolve number l a r b bs) =
     BindingsIn N l × BindingsIn N r × AllIn N (maximumIndex l + maximumIndex r) bs × AllFree (joined (maximumIndex l) (lookup l) (lookup r)) bs
 BindingsIn N (factor number d a b bs) = BindingsIn N d × AllIn N (maximumIndex d) bs × AllFree (lookup d) bs
 
--- What loading clause c at offset o asks: the lengths of node table N and array A, and a derivation that is clause c of the tables, whose
+-- What loading clause c at offset o asks: the lengths of node table N, table of origins O and array A, and a derivation that is clause c of the tables, whose
 -- bindings are in range and whose indices, raised by o, are within document 01's limit.
-pub record Loadable (F C B N A : List ℕ) (c o : ℕ) : Type 0 where
+pub record Loadable (O C B N A : List ℕ) (c o : ℕ) : Type 0 where
   pub nodes : NodesOk N
   pub nodeRoom : length N ≡ 32768
+  pub originRoom : length O ≡ 32768
   pub room : length A ≡ 524416
   pub derivation : Derivation
-  pub stored : Stored F C B c derivation
+  pub stored : Stored O C B c derivation
   pub bindings : BindingsIn N derivation
   pub fits : o + maximumIndex derivation ≤ 4096
 
 -- What it says of the array A′ left: every cell, by its definition; and what a variable reads: what is looked up in the clause, and else
 -- what was read before.
-pub record Loaded (F C B N A A′ : List ℕ) (c o : ℕ) : Type 0 where
+pub record Loaded (O C B N A A′ : List ℕ) (c o : ℕ) : Type 0 where
   pub room : length A′ ≡ 524416
-  pub cells : (d : Derivation) → Stored F C B c d → A′ ≡ putClause N o d A
-  pub reads : (d : Derivation) → Stored F C B c d → (x : Variable) → InStep N 4096 x → isVariable N (x .0) ≡ true
+  pub cells : (d : Derivation) → Stored O C B c d → A′ ≡ putClause N o d A
+  pub reads : (d : Derivation) → Stored O C B c d → (x : Variable) → InStep N 4096 x → isVariable N (x .0) ≡ true
       → readCell N A′ x ≡ orElse (within o (maximumIndex d) (lookup d) x) (readCell N A x)
-
--- Clause c has a parent p, to be loaded last, at offset q: the array A′ left is one in which all that is to be put for the parents of c has been
--- put, but for p.
-pub record LastParent (F C B N A A′ : List ℕ) (c o p q : ℕ) : Type 0 where
-  pub smaller : p < c
-  pub ready : Loadable F C B N A′ p q
-  pub rest : (d e : Derivation) → Stored F C B c d → Stored F C B p e → putParents N o d A ≡ putClause N q e A′
 
 -- What putting n bindings of the table into the array asks, from the first on at offset o: they are in range; and what it says.
 pub record Puttable (B N A : List ℕ) (first n o : ℕ) : Type 0 where

@@ -1,20 +1,12 @@
 // Loading a clause: one walk through its parents that puts every binding it finds into the array of values, so that following a
-// variable afterwards is a read of the array. No variable is bound twice in a derivation, so a clause's own bindings can be put first, and
-// the walk goes on with one parent by a loop; only a clause with two derived parents takes a call.
+// variable afterwards is a read of the array. No variable is bound twice in a derivation, so a clause's own bindings can be put first.
 ghost use mathlib.Core.Path.{_≡_};
-ghost use Rattle.loading.specs.Loaded.{Loadable, Loaded, LastParent, Puttable, BindingsPut, BindingThere, putCells};
-ghost use Rattle.derivation.specs.Stored.{recordOf};
+ghost use Rattle.loading.specs.Loaded.{Loadable, Loaded, Puttable, BindingsPut, BindingThere, putCells};
 use clauses::bindings_cell;
-use clauses::clause_kind;
 use clauses::first_cell;
 use clauses::index_cell;
-use clauses::record_cell;
-
-// A parent, and what is added to the indices of its bindings.
-struct Parent {
-    clause: u16,
-    offset: u16,
-}
+use clauses::origin_code;
+use following::nodes::part_of;
 
 // The binding at `at` is put into the array with its indices raised by the offset.
 fn put_binding(
@@ -55,9 +47,10 @@ fn put_bindings(
     }
 }
 
-// The bindings of clause c and those of its parents are put into the array, indices raised by the offset.
+// The bindings of clause c and those of its parents are put into the array, indices raised by the offset; those of a right parent above the
+// left maximum index. Each parent has a smaller number. An input clause has no bindings, so that beside one the other parent is the last.
 pub fn load(
-    file: &[u8],
+    origins: &[u16; 32768],
     clauses: &[u16],
     bindings: &[u16],
     nodes: &[u16; 32768],
@@ -65,78 +58,25 @@ pub fn load(
     c: u16,
     offset: u16,
 )
-    requires { ⌜ Loadable (now file) (now clauses) (now bindings) (now nodes) (now values) c offset ⌝ }
-    ensures { λ _. ⌜ Loaded (now (file .entry)) (now (clauses .entry)) (now (bindings .entry)) (now (nodes .entry)) (now (values .entry)) (now (values .exit)) c offset ⌝ }
+    requires { ⌜ Loadable (now origins) (now clauses) (now bindings) (now nodes) (now values) c offset ⌝ }
+    ensures { λ _. ⌜ Loaded (now (origins .entry)) (now (clauses .entry)) (now (bindings .entry)) (now (nodes .entry)) (now (values .entry)) (now (values .exit)) c offset ⌝ }
 {
-    let mut clause = c;
-    let mut raised = offset;
-    while clause_kind(file, clauses, clause) != 4 {
-        put_bindings(
-            bindings,
-            nodes,
-            values,
-            first_cell(clauses, clause),
-            bindings_cell(clauses, clause),
-            raised,
-        );
-        let last = to_last_parent(file, clauses, bindings, nodes, values, clause, raised);
-        clause = last.clause;
-        raised = last.offset;
+    let code = origin_code(origins, c);
+    if code == 1 {
+        return;
     }
-}
-
-// The parent of clause c that is loaded last: the right one, or the left one where it is the only one that has bindings. A left one before it
-// is loaded here, a right one is to be loaded above the left maximum index.
-fn to_last_parent(
-    file: &[u8],
-    clauses: &[u16],
-    bindings: &[u16],
-    nodes: &[u16; 32768],
-    values: &mut [u16; 524416],
-    c: u16,
-    offset: u16,
-) -> Parent
-    requires { ⌜ Loadable (now file) (now clauses) (now bindings) (now nodes) (now values) c offset ⌝ }
-    requires { ⌜ (recordOf (now file) (now clauses) c .kind ≡ 4 → ⊥) ⌝ }
-    ensures { λ r. ⌜ LastParent (now (file .entry)) (now (clauses .entry)) (now (bindings .entry)) (now (nodes .entry)) (now (values .entry)) (now (values .exit)) c offset (r .clause) (r .offset) ⌝ }
-{
-    let part = record::record_part(file, record_cell(clauses, c) as usize);
-    let left = record::field(part, 0);
-    let right = record::field(part, 2);
-    if record::kind(part) != 5 {
-        return Parent {
-            clause: left,
-            offset: offset,
-        };
+    let first = first_cell(clauses, c);
+    let n = bindings_cell(clauses, c);
+    put_bindings(bindings, nodes, values, first, n, offset);
+    let left = part_of(origins, c, 0);
+    if code != 3 {
+        return load(origins, clauses, bindings, nodes, values, left, offset);
     }
-    if clause_kind(file, clauses, right) == 4 {
-        return Parent {
-            clause: left,
-            offset: offset,
-        };
+    let right = part_of(origins, c, 2);
+    if origin_code(origins, right) == 1 {
+        return load(origins, clauses, bindings, nodes, values, left, offset);
     }
-    load_left(file, clauses, bindings, nodes, values, left, offset);
+    load(origins, clauses, bindings, nodes, values, left, offset);
     let above = offset + index_cell(clauses, left);
-    Parent {
-        clause: right,
-        offset: above,
-    }
-}
-
-// Loads a left parent. Most are input clauses, which have no bindings: they take no call. Each has a smaller number.
-fn load_left(
-    file: &[u8],
-    clauses: &[u16],
-    bindings: &[u16],
-    nodes: &[u16; 32768],
-    values: &mut [u16; 524416],
-    c: u16,
-    offset: u16,
-)
-    requires { ⌜ Loadable (now file) (now clauses) (now bindings) (now nodes) (now values) c offset ⌝ }
-    ensures { λ _. ⌜ Loaded (now (file .entry)) (now (clauses .entry)) (now (bindings .entry)) (now (nodes .entry)) (now (values .entry)) (now (values .exit)) c offset ⌝ }
-{
-    if clause_kind(file, clauses, c) != 4 {
-        load(file, clauses, bindings, nodes, values, c, offset);
-    }
+    load(origins, clauses, bindings, nodes, values, right, above)
 }
