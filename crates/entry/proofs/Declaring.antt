@@ -16,6 +16,7 @@ use Rattle.unification.specs.Row.{variable, Row, application}
 use Rattle.unification.proofs.Lists.{Each}
 use Rattle.unification.proofs.Tests.{to-T, both-true, true-not-false}
 use Rattle.derivation.specs.Derivation.{literals, input, RowLiteral, literalOf, inputLiterals, Derivation, placed, maximumIndex, ownBindings}
+use Rattle.derivation.specs.Stored.{cellsOfOrigin, originTableOf}
 use Rattle.entry.specs.Program.{nodeCells, withNode, isRepeated, noVariable, moreSymbols, moreRows, moreClauses, SymbolLeft, symbolLeft, symbolEntered, RowLeft, rowLeft, rowEntered, variableEntered, applicationThere, applicationEntered, InputLeft, inputLeft, inputEntered}
 use Rattle.tables.specs.Cells.{withClauseCells}
 use Rattle.fields.specs.Fields.{arityIn}
@@ -26,7 +27,7 @@ use Rattle.verdict.specs.Step.{stands, Result, require, step}
 use Rattle.verdict.specs.Tables.{Tables, symbolCells, rowCells, clauseCells, bindingCells, filled, filledTables}
 use Rattle.verdict.proofs.Acceptance.{cells-length}
 use Rattle.verdict.proofs.Advance.{RowFits}
-use Rattle.entry.proofs.Entering.{repeated-row, variable-tests, row-written, variable-cells, application-cells}
+use Rattle.entry.proofs.Entering.{repeated-row, variable-tests, row-written, clause-written, variable-cells, application-cells, input-cells}
 use Rattle.entry.proofs.Filling.{filled-set, filled-five, filled-low}
 use Rattle.verdict.proofs.Inversions.{rows-below, not-equal, entry-more, entry-none, not-below}
 use Rattle.entry.proofs.Kept.{stand, Sizes, sizes, few-records, same-rows, few-symbols, few-rows, few-clauses, rows-fit, kept-next}
@@ -71,7 +72,7 @@ symbol-cell (x ∷ xs) P h s l = try (eqb s (length xs)) refl (λ m. symbol-cell
         let r = ih m in
         (r .0, entry-more (x .1) (map (λ (y : ℕ × ℕ). y .1) xs) s (r .0 .1) (r .1), ap (λ (l : List ℕ). getD l s 0) more ∙ List·getD-append front (x .0 ∷ []) 0 s (omega (arith, size)) ∙ r .2, r .3)
 
-module _ (F : List ℕ) (t : Tables) (k : ℕ) (S : State) (n : Counts) (here : Tables) (N A : List ℕ) (K : Kept F t k S n here N A) (l : k < recordCount F) where
+module _ (F : List ℕ) (t : Tables) (k : ℕ) (S : State) (n : Counts) (here : Tables) (N O A : List ℕ) (K : Kept F t k S n here N O A) (l : k < recordCount F) where
   abbrev rec : Record
   rec = decoded (recordPart F k)
 
@@ -82,7 +83,7 @@ module _ (F : List ℕ) (t : Tables) (k : ℕ) (S : State) (n : Counts) (here : 
   Z = sizes t (K .long)
 
   below : k < 4096
-  below = few-records F t k S n here N A K l
+  below = few-records F t k S n here N O A K l
 
   pub symbols-here : here .symbols ≡ filled 4096 (symbolCells S) (t .symbols)
   symbols-here = ap (λ (x : Tables). x .symbols) (K .tables)
@@ -106,7 +107,7 @@ module _ (F : List ℕ) (t : Tables) (k : ℕ) (S : State) (n : Counts) (here : 
   symbol-table : (s : ℕ) → set (here .symbols) (n .symbols) k ≡ filled 4096 (symbolCells (withSymbol S k s)) (t .symbols)
   symbol-table s =
       ap₂ (λ (x : List ℕ) (i : ℕ). set x i k) symbols-here (ap (λ (c : Counts). c .symbols) (K .counts))
-      ∙ filled-set 4096 (symbolCells S) (t .symbols) (length (S .symbols)) k symbols-size (omega (arith, few-symbols F t k S n here N A K l, below))
+      ∙ filled-set 4096 (symbolCells S) (t .symbols) (length (S .symbols)) k symbols-size (omega (arith, few-symbols F t k S n here N O A K l, below))
       ∙ ap (λ (x : List ℕ). filled 4096 x (t .symbols)) (sym (record-cells-more k s (S .symbols)))
 
   symbol-counts : (s : ℕ) → moreSymbols n ≡ countsOf (withSymbol S k s)
@@ -116,9 +117,9 @@ module _ (F : List ℕ) (t : Tables) (k : ℕ) (S : State) (n : Counts) (here : 
   withSymbols x = record { symbols = x; rows = here .rows; clauses = here .clauses; bindings = here .bindings }
 
   pub symbol-read : kindOfRecord rec ≡ symbolKind → (e : Entered) (symbols′ : List ℕ) → symbolLeft e symbols′ ≡ symbolEntered (recordPart F k) k n (here .symbols)
-      → Next F t k S (record { symbols = symbols′; rows = here .rows; clauses = here .clauses; bindings = here .bindings }) N A e
+      → Next F t k S (record { symbols = symbols′; rows = here .rows; clauses = here .clauses; bindings = here .bindings }) N O A e
   unfolding symbolEntered require
-  symbol-read kd e symbols′ E = subst (λ (x : SymbolLeft). Next F t k S (withSymbols (x .symbols)) N A (x .answer)) (sym E) (try (inRange symbolKind rec) refl)
+  symbol-read kd e symbols′ E = subst (λ (x : SymbolLeft). Next F t k S (withSymbols (x .symbols)) N O A (x .answer)) (sym E) (try (inRange symbolKind rec) refl)
     where
       at : step S k rec ≡ require (inRange symbolKind rec) outOfRange (stands (withSymbol S k (rec .count)))
       at = at-kind S k rec symbolKind kd
@@ -126,17 +127,17 @@ module _ (F : List ℕ) (t : Tables) (k : ℕ) (S : State) (n : Counts) (here : 
       made : here ≡ filledTables S t → withSymbols (set (here .symbols) (n .symbols) k) ≡ filledTables (withSymbol S k (rec .count)) t
       made h = λ i. record { symbols = symbol-table (rec .count) i; rows = rows-here i; clauses = clauses-here i; bindings = bindings-here i }
 
-      try : (b : Bool) → inRange symbolKind rec ≡ b → Next F t k S (withSymbols (pick b (symbolLeft (Stands (moreSymbols n)) (set (here .symbols) (n .symbols) k)) (symbolLeft (Refused (reasonNumber outOfRange)) (here .symbols)) .symbols)) N A (pick b (symbolLeft (Stands (moreSymbols n)) (set (here .symbols) (n .symbols) k)) (symbolLeft (Refused (reasonNumber outOfRange)) (here .symbols)) .answer)
+      try : (b : Bool) → inRange symbolKind rec ≡ b → Next F t k S (withSymbols (pick b (symbolLeft (Stands (moreSymbols n)) (set (here .symbols) (n .symbols) k)) (symbolLeft (Refused (reasonNumber outOfRange)) (here .symbols)) .symbols)) N O A (pick b (symbolLeft (Stands (moreSymbols n)) (set (here .symbols) (n .symbols) k)) (symbolLeft (Refused (reasonNumber outOfRange)) (here .symbols)) .answer)
       try true q =
           let p = at ∙ ap (λ (b : Bool). require b outOfRange (stands (withSymbol S k (rec .count)))) q in
-          (withSymbol S k (rec .count), p, kept-next F t k S n here N A K l (withSymbol S k (rec .count)) p (moreSymbols n) (withSymbols (set (here .symbols) (n .symbols) k)) N A (symbol-counts (rec .count)) (made (K .tables)) (K .nodes) (K .values))
-      try false q = (outOfRange, at ∙ ap (λ (b : Bool). require b outOfRange (stands (withSymbol S k (rec .count)))) q, refl, K .tables, K .nodes, K .values)
+          (withSymbol S k (rec .count), p, kept-next F t k S n here N O A K l (withSymbol S k (rec .count)) p (moreSymbols n) (withSymbols (set (here .symbols) (n .symbols) k)) N O A (symbol-counts (rec .count)) (made (K .tables)) (K .nodes) (K .origins) (K .values))
+      try false q = (outOfRange, at ∙ ap (λ (b : Bool). require b outOfRange (stands (withSymbol S k (rec .count)))) q, refl, K .tables, K .nodes, K .origins, K .values)
 
   -- One row more.
   row-table : (w : Row) → set (here .rows) (n .rows) k ≡ filled 4096 (rowCells (withRow S k w)) (t .rows)
   row-table w =
       ap₂ (λ (x : List ℕ) (i : ℕ). set x i k) rows-here (ap (λ (c : Counts). c .rows) (K .counts))
-      ∙ filled-set 4096 (rowCells S) (t .rows) (length (S .rows)) k rows-size (omega (arith, few-rows F t k S n here N A K l, below))
+      ∙ filled-set 4096 (rowCells S) (t .rows) (length (S .rows)) k rows-size (omega (arith, few-rows F t k S n here N O A K l, below))
       ∙ ap (λ (x : List ℕ). filled 4096 x (t .rows)) (sym (record-cells-more k w (S .rows)))
 
   row-counts : (w : Row) → moreRows n ≡ countsOf (withRow S k w)
@@ -146,20 +147,20 @@ module _ (F : List ℕ) (t : Tables) (k : ℕ) (S : State) (n : Counts) (here : 
   withRows x = record { symbols = here .symbols; rows = x; clauses = here .clauses; bindings = here .bindings }
 
   abbrev RowNext : RowLeft → Type 0
-  RowNext x = Next F t k S (withRows (x .rows)) (x .nodes) A (x .answer)
+  RowNext x = Next F t k S (withRows (x .rows)) (x .nodes) O A (x .answer)
 
   many : length (rowsOf S) < 4096
-  many = omega (arith, same-rows F t k S n here N A K l, few-rows F t k S n here N A K l, below)
+  many = omega (arith, same-rows F t k S n here N O A K l, few-rows F t k S n here N O A K l, below)
 
   rows-count : n .rows ≡ length (rowsOf S)
-  rows-count = ap (λ (c : Counts). c .rows) (K .counts) ∙ sym (same-rows F t k S n here N A K l)
+  rows-count = ap (λ (c : Counts). c .rows) (K .counts) ∙ sym (same-rows F t k S n here N O A K l)
 
   row-entered : (w : Row) (code : ℕ) → nodeCells code part ≡ cellsOfRow w → RowFits w → step S k rec ≡ require (differsFromAll w (rowsOf S)) repeatedRow (stands (withRow S k w)) → RowNext (rowEntered part k code n (here .rows) N)
   unfolding rowEntered require
   row-entered w code c f at = try (isRepeated N (n .rows) (nodeCells code part)) refl
     where
       test : isRepeated N (n .rows) (nodeCells code part) ≡ not (differsFromAll w (rowsOf S))
-      test = ap (λ (i : ℕ). isRepeated N i (nodeCells code part)) rows-count ∙ repeated-row (rowsOf S) (rows-fit F t k S n here N A K l) (omega (arith, many)) N (K .nodes) w (nodeCells code part) c
+      test = ap (λ (i : ℕ). isRepeated N i (nodeCells code part)) rows-count ∙ repeated-row (rowsOf S) (rows-fit F t k S n here N O A K l) (omega (arith, many)) N (K .nodes) w (nodeCells code part) c
 
       differ : (b : Bool) → isRepeated N (n .rows) (nodeCells code part) ≡ b → (d : Bool) → differsFromAll w (rowsOf S) ≡ d → d ≡ not b
       differ true p true q = absurd (true-not-false p (test ∙ ap not q))
@@ -168,19 +169,19 @@ module _ (F : List ℕ) (t : Tables) (k : ℕ) (S : State) (n : Counts) (here : 
       differ false p false q = absurd (true-not-false (test ∙ ap not q) p)
 
       place : withNode N (n .rows) (nodeCells code part) ≡ nodeTableOf (rowsOf (withRow S k w))
-      place = ap (λ (i : ℕ). withNode N i (nodeCells code part)) rows-count ∙ row-written (rowsOf S) (rows-fit F t k S n here N A K l) (omega (arith, many)) N (K .nodes) w (nodeCells code part) c f many
+      place = ap (λ (i : ℕ). withNode N i (nodeCells code part)) rows-count ∙ row-written (rowsOf S) (rows-fit F t k S n here N O A K l) (omega (arith, many)) N (K .nodes) w (nodeCells code part) c many
 
       made : withRows (set (here .rows) (n .rows) k) ≡ filledTables (withRow S k w) t
       made = λ i. record { symbols = symbols-here i; rows = row-table w i; clauses = clauses-here i; bindings = bindings-here i }
 
       try : (b : Bool) → isRepeated N (n .rows) (nodeCells code part) ≡ b → RowNext (pick b (rowLeft (Refused (reasonNumber repeatedRow)) (here .rows) N) (rowLeft (Stands (moreRows n)) (set (here .rows) (n .rows) k) (withNode N (n .rows) (nodeCells code part))))
-      try true p = (repeatedRow, at ∙ ap (λ (b : Bool). require b repeatedRow (stands (withRow S k w))) (differ true p (differsFromAll w (rowsOf S)) refl), refl, K .tables, K .nodes, K .values)
+      try true p = (repeatedRow, at ∙ ap (λ (b : Bool). require b repeatedRow (stands (withRow S k w))) (differ true p (differsFromAll w (rowsOf S)) refl), refl, K .tables, K .nodes, K .origins, K .values)
       try false p =
           let s = at ∙ ap (λ (b : Bool). require b repeatedRow (stands (withRow S k w))) (differ false p (differsFromAll w (rowsOf S)) refl) in
-          (withRow S k w, s, kept-next F t k S n here N A K l (withRow S k w) s (moreRows n) (withRows (set (here .rows) (n .rows) k)) (withNode N (n .rows) (nodeCells code part)) A (row-counts w) made place (K .values))
+          (withRow S k w, s, kept-next F t k S n here N O A K l (withRow S k w) s (moreRows n) (withRows (set (here .rows) (n .rows) k)) (withNode N (n .rows) (nodeCells code part)) O A (row-counts w) made place (K .origins) (K .values))
 
   pub variable-read : kindOfRecord rec ≡ variableKind → (e : Entered) (rows′ N′ : List ℕ) → rowLeft e rows′ N′ ≡ variableEntered (recordPart F k) k n (here .rows) N
-      → Next F t k S (record { symbols = here .symbols; rows = rows′; clauses = here .clauses; bindings = here .bindings }) N′ A e
+      → Next F t k S (record { symbols = here .symbols; rows = rows′; clauses = here .clauses; bindings = here .bindings }) N′ O A e
   unfolding variableEntered require
   variable-read kd e rows′ N′ E = subst RowNext (sym E) (try (inRange variableKind rec) refl)
     where
@@ -196,19 +197,19 @@ module _ (F : List ℕ) (t : Tables) (k : ℕ) (S : State) (n : Counts) (here : 
 
       try : (b : Bool) → inRange variableKind rec ≡ b → RowNext (pick b (rowEntered part k 1 n (here .rows) N) (rowLeft (Refused (reasonNumber outOfRange)) (here .rows) N))
       try true q = row-entered (variable (fieldA rec)) 1 (variable-cells part q) (fits q) (at ∙ ap (λ (b : Bool). require b outOfRange (require (differsFromAll (variable (fieldA rec)) (rowsOf S)) repeatedRow (stands (withRow S k (variable (fieldA rec)))))) q)
-      try false q = (outOfRange, at ∙ ap (λ (b : Bool). require b outOfRange (require (differsFromAll (variable (fieldA rec)) (rowsOf S)) repeatedRow (stands (withRow S k (variable (fieldA rec)))))) q, refl, K .tables, K .nodes, K .values)
+      try false q = (outOfRange, at ∙ ap (λ (b : Bool). require b outOfRange (require (differsFromAll (variable (fieldA rec)) (rowsOf S)) repeatedRow (stands (withRow S k (variable (fieldA rec)))))) q, refl, K .tables, K .nodes, K .origins, K .values)
 
   -- The arity of a symbol, off its record.
   arity-read : (s : ℕ) → arityIn F (here .symbols) (n .symbols) s ≡ arityOf S s
   arity-read s = ap₂ (λ (x : List ℕ) (m : ℕ). arityIn F x m s) symbols-here (ap (λ (c : Counts). c .symbols) (K .counts)) ∙ try (ltb s (length (S .symbols))) refl
     where
       few : length (symbolCells S) ≤ 4096
-      few = omega (arith, symbols-size, few-symbols F t k S n here N A K l, below)
+      few = omega (arith, symbols-size, few-symbols F t k S n here N O A K l, below)
 
       try : (b : Bool) → ltb s (length (S .symbols)) ≡ b → pick b (some (countOf (recordPart F (getD (filled 4096 (symbolCells S) (t .symbols)) s 0)))) none ≡ arityOf S s
       try true q =
           let m : s < length (S .symbols) = ltb→lt s (length (S .symbols)) (to-T (ltb s (length (S .symbols))) q) in
-          let r = symbol-cell (S .symbols) (λ (x : ℕ × ℕ). countOf (recordPart F (x .0)) ≡ x .1) (stand F t k S n here N A K l .tally .aritiesRead) s m in
+          let r = symbol-cell (S .symbols) (λ (x : ℕ × ℕ). countOf (recordPart F (x .0)) ≡ x .1) (stand F t k S n here N O A K l .tally .aritiesRead) s m in
           ap (λ (j : ℕ). some (countOf (recordPart F j))) (filled-low 4096 (symbolCells S) (t .symbols) few s (omega (arith, symbols-size)) ∙ r .2) ∙ ap some (r .3) ∙ sym (r .1)
       try false q =
           let m : length (S .symbols) ≤ s = not-below s (length (S .symbols)) q in
@@ -216,7 +217,7 @@ module _ (F : List ℕ) (t : Tables) (k : ℕ) (S : State) (n : Counts) (here : 
           sym (entry-none (arities S) s (omega arith))
 
   pub application-read : kindOfRecord rec ≡ applicationKind → (e : Entered) (rows′ N′ : List ℕ) → rowLeft e rows′ N′ ≡ applicationEntered F (recordPart F k) k n (here .symbols) (here .rows) N
-      → Next F t k S (record { symbols = here .symbols; rows = rows′; clauses = here .clauses; bindings = here .bindings }) N′ A e
+      → Next F t k S (record { symbols = here .symbols; rows = rows′; clauses = here .clauses; bindings = here .bindings }) N′ O A e
   unfolding applicationEntered applicationThere require
   application-read kd e rows′ N′ E = subst RowNext (sym E) (try (inRange applicationKind rec) refl)
     where
@@ -240,11 +241,11 @@ module _ (F : List ℕ) (t : Tables) (k : ℕ) (S : State) (n : Counts) (here : 
 
       second : inRange applicationKind rec ≡ true → (b : Bool) → applicationThere F part n (here .symbols) ≡ b → RowNext (pick b (rowEntered part k (2 + countOf part) n (here .rows) N) (rowLeft (Refused (reasonNumber notThere)) (here .rows) N))
       second q true p = row-entered w (2 + countOf part) (application-cells part q) (fits q) (at ∙ ap₂ (λ (a b : Bool). require a outOfRange (require b notThere last)) q (sym there ∙ p))
-      second q false p = (notThere, at ∙ ap₂ (λ (a b : Bool). require a outOfRange (require b notThere last)) q (sym there ∙ p), refl, K .tables, K .nodes, K .values)
+      second q false p = (notThere, at ∙ ap₂ (λ (a b : Bool). require a outOfRange (require b notThere last)) q (sym there ∙ p), refl, K .tables, K .nodes, K .origins, K .values)
 
       try : (b : Bool) → inRange applicationKind rec ≡ b → RowNext (pick b (pick (applicationThere F part n (here .symbols)) (rowEntered part k (2 + countOf part) n (here .rows) N) (rowLeft (Refused (reasonNumber notThere)) (here .rows) N)) (rowLeft (Refused (reasonNumber outOfRange)) (here .rows) N))
       try true q = second q (applicationThere F part n (here .symbols)) refl
-      try false q = (outOfRange, at ∙ ap (λ (b : Bool). require b outOfRange (require (allThere S applicationKind rec) notThere last)) q, refl, K .tables, K .nodes, K .values)
+      try false q = (outOfRange, at ∙ ap (λ (b : Bool). require b outOfRange (require (allThere S applicationKind rec) notThere last)) q, refl, K .tables, K .nodes, K .origins, K .values)
 
   -- One clause more, with the cells of a clause that adds bindings up to h.
   pub clause-table : (c : Derivation) (a b d e : ℕ) → a ≡ length (literals c) → b ≡ maximumIndex c → d ≡ held S → e ≡ length (ownBindings c)
@@ -252,18 +253,26 @@ module _ (F : List ℕ) (t : Tables) (k : ℕ) (S : State) (n : Counts) (here : 
   unfolding held
   clause-table c a b d e pa pb pd pe =
       (λ i. withClauseCells (clauses-here i) (ap (λ (x : Counts). x .clauses) (K .counts) i) k (pa i) (pb i) (pd i) (pe i))
-      ∙ filled-five 20480 (clauseCells (S .clauses)) (t .clauses) (length (S .clauses)) k (length (literals c)) (maximumIndex c) (bindingsOf (derivations S)) (length (ownBindings c)) (cells-length (S .clauses)) (omega (arith, few-clauses F t k S n here N A K l, below))
+      ∙ filled-five 20480 (clauseCells (S .clauses)) (t .clauses) (length (S .clauses)) k (length (literals c)) (maximumIndex c) (bindingsOf (derivations S)) (length (ownBindings c)) (cells-length (S .clauses)) (omega (arith, few-clauses F t k S n here N O A K l, below))
+
+  clauses-count : n .clauses ≡ length (derivations S)
+  clauses-count = ap (λ (x : Counts). x .clauses) (K .counts) ∙ sym (length-map (S .clauses) (λ (c : ℕ × Derivation). c .1))
+
+  pub clause-origin : (c : Derivation) (cells : List ℕ) → cells ≡ cellsOfOrigin c → withNode O (n .clauses) cells ≡ originTableOf (derivations (withClause S k c))
+  clause-origin c cells e =
+      ap (λ (i : ℕ). withNode O i cells) clauses-count
+      ∙ clause-written (derivations S) (stand F t k S n here N O A K l .sourced) O (K .origins) c cells e (omega (arith, length-map (S .clauses) (λ (c : ℕ × Derivation). c .1), few-clauses F t k S n here N O A K l, below))
 
   abbrev withClauses : List ℕ → Tables
   withClauses x = record { symbols = here .symbols; rows = here .rows; clauses = x; bindings = here .bindings }
 
   abbrev InputNext : InputLeft → Type 0
-  InputNext x = Next F t k S (withClauses (x .clauses)) N A (x .answer)
+  InputNext x = Next F t k S (withClauses (x .clauses)) N (x .origins) A (x .answer)
 
-  pub input-read : kindOfRecord rec ≡ inputKind → (e : Entered) (clauses′ : List ℕ) → inputLeft e clauses′ ≡ inputEntered (recordPart F k) k n (here .clauses) N
-      → Next F t k S (record { symbols = here .symbols; rows = here .rows; clauses = clauses′; bindings = here .bindings }) N A e
+  pub input-read : kindOfRecord rec ≡ inputKind → (e : Entered) (clauses′ O′ : List ℕ) → inputLeft e clauses′ O′ ≡ inputEntered (recordPart F k) k n (here .clauses) N O
+      → Next F t k S (record { symbols = here .symbols; rows = here .rows; clauses = clauses′; bindings = here .bindings }) N O′ A e
   unfolding inputEntered require
-  input-read kd e clauses′ E = subst InputNext (sym E) (try (inRange inputKind rec) refl)
+  input-read kd e clauses′ O′ E = subst InputNext (sym E) (try (inRange inputKind rec) refl)
     where
       ls : List RowLiteral
       ls = inputLiterals (decoded (recordPart F k))
@@ -289,24 +298,27 @@ module _ (F : List ℕ) (t : Tables) (k : ℕ) (S : State) (n : Counts) (here : 
       made : inRange inputKind rec ≡ true → withClauses (withClauseCells (here .clauses) (n .clauses) k (countOf part) 1 (n .bindings) 0) ≡ filledTables (withClause S k (input (nextClause S) (inputLiterals rec))) t
       made q = λ i. record { symbols = symbols-here i; rows = rows-here i; clauses = clause-table (input (nextClause S) (inputLiterals rec)) (countOf part) 1 (n .bindings) 0 (small q) refl (ap (λ (x : Counts). x .bindings) (K .counts)) refl i; bindings = (bindings-here ∙ ap (λ (x : List ℕ). filled 32768 x (t .bindings)) (sym (append-nil (bindingCells (derivations S))))) i }
 
+      origin : inRange inputKind rec ≡ true → withNode O (n .clauses) (nodeCells 1 part) ≡ originTableOf (derivations (withClause S k (input (nextClause S) (inputLiterals rec))))
+      origin q = clause-origin (input (nextClause S) (inputLiterals rec)) (nodeCells 1 part) (input-cells part (nextClause S) q)
+
       third : inRange inputKind rec ≡ true → allBelow (n .rows) (map (λ (x : RowLiteral). x .1) (inputLiterals rec)) ≡ true → (b : Bool) → noVariable N (inputLiterals rec) ≡ b
-          → InputNext (pick b (inputLeft (Stands (moreClauses n)) (withClauseCells (here .clauses) (n .clauses) k (countOf part) 1 (n .bindings) 0)) (inputLeft (Refused (reasonNumber variableLiteral)) (here .clauses)))
-      third q p b v = by b v (sym (variable-tests (rowsOf S) (rows-fit F t k S n here N A K l) (omega (arith, many)) N (K .nodes) (inputLiterals rec) (rows-below (length (rowsOf S)) (inputLiterals rec) (sym rows ∙ p))) ∙ v)
+          → InputNext (pick b (inputLeft (Stands (moreClauses n)) (withClauseCells (here .clauses) (n .clauses) k (countOf part) 1 (n .bindings) 0) (withNode O (n .clauses) (nodeCells 1 part))) (inputLeft (Refused (reasonNumber variableLiteral)) (here .clauses) O))
+      third q p b v = by b v (sym (variable-tests (rowsOf S) (rows-fit F t k S n here N O A K l) (omega (arith, many)) N (K .nodes) (inputLiterals rec) (rows-below (length (rowsOf S)) (inputLiterals rec) (sym rows ∙ p))) ∙ v)
         where
           path : (b : Bool) → allApplications (rowOf S) (inputLiterals rec) ≡ b → step S k rec ≡ require b variableLiteral (stands (withClause S k (input (nextClause S) (inputLiterals rec))))
           path b z = at ∙ (λ i. require (q i) outOfRange (require ((sym rows ∙ p) i) notThere (require (z i) variableLiteral (stands (withClause S k (input (nextClause S) (inputLiterals rec)))))))
 
           by : (b : Bool) → noVariable N (inputLiterals rec) ≡ b → allApplications (rowOf S) (inputLiterals rec) ≡ b
-              → InputNext (pick b (inputLeft (Stands (moreClauses n)) (withClauseCells (here .clauses) (n .clauses) k (countOf part) 1 (n .bindings) 0)) (inputLeft (Refused (reasonNumber variableLiteral)) (here .clauses)))
-          by true v z = (withClause S k (input (nextClause S) (inputLiterals rec)), path true z, kept-next F t k S n here N A K l (withClause S k (input (nextClause S) (inputLiterals rec))) (path true z) (moreClauses n) (withClauses (withClauseCells (here .clauses) (n .clauses) k (countOf part) 1 (n .bindings) 0)) N A counts (made q) (K .nodes) (K .values))
-          by false v z = (variableLiteral, path false z, refl, K .tables, K .nodes, K .values)
+              → InputNext (pick b (inputLeft (Stands (moreClauses n)) (withClauseCells (here .clauses) (n .clauses) k (countOf part) 1 (n .bindings) 0) (withNode O (n .clauses) (nodeCells 1 part))) (inputLeft (Refused (reasonNumber variableLiteral)) (here .clauses) O))
+          by true v z = (withClause S k (input (nextClause S) (inputLiterals rec)), path true z, kept-next F t k S n here N O A K l (withClause S k (input (nextClause S) (inputLiterals rec))) (path true z) (moreClauses n) (withClauses (withClauseCells (here .clauses) (n .clauses) k (countOf part) 1 (n .bindings) 0)) N (withNode O (n .clauses) (nodeCells 1 part)) A counts (made q) (K .nodes) (origin q) (K .values))
+          by false v z = (variableLiteral, path false z, refl, K .tables, K .nodes, K .origins, K .values)
 
       second : inRange inputKind rec ≡ true → (b : Bool) → allBelow (n .rows) (map (λ (x : RowLiteral). x .1) (inputLiterals rec)) ≡ b
-          → InputNext (pick b (pick (noVariable N (inputLiterals rec)) (inputLeft (Stands (moreClauses n)) (withClauseCells (here .clauses) (n .clauses) k (countOf part) 1 (n .bindings) 0)) (inputLeft (Refused (reasonNumber variableLiteral)) (here .clauses))) (inputLeft (Refused (reasonNumber notThere)) (here .clauses)))
+          → InputNext (pick b (pick (noVariable N (inputLiterals rec)) (inputLeft (Stands (moreClauses n)) (withClauseCells (here .clauses) (n .clauses) k (countOf part) 1 (n .bindings) 0) (withNode O (n .clauses) (nodeCells 1 part))) (inputLeft (Refused (reasonNumber variableLiteral)) (here .clauses) O)) (inputLeft (Refused (reasonNumber notThere)) (here .clauses) O))
       second q true p = third q p (noVariable N (inputLiterals rec)) refl
-      second q false p = (notThere, at ∙ (λ i. require (q i) outOfRange (require ((sym rows ∙ p) i) notThere (require (allApplications (rowOf S) (inputLiterals rec)) variableLiteral (stands (withClause S k (input (nextClause S) (inputLiterals rec))))))), refl, K .tables, K .nodes, K .values)
+      second q false p = (notThere, at ∙ (λ i. require (q i) outOfRange (require ((sym rows ∙ p) i) notThere (require (allApplications (rowOf S) (inputLiterals rec)) variableLiteral (stands (withClause S k (input (nextClause S) (inputLiterals rec))))))), refl, K .tables, K .nodes, K .origins, K .values)
 
       try : (b : Bool) → inRange inputKind rec ≡ b
-          → InputNext (pick b (pick (allBelow (n .rows) (map (λ (x : RowLiteral). x .1) (inputLiterals rec))) (pick (noVariable N (inputLiterals rec)) (inputLeft (Stands (moreClauses n)) (withClauseCells (here .clauses) (n .clauses) k (countOf part) 1 (n .bindings) 0)) (inputLeft (Refused (reasonNumber variableLiteral)) (here .clauses))) (inputLeft (Refused (reasonNumber notThere)) (here .clauses))) (inputLeft (Refused (reasonNumber outOfRange)) (here .clauses)))
+          → InputNext (pick b (pick (allBelow (n .rows) (map (λ (x : RowLiteral). x .1) (inputLiterals rec))) (pick (noVariable N (inputLiterals rec)) (inputLeft (Stands (moreClauses n)) (withClauseCells (here .clauses) (n .clauses) k (countOf part) 1 (n .bindings) 0) (withNode O (n .clauses) (nodeCells 1 part))) (inputLeft (Refused (reasonNumber variableLiteral)) (here .clauses) O)) (inputLeft (Refused (reasonNumber notThere)) (here .clauses) O)) (inputLeft (Refused (reasonNumber outOfRange)) (here .clauses) O))
       try true q = second q (allBelow (n .rows) (map (λ (x : RowLiteral). x .1) (inputLiterals rec))) refl
-      try false q = (outOfRange, at ∙ ap (λ (b : Bool). require b outOfRange (require (allBelow (length (rowsOf S)) (map (λ (x : RowLiteral). x .1) (inputLiterals rec))) notThere (require (allApplications (rowOf S) (inputLiterals rec)) variableLiteral (stands (withClause S k (input (nextClause S) (inputLiterals rec))))))) q, refl, K .tables, K .nodes, K .values)
+      try false q = (outOfRange, at ∙ ap (λ (b : Bool). require b outOfRange (require (allBelow (length (rowsOf S)) (map (λ (x : RowLiteral). x .1) (inputLiterals rec))) notThere (require (allApplications (rowOf S) (inputLiterals rec)) variableLiteral (stands (withClause S k (input (nextClause S) (inputLiterals rec))))))) q, refl, K .tables, K .nodes, K .origins, K .values)

@@ -1,26 +1,29 @@
 -- The tests and writes of the program on its tables are those of the state.
 use mathlib.Core.Path.{_≡_, refl, sym, ap, ap₂, _∙_}
 use mathlib.Core.Bool.{Bool, true, false, _&&_, not}
-use mathlib.Core.List.{List, [], _∷_, _++_, append-assoc}
-use Prim.Native.Nat.{ℕ, zero, suc, _+_, _-_, _*_, _≤_, _<_}
+use mathlib.Core.List.{List, [], _∷_, _++_, append-assoc, map}
+use Prim.Native.Nat.{ℕ, zero, suc, _+_, _-_, _*_, _/_, _%_, _≤_, _<_}
 use native.Mathlib.Nat.{suc-add, zero-add, suc-inj}
 use native.Mathlib.Omega.{arith}
 use lib.Dec.{eqb, leb, eqb→eq, eqb-refl, leb→le}
-use lib.ListN.{length, take, drop, replicate, length-append, length-drop, length-replicate, take-append-drop}
+use lib.ListN.{length, take, drop, replicate, length-append, length-drop, length-map, length-replicate, take-append-drop}
 use lib.Seq.{ext-getD, getD-take, getD-drop, length-take-le, take-at, drop-append-add, drop-drop}
-use borrow.Author.Tests.{eq-eqb, ne-eqb}
-use Rattle.record.specs.Record.{pick, countOf, fieldOf, fieldsOf, decoded, variableKind, applicationKind}
+use borrow.Author.Tests.{eq-eqb, ne-eqb, eqb-true, eqb-false}
+use Rattle.record.specs.Record.{pick, countOf, fieldOf, fieldsOf, decoded, variableKind, applicationKind, inputKind}
 use Rattle.unification.specs.Nodes.{isVariable, part}
 use Rattle.unification.specs.Row.{variable, Row, application, rowAt}
 use Rattle.unification.proofs.Lists.{Each}
 use Rattle.unification.proofs.Rows.{eqb-below}
 use Rattle.unification.proofs.Tests.{to-T, from-T, both-true}
-use Rattle.derivation.specs.Derivation.{RowLiteral}
+use Rattle.derivation.specs.Derivation.{input, RowLiteral, literalOf, inputLiterals, Derivation}
+use Rattle.derivation.specs.Stored.{literalNumber, cellsOfOrigin, originList, originTableOf}
 use Rattle.entry.specs.Program.{nodeCells, nodeAt, withNode, isRepeated, noVariable}
 use Rattle.entry.specs.Progress.{cellsOfRow, nodeList, nodeTableOf}
 use Rattle.verdict.specs.Refusal.{zeros, inRange, newRow, equalLists, equalRows, differsFromAll, isApplication, allApplications}
 use Rattle.verdict.proofs.Advance.{RowFits}
 use Rattle.verdict.proofs.Inversions.{not-equal}
+use Rattle.verdict.proofs.Sources.{Sourced}
+use Rattle.verdict.proofs.Tabled.{origin-length}
 use Rattle.entry.proofs.NodeTable.{eight, NodeTable, node-length, node-cell, fits-at, variable-row, application-row}
 
 -- Equal rows have equal cells.
@@ -65,6 +68,23 @@ equal-cells (application s xs) (application t ys) = try (eqb (length xs) (length
         let n : ¬ (length xs ≡ length ys) = not-equal (length xs) (length ys) (rw q) in
         ap (λ (b : Bool). b && (eqb s t && equalLists (xs ++ replicate (6 - length xs) 0) (ys ++ replicate (6 - length ys) 0))) (ne-eqb (2 + length xs) (2 + length ys) (λ z. n (omega arith)))
         ∙ sym (ap (λ (b : Bool). eqb s t && b) (lists-differ xs ys n) ∙ and-false (eqb s t))
+
+-- Eight cells more, in a table that has n times eight and zeros after them.
+cells-written : (L : List ℕ) (n : ℕ) → length L ≡ 8 * n → n < 4096 → (T : List ℕ) → T ≡ L ++ replicate (32768 - 8 * n) 0 → (cells : List ℕ) → withNode T n cells ≡ (L ++ cells) ++ replicate (32768 - 8 * suc n) 0
+cells-written L n size l T table cells =
+    ap₂ (λ (x y : List ℕ). x ++ (cells ++ y)) (ap (take (8 * n)) table ∙ take-at L (replicate (32768 - 8 * n) 0) (8 * n) size) rest
+    ∙ sym (append-assoc L cells (replicate (32768 - 8 * suc n) 0))
+  where
+    zeros-more : (n m : ℕ) → replicate {A = ℕ} (n + m) 0 ≡ replicate n 0 ++ replicate m 0
+    zeros-more zero m = ap (λ (k : ℕ). replicate {A = ℕ} k 0) (zero-add m)
+    zeros-more (suc n) m = ap (λ (k : ℕ). replicate {A = ℕ} k 0) (suc-add n m) ∙ ap (λ (r : List ℕ). 0 ∷ r) (zeros-more n m)
+
+    rest : drop (8 * n + 8) T ≡ replicate (32768 - 8 * suc n) 0
+    rest =
+        let z : 32768 - 8 * n ≡ 8 + (32768 - 8 * suc n) = omega arith in
+        let y : 8 * n + 8 ≡ length L + 8 = omega arith in
+        ap₂ drop y table ∙ drop-append-add L (replicate (32768 - 8 * n) 0) 8 ∙ ap (λ (k : ℕ). drop 8 (replicate {A = ℕ} k 0)) z
+        ∙ ap (drop 8) (zeros-more 8 (32768 - 8 * suc n))
 
 module _ (ws : List Row) (fit : Each RowFits ws) (few : length ws ≤ 4096) (N : List ℕ) (table : NodeTable ws N) where
   pub node-table-length : length N ≡ 32768
@@ -115,22 +135,17 @@ module _ (ws : List Row) (fit : Each RowFits ws) (few : length ws ≤ 4096) (N :
   variable-tests (l ∷ ls) h = ap₂ _&&_ (variable-test (l .1) (h .0)) (variable-tests ls (h .1))
 
   -- A row more.
-  pub row-written : (w : Row) (cells : List ℕ) → cells ≡ cellsOfRow w → RowFits w → length ws < 4096 → withNode N (length ws) cells ≡ nodeTableOf (w ∷ ws)
-  row-written w cells e h l =
-      let a : take (8 * length ws) N ≡ nodeList ws = ap (take (8 * length ws)) table ∙ take-at (nodeList ws) (replicate (32768 - 8 * length ws) 0) (8 * length ws) (node-length ws fit) in
-      let b : drop (8 * length ws + 8) N ≡ replicate (32768 - 8 * suc (length ws)) 0 = rest in
-      ap₂ (λ (x y : List ℕ). x ++ (cells ++ y)) a b ∙ ap (λ (c : List ℕ). nodeList ws ++ (c ++ replicate (32768 - 8 * suc (length ws)) 0)) e ∙ sym (append-assoc (nodeList ws) (cellsOfRow w) (replicate (32768 - 8 * suc (length ws)) 0))
-    where
-      zeros-more : (n m : ℕ) → replicate {A = ℕ} (n + m) 0 ≡ replicate n 0 ++ replicate m 0
-      zeros-more zero m = ap (λ (k : ℕ). replicate {A = ℕ} k 0) (zero-add m)
-      zeros-more (suc n) m = ap (λ (k : ℕ). replicate {A = ℕ} k 0) (suc-add n m) ∙ ap (λ (r : List ℕ). 0 ∷ r) (zeros-more n m)
+  pub row-written : (w : Row) (cells : List ℕ) → cells ≡ cellsOfRow w → length ws < 4096 → withNode N (length ws) cells ≡ nodeTableOf (w ∷ ws)
+  row-written w cells e l = ap (withNode N (length ws)) e ∙ cells-written (nodeList ws) (length ws) (node-length ws fit) l N table (cellsOfRow w)
 
-      rest : drop (8 * length ws + 8) N ≡ replicate (32768 - 8 * suc (length ws)) 0
-      rest =
-          let z : 32768 - 8 * length ws ≡ 8 + (32768 - 8 * suc (length ws)) = omega arith in
-          let y : 8 * length ws + 8 ≡ length (nodeList ws) + 8 = omega (arith, node-length ws fit) in
-          ap₂ drop y table ∙ drop-append-add (nodeList ws) (replicate (32768 - 8 * length ws) 0) 8 ∙ ap (λ (k : ℕ). drop 8 (replicate {A = ℕ} k 0)) z
-          ∙ ap (drop 8) (zeros-more 8 (32768 - 8 * suc (length ws)))
+-- A clause more.
+module _ (ds : List Derivation) (H : Sourced ds) (O : List ℕ) (table : O ≡ originTableOf ds) where
+  pub clause-written : (d : Derivation) (cells : List ℕ) → cells ≡ cellsOfOrigin d → length ds < 4096 → withNode O (length ds) cells ≡ originTableOf (d ∷ ds)
+  clause-written d cells e l = ap (withNode O (length ds)) e ∙ cells-written (originList ds) (length ds) (origin-length ds H) l O table (cellsOfOrigin d)
+
+pub origin-table-length : (ds : List Derivation) → Sourced ds → length ds ≤ 4096 → (O : List ℕ) → O ≡ originTableOf ds → length O ≡ 32768
+origin-table-length ds H few O table =
+    ap length table ∙ length-append (originList ds) (replicate (32768 - 8 * length ds) 0) ∙ ap₂ _+_ (origin-length ds H) (length-replicate {A = ℕ} (32768 - 8 * length ds) 0) ∙ omega arith
 
 -- The cells of a record's row.
 zero-list : (ns : List ℕ) → zeros ns ≡ true → ns ≡ replicate (length ns) 0
@@ -161,3 +176,27 @@ application-cells part q =
         let f : drop 1 (fieldsOf part) ≡ take n (drop 1 (fieldsOf part)) ++ replicate (6 - length (take n (drop 1 (fieldsOf part)))) 0 =
         sym (take-append-drop n (drop 1 (fieldsOf part))) ∙ ap (λ (r : List ℕ). take n (drop 1 (fieldsOf part)) ++ r) (e ∙ ap (λ (k : ℕ). replicate {A = ℕ} k 0) (m ∙ ap (λ (k : ℕ). 6 - k) (sym len))) in
         ap₂ (λ (k : ℕ) (r : List ℕ). k ∷ fieldOf part 0 ∷ r) (ap (λ (k : ℕ). 2 + k) (sym len)) f
+
+-- The cells of an input clause's record.
+number-back : (x : ℕ) → literalNumber (literalOf x) ≡ x
+number-back x = try (eqb (x % 2) 1) refl
+  where
+    try : (b : Bool) → eqb (x % 2) 1 ≡ b → 2 * (x / 2) + pick b 1 0 ≡ x
+    try true q = let e = eqb-true (x % 2) 1 q in omega arith
+    try false q = let e = eqb-false (x % 2) 1 q in omega arith
+
+numbers-back : (ns : List ℕ) → map literalNumber (map literalOf ns) ≡ ns
+numbers-back [] = refl
+numbers-back (n ∷ ns) = ap₂ (λ (x : ℕ) (r : List ℕ). x ∷ r) (number-back n) (numbers-back ns)
+
+pub input-cells : (part : List ℕ) (number : ℕ) → inRange inputKind (decoded part) ≡ true → nodeCells 1 part ≡ cellsOfOrigin (input number (inputLiterals (decoded part)))
+input-cells part number q =
+    let c = both-true (leb (countOf part) 7) (zeros (drop (countOf part) (fieldsOf part))) q in
+    let l : countOf part ≤ 7 = leb→le (countOf part) 7 (to-T (leb (countOf part) 7) (c .0)) in
+    let taken : length (take (countOf part) (fieldsOf part)) ≡ countOf part = length-take-le (countOf part) (fieldsOf part) l in
+    let len : length (inputLiterals (decoded part)) ≡ countOf part = length-map (take (countOf part) (fieldsOf part)) literalOf ∙ taken in
+    let m : length (drop (countOf part) (fieldsOf part)) ≡ 7 - countOf part = length-drop (countOf part) (fieldsOf part) in
+    let e : drop (countOf part) (fieldsOf part) ≡ replicate (7 - length (inputLiterals (decoded part))) 0 =
+    zero-list (drop (countOf part) (fieldsOf part)) (c .1) ∙ ap (λ (k : ℕ). replicate {A = ℕ} k 0) (m ∙ ap (λ (k : ℕ). 7 - k) (sym len)) in
+    ap (λ (r : List ℕ). 1 ∷ r)
+    (sym (take-append-drop (countOf part) (fieldsOf part)) ∙ ap₂ (λ (x y : List ℕ). x ++ y) (sym (numbers-back (take (countOf part) (fieldsOf part)))) e)

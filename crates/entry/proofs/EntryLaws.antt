@@ -1,14 +1,16 @@
 -- Records of kind 1 to 4: one law for each way in which a function returns.
-use mathlib.Core.Path.{_≡_, refl, sym, ap, _∙_}
+use mathlib.Core.Path.{_≡_, refl, sym, ap, ap₂, _∙_}
 use mathlib.Core.Bool.{Bool, true, false, _&&_, not}
 use mathlib.Core.Option.{Option, none, some}
-use mathlib.Core.List.{List, map}
+use mathlib.Core.List.{List, [], _∷_, map}
 use Prim.Native.Nat.{ℕ, _+_, _≤_}
 use native.Mathlib.Omega.{arith}
 use lib.Dec.{leb, T}
 use lib.ListN.{drop, set}
 use borrow.Author.Tests.{eq-eqb, ne-eqb, leb-true, not-true, not-false}
-use Rattle.record.specs.Record.{pick, countOf, fieldOf, decoded, symbolKind, variableKind, applicationKind, inputKind}
+use Rattle.record.specs.Record.{pick, recordPart, kindOf, countOf, fieldOf, fieldsOf, decoded, symbolKind, variableKind, applicationKind, inputKind}
+use Rattle.record.specs.Reader.{clauseLiterals}
+use Rattle.record.specs.declared.ClauseLiterals.{ClauseLiterals}
 use Rattle.unification.specs.Nodes.{part}
 use Rattle.unification.proofs.Tests.{both-true}
 use Rattle.derivation.specs.Derivation.{inputLiterals}
@@ -101,8 +103,8 @@ module _ (F part : List ℕ) (k : ℕ) (n : Counts) (symbols rows N : List ℕ) 
     unfolding applicationEntered
     application-in g c q = pass _ _ e (not-false b h) (pass _ _ p (not-false t g) (q ∙ ap (λ (i : ℕ). rowEntered part k (2 + i) n rows N) c))
 
-module _ (part : List ℕ) (k : ℕ) (n : Counts) (clauses N : List ℕ) {b : Bool} (e : b ≡ inRange inputKind (decoded part)) where
-  pub input-out : not b ≡ true → inputLeft (Refused 4) clauses ≡ inputEntered part k n clauses N
+module _ (part : List ℕ) (k : ℕ) (n : Counts) (clauses N O : List ℕ) {b : Bool} (e : b ≡ inRange inputKind (decoded part)) where
+  pub input-out : not b ≡ true → inputLeft (Refused 4) clauses O ≡ inputEntered part k n clauses N O
   unfolding inputEntered
   input-out h = fail _ _ e (not-true b h) refl
 
@@ -110,15 +112,25 @@ module _ (part : List ℕ) (k : ℕ) (n : Counts) (clauses N : List ℕ) {b : Bo
   input-few h = leb-true (countOf part) 7 (both-true (leb (countOf part) 7) (zeros (drop (countOf part) (decoded part .fields))) (sym e ∙ not-false b h) .0)
 
   module _ {t : Bool} (h : not b ≡ false) (p : t ≡ allBelow (n .rows) (map (λ l. l .1) (inputLiterals (decoded part)))) where
-    pub input-missing : not t ≡ true → inputLeft (Refused 5) clauses ≡ inputEntered part k n clauses N
+    pub input-missing : not t ≡ true → inputLeft (Refused 5) clauses O ≡ inputEntered part k n clauses N O
     unfolding inputEntered
     input-missing g = pass _ _ e (not-false b h) (fail _ _ p (not-true t g) refl)
 
     module _ {v : Bool} (g : not t ≡ false) (q : v ≡ noVariable N (inputLiterals (decoded part))) where
-      pub input-variable : not v ≡ true → inputLeft (Refused 7) clauses ≡ inputEntered part k n clauses N
+      pub input-variable : not v ≡ true → inputLeft (Refused 7) clauses O ≡ inputEntered part k n clauses N O
       unfolding inputEntered
       input-variable w = pass _ _ e (not-false b h) (pass _ _ p (not-false t g) (fail _ _ q (not-true v w) refl))
 
-      pub input-in : {m : ℕ} {C : List ℕ} → not v ≡ false → m ≡ countOf part → C ≡ withClauseCells clauses (n .clauses) k m 1 (n .bindings) 0 → inputLeft (Stands (moreClauses n)) C ≡ inputEntered part k n clauses N
+      pub input-in : {m : ℕ} {C M ns : List ℕ} → not v ≡ false → m ≡ countOf part → ns ≡ fieldsOf part → M ≡ withNode O (n .clauses) (1 ∷ ns) → C ≡ withClauseCells clauses (n .clauses) k m 1 (n .bindings) 0
+          → inputLeft (Stands (moreClauses n)) C M ≡ inputEntered part k n clauses N O
       unfolding inputEntered
-      input-in w c z = pass _ _ e (not-false b h) (pass _ _ p (not-false t g) (pass _ _ q (not-false v w) (ap (inputLeft (Stands (moreClauses n))) (z ∙ ap (λ (i : ℕ). withClauseCells clauses (n .clauses) k i 1 (n .bindings) 0) c))))
+      input-in w c f y z =
+          pass _ _ e (not-false b h) (pass _ _ p (not-false t g) (pass _ _ q (not-false v w)
+          (ap₂ (inputLeft (Stands (moreClauses n))) (z ∙ ap (λ (i : ℕ). withClauseCells clauses (n .clauses) k i 1 (n .bindings) 0) c) (y ∙ ap (λ (l : List ℕ). withNode O (n .clauses) (1 ∷ l)) f))))
+
+-- What the clause reader gives of a record of kind 4.
+pub literals-read : (F : List ℕ) (k : ℕ) {r : ClauseLiterals} → r ≡ clauseLiterals F k → kindOf (recordPart F k) ≡ 4 → (r .count ≡ countOf (recordPart F k)) × (r .numbers ≡ fieldsOf (recordPart F k))
+unfolding clauseLiterals
+literals-read F k q four =
+    let e = q ∙ ap (λ (b : Bool). pick b (record { count = countOf (recordPart F k); numbers = fieldsOf (recordPart F k) }) (record { count = 0; numbers = 0 ∷ 0 ∷ 0 ∷ 0 ∷ 0 ∷ 0 ∷ 0 ∷ [] })) (eq-eqb (kindOf (recordPart F k)) 4 four) in
+    (ap (λ (x : ClauseLiterals). x .count) e, ap (λ (x : ClauseLiterals). x .numbers) e)

@@ -11,14 +11,16 @@ use Rattle.record.proofs.Records.{record-numbered}
 use Rattle.unification.specs.Row.{Row}
 use Rattle.unification.proofs.Lists.{Each}
 use Rattle.unification.proofs.Tests.{to-T, both-true}
+use Rattle.derivation.specs.Derivation.{Derivation}
+use Rattle.derivation.specs.Stored.{originTableOf}
 use Rattle.entry.specs.Progress.{nodeTableOf, countsOf, Kept}
 use Rattle.verdict.specs.Refusal.{Reason}
-use Rattle.verdict.specs.State.{State, start, rowsOf}
+use Rattle.verdict.specs.State.{State, start, rowsOf, derivations}
 use Rattle.verdict.specs.Step.{stands, refused, Result, step, read, allStand, refusedAt}
 use Rattle.verdict.specs.Tables.{Tables, lengthsOf, filledTables}
 use Rattle.verdict.specs.Verdict.{longEnough, fittingLength}
 use Rattle.verdict.proofs.Advance.{Standing, RowFits, Tally, standing-start, take-next, read-one, advance}
-use Rattle.entry.proofs.Entering.{node-table-length}
+use Rattle.entry.proofs.Entering.{node-table-length, origin-table-length}
 use Rattle.verdict.proofs.Reading.{ending-stands}
 use Rattle.entry.specs.declared.entry.Counts.{Counts}
 
@@ -81,7 +83,7 @@ sizes t q =
       bindings = leb→le 32768 (length (t .bindings)) (to-T (leb 32768 (length (t .bindings))) (a .1));
     }
 
-module _ (F : List ℕ) (t : Tables) (k : ℕ) (S : State) (n : Counts) (here : Tables) (N A : List ℕ) (K : Kept F t k S n here N A) (l : k < recordCount F) where
+module _ (F : List ℕ) (t : Tables) (k : ℕ) (S : State) (n : Counts) (here : Tables) (N O A : List ℕ) (K : Kept F t k S n here N O A) (l : k < recordCount F) where
   pub few-records : k < 4096
   few-records = omega (arith, fitting-records F (K .fit))
 
@@ -109,6 +111,9 @@ module _ (F : List ℕ) (t : Tables) (k : ℕ) (S : State) (n : Counts) (here : 
   pub nodes-length : length N ≡ 32768
   nodes-length = node-table-length (rowsOf S) rows-fit (omega (arith, same-rows, few-rows, few-records)) N (K .nodes)
 
-  -- After a record that stands: what is left to show are the counts, the tables and the node table.
-  pub kept-next : (T : State) → step S k (decoded (recordPart F k)) ≡ stands T → (n′ : Counts) (here′ : Tables) (N′ A′ : List ℕ) → n′ ≡ countsOf T → here′ ≡ filledTables T t → N′ ≡ nodeTableOf (rowsOf T) → length A′ ≡ 524416 → Kept F t (suc k) T n′ here′ N′ A′
-  kept-next T q n′ here′ N′ A′ c h m v = record { fit = K .fit; long = K .long; before = advance F k S stand l T q .before; counts = c; tables = h; nodes = m; values = v }
+  pub origins-length : length O ≡ 32768
+  origins-length = origin-table-length (derivations S) (stand .sourced) (omega (arith, length-map (S .clauses) (λ (c : ℕ × Derivation). c .1), few-clauses, few-records)) O (K .origins)
+
+  -- After a record that stands: what is left to show are the counts and the tables.
+  pub kept-next : (T : State) → step S k (decoded (recordPart F k)) ≡ stands T → (n′ : Counts) (here′ : Tables) (N′ O′ A′ : List ℕ) → n′ ≡ countsOf T → here′ ≡ filledTables T t → N′ ≡ nodeTableOf (rowsOf T) → O′ ≡ originTableOf (derivations T) → length A′ ≡ 524416 → Kept F t (suc k) T n′ here′ N′ O′ A′
+  kept-next T q n′ here′ N′ O′ A′ c h m o v = record { fit = K .fit; long = K .long; before = advance F k S stand l T q .before; counts = c; tables = h; nodes = m; origins = o; values = v }

@@ -1,7 +1,7 @@
 -- Rows of the node table, written and compared cell by cell.
 use mathlib.Core.Path.{_≡_, sym, ap, ap₂, _∙_}
 use mathlib.Core.Bool.{Bool, true, false}
-use mathlib.Core.List.{List, [], _∷_, append-assoc, map}
+use mathlib.Core.List.{List, [], _∷_, _++_, append-assoc, map}
 use Prim.Native.Nat.{ℕ, zero, suc, _+_, _-_, _*_, _/_, _≤_, _<_}
 use native.Mathlib.Numerals.{add-one}
 use native.Mathlib.Omega.{arith}
@@ -10,24 +10,29 @@ use borrow.Author.Tests.{eq-eqb, ne-eqb}
 use Rattle.record.specs.Record.{pick, fieldOf, fieldsOf}
 use Rattle.unification.specs.Nodes.{isVariable}
 use Rattle.derivation.specs.Derivation.{literalOf}
-use Rattle.entry.specs.Program.{nodeCells, nodeAt, withNode, isRepeated, noVariable}
+use Rattle.entry.specs.Program.{nodeAt, withNode, isRepeated, noVariable}
 use Rattle.fields.proofs.FieldLaws.{field-next-to}
 use Rattle.verdict.specs.Refusal.{equalLists}
+use Rattle.verdict.proofs.Tabled.{seven-numbers}
 use Rattle.verdict.proofs.Standing.{room}
 use native.Mathlib.Nat.{not-suc-le-zero}
 use lib.Seq.{drop-cons, sets-eq}
 
--- The first i fields of a record stored after the code of a row whose cells start at `at`.
+-- The first i of seven numbers stored after the code of a row whose cells start at `at`.
 abbrev pub fieldsStored : List ℕ → ℕ → List ℕ → ℕ → List ℕ
-fieldsStored N at p zero = N
-fieldsStored N at p (suc i) = set (fieldsStored N at p i) (at + 1 + i) (fieldOf p i)
+fieldsStored N at ns zero = N
+fieldsStored N at ns (suc i) = set (fieldsStored N at ns i) (at + 1 + i) (getD ns i 0)
 
-pub field-stored : (N : List ℕ) (at : ℕ) (p : List ℕ) (i : ℕ) {M : List ℕ} {x : ℕ} → M ≡ fieldsStored N at p i → x ≡ fieldOf p i → set M (at + 1 + i) x ≡ fieldsStored N at p (i + 1)
-field-stored N at p i q e =
-    ap₂ (λ (m : List ℕ) (x : ℕ). set m (at + 1 + i) x) q e ∙ ap (fieldsStored N at p) (sym (add-one i))
+pub field-stored : (N : List ℕ) (at : ℕ) (ns : List ℕ) (i : ℕ) {M : List ℕ} → M ≡ fieldsStored N at ns i → set M (at + 1 + i) (getD ns i 0) ≡ fieldsStored N at ns (i + 1)
+field-stored N at ns i q =
+    ap (λ (m : List ℕ). set m (at + 1 + i) (getD ns i 0)) q ∙ ap (fieldsStored N at ns) (sym (add-one i))
 
-pub node-written : (N : List ℕ) (r code : ℕ) (p : List ℕ) → 8 * r + 8 ≤ length N → fieldsStored (set N (8 * r) code) (8 * r) p 7 ≡ withNode N r (nodeCells code p)
-node-written N r code p room =
+-- Seven numbers, read one by one.
+abbrev sevenOf : List ℕ → List ℕ
+sevenOf ns = getD ns 0 0 ∷ getD ns 1 0 ∷ getD ns 2 0 ∷ getD ns 3 0 ∷ getD ns 4 0 ∷ getD ns 5 0 ∷ getD ns 6 0 ∷ []
+
+pub node-written : (N : List ℕ) (r code : ℕ) (ns : List ℕ) → length ns ≡ 7 → 8 * r + 8 ≤ length N → fieldsStored (set N (8 * r) code) (8 * r) ns 7 ≡ withNode N r (code ∷ ns)
+node-written N r code ns seven room =
     let e1 : 8 * r + 1 + 0 ≡ suc (8 * r) = omega arith in
     let e2 : 8 * r + 1 + 1 ≡ suc (suc (8 * r)) = omega arith in
     let e3 : 8 * r + 1 + 2 ≡ suc (suc (suc (8 * r))) = omega arith in
@@ -35,7 +40,8 @@ node-written N r code p room =
     let e5 : 8 * r + 1 + 4 ≡ suc (suc (suc (suc (suc (8 * r))))) = omega arith in
     let e6 : 8 * r + 1 + 5 ≡ suc (suc (suc (suc (suc (suc (8 * r)))))) = omega arith in
     let e7 : 8 * r + 1 + 6 ≡ suc (suc (suc (suc (suc (suc (suc (8 * r))))))) = omega arith in
-    rw (e1, e2, e3, e4, e5, e6, e7) (sets-eq (nodeCells code p) N (8 * r) room ∙ append-assoc (take (8 * r) N) (nodeCells code p) (drop (8 * r + 8) N))
+    rw (e1, e2, e3, e4, e5, e6, e7) (sets-eq (code ∷ sevenOf ns) N (8 * r) room ∙ append-assoc (take (8 * r) N) (code ∷ sevenOf ns) (drop (8 * r + 8) N)
+    ∙ ap (λ (l : List ℕ). take (8 * r) N ++ ((code ∷ l) ++ drop (8 * r + 8) N)) (seven-numbers ns seven))
 
 -- The seven numbers of a row whose cells start at `at`, from number i on.
 abbrev pub numbersFrom : List ℕ → ℕ → ℕ → List ℕ
@@ -81,21 +87,15 @@ pub repeated-next : (N : List ℕ) (r : ℕ) (cells : List ℕ) → 0 < r → is
 repeated-next N zero cells h = absurd (not-suc-le-zero h)
 repeated-next N (suc r) cells h = let e : suc r - 1 ≡ r = omega arith in rw e
 
-module _ (N : List ℕ) (r code : ℕ) (p : List ℕ) {numbers : List ℕ} {b : Bool} (h : 0 < r) (e : numbers ≡ fieldsOf p) (t : b ≡ equalLists (nodeAt N (r - 1)) (code ∷ numbers)) where
-  pub repeated-found : b ≡ true → isRepeated N r (nodeCells code p) ≡ true
-  repeated-found z = rw (repeated-next N r (nodeCells code p) h, ← e, ← t, z)
+module _ (N : List ℕ) (r : ℕ) (cells : List ℕ) {b : Bool} (h : 0 < r) (t : b ≡ equalLists (nodeAt N (r - 1)) cells) where
+  pub repeated-found : b ≡ true → isRepeated N r cells ≡ true
+  repeated-found z = rw (repeated-next N r cells h, ← t, z)
 
-  pub repeated-on : b ≡ false → isRepeated N r (nodeCells code p) ≡ isRepeated N (r - 1) (nodeCells code p)
-  repeated-on z = rw (repeated-next N r (nodeCells code p) h, ← e, ← t, z)
+  pub repeated-on : b ≡ false → isRepeated N r cells ≡ isRepeated N (r - 1) cells
+  repeated-on z = rw (repeated-next N r cells h, ← t, z)
 
 pub repeated-end : (N : List ℕ) (r : ℕ) (cells : List ℕ) → r ≤ 0 → isRepeated N r cells ≡ false
 repeated-end N r cells h = let e : r ≡ 0 = omega arith in rw e
-
--- The fields of a record, each as it was read.
-pub seven-fields : (p : List ℕ) {a b d e f g h : ℕ}
-    → a ≡ fieldOf p 0 → b ≡ fieldOf p 1 → d ≡ fieldOf p 2 → e ≡ fieldOf p 3 → f ≡ fieldOf p 4 → g ≡ fieldOf p 5 → h ≡ fieldOf p 6
-    → a ∷ b ∷ d ∷ e ∷ f ∷ g ∷ h ∷ [] ≡ fieldsOf p
-seven-fields p a b d e f g h = rw (a, b, d, e, f, g, h)
 
 -- Literals on variable rows, off the node table.
 module _ (N : List ℕ) (p : List ℕ) (i to : ℕ) {n : ℕ} {b : Bool} (l : i < to) (h : to ≤ 7) (e : n ≡ fieldOf p i) (t : b ≡ isVariable N (n / 2)) where

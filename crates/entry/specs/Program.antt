@@ -21,7 +21,7 @@ nodeCells code part = code ∷ fieldsOf part
 abbrev pub nodeAt : List ℕ → ℕ → List ℕ
 nodeAt N r = take 8 (drop (8 * r) N)
 
--- Row r of the node table written, in place of what was there.
+-- Row r of the node table, or clause r of the table of origins, written in place of what was there.
 abbrev pub withNode : List ℕ → ℕ → List ℕ → List ℕ
 withNode N r cells = take (8 * r) N ++ (cells ++ drop (8 * r + 8) N)
 
@@ -97,21 +97,22 @@ applicationEntered F part k n symbols rows N =
     (rowLeft (Refused (reasonNumber notThere)) rows N))
     (rowLeft (Refused (reasonNumber outOfRange)) rows N)
 
--- Kind 4: the answer, and the table of clauses after it.
+-- Kind 4: the answer, the table of clauses and the table of origins after it.
 pub record InputLeft : Type 0 where
   pub answer : Entered
   pub clauses : List ℕ
+  pub origins : List ℕ
 
-abbrev pub inputLeft : Entered → List ℕ → InputLeft
-inputLeft e clauses = record { answer = e; clauses = clauses }
+abbrev pub inputLeft : Entered → List ℕ → List ℕ → InputLeft
+inputLeft e clauses O = record { answer = e; clauses = clauses; origins = O }
 
--- An input clause has maximum index 1 and no bindings.
-unfoldable pub inputEntered : List ℕ → ℕ → Counts → List ℕ → List ℕ → InputLeft
-inputEntered part k n clauses N =
+-- An input clause has maximum index 1 and no bindings; its code in the table of origins is 1.
+unfoldable pub inputEntered : List ℕ → ℕ → Counts → List ℕ → List ℕ → List ℕ → InputLeft
+inputEntered part k n clauses N O =
     pick (inRange inputKind (decoded part))
     (pick (allBelow (n .rows) (map (λ l. l .1) (inputLiterals (decoded part))))
     (pick (noVariable N (inputLiterals (decoded part)))
-    (inputLeft (Stands (moreClauses n)) (withClauseCells clauses (n .clauses) k (countOf part) 1 (n .bindings) 0))
-    (inputLeft (Refused (reasonNumber variableLiteral)) clauses))
-    (inputLeft (Refused (reasonNumber notThere)) clauses))
-    (inputLeft (Refused (reasonNumber outOfRange)) clauses)
+    (inputLeft (Stands (moreClauses n)) (withClauseCells clauses (n .clauses) k (countOf part) 1 (n .bindings) 0) (withNode O (n .clauses) (nodeCells 1 part)))
+    (inputLeft (Refused (reasonNumber variableLiteral)) clauses O))
+    (inputLeft (Refused (reasonNumber notThere)) clauses O))
+    (inputLeft (Refused (reasonNumber outOfRange)) clauses O)

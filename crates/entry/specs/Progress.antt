@@ -7,8 +7,9 @@ use lib.Dec.{T}
 use lib.ListN.{length, take, replicate}
 use Rattle.record.specs.Record.{records, recordCount, recordPart, decoded}
 use Rattle.unification.specs.Row.{variable, Row, application}
+use Rattle.derivation.specs.Stored.{originTableOf}
 use Rattle.verdict.specs.Refusal.{Reason, reasonNumber}
-use Rattle.verdict.specs.State.{State, start, rowsOf, held}
+use Rattle.verdict.specs.State.{State, start, rowsOf, derivations, held}
 use Rattle.verdict.specs.Step.{stands, refused, step, read, allStand}
 use Rattle.verdict.specs.Tables.{Tables, lengthsOf, filledTables}
 use Rattle.verdict.specs.Verdict.{longEnough, fittingLength}
@@ -36,35 +37,36 @@ countsOf S = record { symbols = length (S .symbols); rows = length (S .rows); cl
 abbrev pub tablesWith : List ℕ → List ℕ → List ℕ → List ℕ → Tables
 tablesWith symbols rows C B = record { symbols = symbols; rows = rows; clauses = C; bindings = B }
 
--- What the program has after k records of the file F, begun on the tables t: the counts, tables and node table of the state that these
--- records leave. What the array of values holds between steps does not matter.
-pub record Kept (F : List ℕ) (t : Tables) (k : ℕ) (S : State) (n : Counts) (here : Tables) (N A : List ℕ) : Type 0 where
+-- What the program has after k records of the file F, begun on the tables t: the counts, tables, node table and table of origins of the
+-- state that these records leave. What the array of values holds between steps does not matter.
+pub record Kept (F : List ℕ) (t : Tables) (k : ℕ) (S : State) (n : Counts) (here : Tables) (N O A : List ℕ) : Type 0 where
   pub fit : fittingLength (length F) ≡ true
   pub long : longEnough (lengthsOf t) ≡ true
   pub before : read start 0 (take k (records F)) ≡ allStand S
   pub counts : n ≡ countsOf S
   pub tables : here ≡ filledTables S t
   pub nodes : N ≡ nodeTableOf (rowsOf S)
+  pub origins : O ≡ originTableOf (derivations S)
   pub values : length A ≡ 524416
 
 -- What a function on record k asks: the state for some tables before, and that the record is inside the file.
-pub record Reading (F : List ℕ) (k : ℕ) (n : Counts) (here : Tables) (N A : List ℕ) : Type 0 where
+pub record Reading (F : List ℕ) (k : ℕ) (n : Counts) (here : Tables) (N O A : List ℕ) : Type 0 where
   pub inside : k < recordCount F
   pub tablesBefore : Tables
   pub state : State
-  pub kept : Kept F tablesBefore k state n here N A
+  pub kept : Kept F tablesBefore k state n here N O A
 
--- What it answers: a record that stands leaves what belongs to the next state; a refused one its number, and the tables and the node table as they were.
-abbrev pub Next : List ℕ → Tables → ℕ → State → Tables → List ℕ → List ℕ → Entered → Type 0
-Next F t k S here N A (Stands n) = (T : State) × (step S k (decoded (recordPart F k)) ≡ stands T) × Kept F t (suc k) T n here N A
-Next F t k S here N A (Refused q) = (reason : Reason) × (step S k (decoded (recordPart F k)) ≡ refused reason) × (q ≡ reasonNumber reason) × (here ≡ filledTables S t) × (N ≡ nodeTableOf (rowsOf S)) × (length A ≡ 524416)
+-- What it answers: a record that stands leaves what belongs to the next state; a refused one its number, and all tables as they were.
+abbrev pub Next : List ℕ → Tables → ℕ → State → Tables → List ℕ → List ℕ → List ℕ → Entered → Type 0
+Next F t k S here N O A (Stands n) = (T : State) × (step S k (decoded (recordPart F k)) ≡ stands T) × Kept F t (suc k) T n here N O A
+Next F t k S here N O A (Refused q) = (reason : Reason) × (step S k (decoded (recordPart F k)) ≡ refused reason) × (q ≡ reasonNumber reason) × (here ≡ filledTables S t) × (N ≡ nodeTableOf (rowsOf S)) × (O ≡ originTableOf (derivations S)) × (length A ≡ 524416)
 
-pub record RecordRead (F : List ℕ) (k : ℕ) (n : Counts) (here : Tables) (N A : List ℕ) (e : Entered) (here′ : Tables) (N′ A′ : List ℕ) : Type 0 where
-  pub next : (t : Tables) (S : State) → Kept F t k S n here N A → Next F t k S here′ N′ A′ e
+pub record RecordRead (F : List ℕ) (k : ℕ) (n : Counts) (here : Tables) (N O A : List ℕ) (e : Entered) (here′ : Tables) (N′ O′ A′ : List ℕ) : Type 0 where
+  pub next : (t : Tables) (S : State) → Kept F t k S n here N O A → Next F t k S here′ N′ O′ A′ e
 
 -- What is left when reading has ended: what the program keeps of the state S that some number of records leave.
-pub record ReadTo (F : List ℕ) (t : Tables) (S : State) (here : Tables) (N A : List ℕ) : Type 0 where
+pub record ReadTo (F : List ℕ) (t : Tables) (S : State) (here : Tables) (N O A : List ℕ) : Type 0 where
   pub count : ℕ
   pub few : count ≤ recordCount F
   pub counts : Counts
-  pub kept : Kept F t count S counts here N A
+  pub kept : Kept F t count S counts here N O A

@@ -1,7 +1,7 @@
 // Records of kind 1 to 4: each is tested in the order of the numbers that it can be refused with, and then entered in the tables.
 use super::rows::is_repeated;
 use super::rows::no_variable;
-use super::rows::put_node;
+use super::rows::put_cells;
 use fields::Arity;
 use fields::application_in_range;
 use fields::arguments_below;
@@ -10,14 +10,17 @@ use fields::input_in_range;
 use fields::literal_rows_below;
 use fields::symbol_in_range;
 use fields::variable_in_range;
+use record::clause_literals;
 use record::count;
 use record::field;
+use record::fields;
+use record::record_part;
 use tables::put_clause;
 use tables::set_cell;
 ghost use mathlib.Core.Path.{_≡_};
 ghost use Prim.Native.Nat.{_≤_, _<_};
 ghost use lib.ListN.{length};
-ghost use Rattle.record.specs.Record.{countOf};
+ghost use Rattle.record.specs.Record.{recordPart, kindOf, countOf};
 ghost use Rattle.entry.specs.Program.{symbolLeft, symbolEntered, rowLeft, rowEntered, variableEntered, applicationThere, applicationEntered, inputLeft, inputEntered};
 
 // How many symbols, rows, clauses and bindings the records read so far have declared.
@@ -67,10 +70,11 @@ fn enter_row(
     ensures { λ _. ⌜ length (now (nodes .exit)) ≡ 32768 ⌝ }
 {
     let n = counts.rows;
-    if is_repeated(nodes, n, code, part) {
+    let numbers = fields(part);
+    if is_repeated(nodes, n, code, &numbers) {
         return Entered::Refused(6);
     }
-    put_node(nodes, n, code, part);
+    put_cells(nodes, n, code, &numbers);
     set_cell(rows, n as usize, k);
     Entered::Stands(Counts {
         symbols: counts.symbols,
@@ -141,18 +145,22 @@ pub fn application_record(
     enter_row(part, k, code, counts, rows, nodes)
 }
 
-// Kind 4. An input clause has maximum index 1 and no bindings.
+// Kind 4. An input clause has maximum index 1 and no bindings. The clause reader's seven numbers go to the table of origins.
 pub fn input_record(
-    part: &[u8],
+    file: &[u8],
     k: u16,
     counts: Counts,
     clauses: &mut [u16],
     nodes: &[u16; 32768],
+    origins: &mut [u16; 32768],
 ) -> Entered
+    requires { ⌜ kindOf (recordPart (now file) k) ≡ 4 ⌝ }
     requires { ⌜ counts .clauses < 4096 ⌝ }
-    requires { ⌜ length (now nodes) ≡ 32768 ⌝ }
-    ensures { λ e. ⌜ inputLeft e (now (clauses .exit)) ≡ inputEntered (now (part .entry)) k counts (now (clauses .entry)) (now (nodes .entry)) ⌝ }
+    requires { ⌜ (length (now nodes) ≡ 32768) × (length (now origins) ≡ 32768) ⌝ }
+    ensures { λ e. ⌜ inputLeft e (now (clauses .exit)) (now (origins .exit)) ≡ inputEntered (recordPart (now (file .entry)) k) k counts (now (clauses .entry)) (now (nodes .entry)) (now (origins .entry)) ⌝ }
+    ensures { λ _. ⌜ length (now (origins .exit)) ≡ 32768 ⌝ }
 {
+    let part = record_part(file, k as usize);
     if !input_in_range(part) {
         return Entered::Refused(4);
     }
@@ -163,8 +171,10 @@ pub fn input_record(
         return Entered::Refused(7);
     }
     let n = counts.clauses;
-    let literals = count(part) as u16;
-    put_clause(clauses, n, k, literals, 1, counts.bindings, 0);
+    let read = clause_literals(file, k as usize);
+    let numbers = read.numbers;
+    put_cells(origins, n, 1, &numbers);
+    put_clause(clauses, n, k, read.count as u16, 1, counts.bindings, 0);
     Entered::Stands(Counts {
         symbols: counts.symbols,
         rows: counts.rows,

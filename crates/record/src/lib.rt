@@ -2,7 +2,7 @@
 // function here takes any number and any bytes.
 ghost use mathlib.Core.Path.{_≡_};
 ghost use lib.ListN.{getD};
-ghost use Rattle.record.specs.Record.{recordPart, kindOf, countOf, fieldOf};
+ghost use Rattle.record.specs.Record.{recordPart, kindOf, countOf, fieldOf, fieldsOf};
 ghost use Rattle.record.specs.Reader.{clauseLiterals};
 
 // An input clause as it is read out: how many literals it has, and seven numbers, zero past the last literal.
@@ -55,6 +55,21 @@ pub fn field(part: &[u8], i: u8) -> u16
     low + 256 * high
 }
 
+// The seven fields of a record.
+pub fn fields(part: &[u8]) -> [u16; 7]
+    ensures { λ r. ⌜ r ≡ fieldsOf (now (part .entry)) ⌝ }
+{
+    [
+        field(part, 0),
+        field(part, 1),
+        field(part, 2),
+        field(part, 3),
+        field(part, 4),
+        field(part, 5),
+        field(part, 6),
+    ]
+}
+
 // The literals of an input clause; zeros for a record of another kind, and for one that is not wholly inside.
 pub fn clause_literals(file: &[u8], k: usize) -> ClauseLiterals
     ensures { λ r. ⌜ r ≡ clauseLiterals (now (file .entry)) k ⌝ }
@@ -63,15 +78,7 @@ pub fn clause_literals(file: &[u8], k: usize) -> ClauseLiterals
     if kind(part) == 4 {
         ClauseLiterals {
             count: count(part),
-            numbers: [
-                field(part, 0),
-                field(part, 1),
-                field(part, 2),
-                field(part, 3),
-                field(part, 4),
-                field(part, 5),
-                field(part, 6),
-            ],
+            numbers: fields(part),
         }
     } else {
         ClauseLiterals {

@@ -139,6 +139,46 @@ pub literals-back : (ls : List RowLiteral) → map literalOf (map literalNumber 
 literals-back [] = refl
 literals-back (l ∷ ls) = ap₂ (λ (x : RowLiteral) (xs : List RowLiteral). x ∷ xs) (literal-back l) (literals-back ls)
 
+-- Seven numbers, read one by one.
+pub seven-numbers : (xs : List ℕ) → length xs ≡ 7 → getD xs 0 0 ∷ getD xs 1 0 ∷ getD xs 2 0 ∷ getD xs 3 0 ∷ getD xs 4 0 ∷ getD xs 5 0 ∷ getD xs 6 0 ∷ [] ≡ xs
+seven-numbers xs l = ext-getD 0 (getD xs 0 0 ∷ getD xs 1 0 ∷ getD xs 2 0 ∷ getD xs 3 0 ∷ getD xs 4 0 ∷ getD xs 5 0 ∷ getD xs 6 0 ∷ []) xs (sym l) at
+  where
+    at : (i : ℕ) → i < 7 → getD (getD xs 0 0 ∷ getD xs 1 0 ∷ getD xs 2 0 ∷ getD xs 3 0 ∷ getD xs 4 0 ∷ getD xs 5 0 ∷ getD xs 6 0 ∷ []) i 0 ≡ getD xs i 0
+    at zero h = refl
+    at (suc zero) h = refl
+    at (suc (suc zero)) h = refl
+    at (suc (suc (suc zero))) h = refl
+    at (suc (suc (suc (suc zero)))) h = refl
+    at (suc (suc (suc (suc (suc zero))))) h = refl
+    at (suc (suc (suc (suc (suc (suc zero)))))) h = refl
+    at (suc (suc (suc (suc (suc (suc (suc i))))))) h = absurd (omega arith)
+
+-- Every clause has eight cells in the table of origins.
+pub eight-cells : (older : List Derivation) (d : Derivation) → SourceOf older d → length (cellsOfOrigin d) ≡ 8
+eight-cells older (input number ls) s =
+    ap suc (length-append (map literalNumber ls) (replicate (7 - length ls) 0) ∙ omega (arith, length-map ls literalNumber, length-replicate {A = ℕ} (7 - length ls) 0, s .1))
+eight-cells older (factor number c a b bs) s = refl
+eight-cells older (resolve number l a r b bs) s = refl
+
+pub origin-length : (ks : List Derivation) → Sourced ks → length (originList ks) ≡ 8 * length ks
+origin-length [] G = refl
+origin-length (k ∷ ks) G = length-append (originList ks) (cellsOfOrigin k) ∙ omega (arith, origin-length ks (G .1), eight-cells ks k (G .0))
+
+origin-cell : (ks : List Derivation) → Sourced ks → (n i : ℕ) (d : Derivation) → i < 8 → entry ks n ≡ some d → getD (originList ks) (8 * n + i) 0 ≡ getD (cellsOfOrigin d) i 0
+origin-cell [] G n i d l q = absurd (some-not-none refl q)
+origin-cell (k ∷ ks) G n i d l q = try (eqb n (length ks)) refl q (λ p. origin-cell ks (G .1) n i d l p)
+  where
+    try : (b : Bool) → eqb n (length ks) ≡ b → pick b (some k) (entry ks n) ≡ some d → (entry ks n ≡ some d → getD (originList ks) (8 * n + i) 0 ≡ getD (cellsOfOrigin d) i 0)
+        → getD (originList ks ++ cellsOfOrigin k) (8 * n + i) 0 ≡ getD (cellsOfOrigin d) i 0
+    try true p r h =
+        let e : n ≡ length ks = eqb→eq n (length ks) (to-T (eqb n (length ks)) p) in
+        let z : 8 * n + i ≡ length (originList ks) + i = omega (arith, origin-length ks (G .1)) in
+        ap (λ (j : ℕ). getD (originList ks ++ cellsOfOrigin k) j 0) z ∙ getD-append-add (originList ks) (cellsOfOrigin k) i 0
+        ∙ ap (λ (x : Derivation). getD (cellsOfOrigin x) i 0) (some-injective r)
+    try false p r h =
+        let z = entry-below ks n d r in
+        List·getD-append (originList ks) (cellsOfOrigin k) 0 (8 * n + i) (omega (arith, origin-length ks (G .1))) ∙ h r
+
 -- Tables that begin with the state's cells.
 module _ (cs : List (ℕ × Derivation)) (H : Sourced (map (λ (c : ℕ × Derivation). c .1) cs)) (X C Y : List ℕ) where
   abbrev ds : List Derivation
@@ -164,32 +204,6 @@ module _ (cs : List (ℕ × Derivation)) (H : Sourced (map (λ (c : ℕ × Deriv
     index = cell-there n 2 c (omega arith) q;
     own = ap₂ (λ (f m : ℕ). bindingsFrom tableB f m) (cell-there n 3 c (omega arith) q) (cell-there n 4 c (omega arith) q) ∙ clause-bindings cs Y n c q;
   }
-
-  -- Every clause has eight cells in the table of origins.
-  eight : (older : List Derivation) (d : Derivation) → SourceOf older d → length (cellsOfOrigin d) ≡ 8
-  eight older (input number ls) s =
-      ap suc (length-append (map literalNumber ls) (replicate (7 - length ls) 0) ∙ omega (arith, length-map ls literalNumber, length-replicate {A = ℕ} (7 - length ls) 0, s .1))
-  eight older (factor number c a b bs) s = refl
-  eight older (resolve number l a r b bs) s = refl
-
-  origin-length : (ks : List Derivation) → Sourced ks → length (originList ks) ≡ 8 * length ks
-  origin-length [] G = refl
-  origin-length (k ∷ ks) G = length-append (originList ks) (cellsOfOrigin k) ∙ omega (arith, origin-length ks (G .1), eight ks k (G .0))
-
-  origin-cell : (ks : List Derivation) → Sourced ks → (n i : ℕ) (d : Derivation) → i < 8 → entry ks n ≡ some d → getD (originList ks) (8 * n + i) 0 ≡ getD (cellsOfOrigin d) i 0
-  origin-cell [] G n i d l q = absurd (some-not-none refl q)
-  origin-cell (k ∷ ks) G n i d l q = try (eqb n (length ks)) refl q (λ p. origin-cell ks (G .1) n i d l p)
-    where
-      try : (b : Bool) → eqb n (length ks) ≡ b → pick b (some k) (entry ks n) ≡ some d → (entry ks n ≡ some d → getD (originList ks) (8 * n + i) 0 ≡ getD (cellsOfOrigin d) i 0)
-          → getD (originList ks ++ cellsOfOrigin k) (8 * n + i) 0 ≡ getD (cellsOfOrigin d) i 0
-      try true p r h =
-          let e : n ≡ length ks = eqb→eq n (length ks) (to-T (eqb n (length ks)) p) in
-          let z : 8 * n + i ≡ length (originList ks) + i = omega (arith, origin-length ks (G .1)) in
-          ap (λ (j : ℕ). getD (originList ks ++ cellsOfOrigin k) j 0) z ∙ getD-append-add (originList ks) (cellsOfOrigin k) i 0
-          ∙ ap (λ (x : Derivation). getD (cellsOfOrigin x) i 0) (some-injective r)
-      try false p r h =
-          let z = entry-below ks n d r in
-          List·getD-append (originList ks) (cellsOfOrigin k) 0 (8 * n + i) (omega (arith, origin-length ks (G .1))) ∙ h r
 
   -- The cells of clause n in the table of origins: cell 0, and number i.
   origin-there : (n i : ℕ) (d : Derivation) → i < 8 → entry ds n ≡ some d → getD tableO (8 * n + i) 0 ≡ getD (cellsOfOrigin d) i 0
@@ -218,20 +232,6 @@ module _ (cs : List (ℕ × Derivation)) (H : Sourced (map (λ (c : ℕ × Deriv
           try true p h = entry-more k ks m d p
           try false p h = entry-more k ks m d (h p)
 
-  -- Seven numbers, read one by one.
-  seven-numbers : (xs : List ℕ) → length xs ≡ 7 → getD xs 0 0 ∷ getD xs 1 0 ∷ getD xs 2 0 ∷ getD xs 3 0 ∷ getD xs 4 0 ∷ getD xs 5 0 ∷ getD xs 6 0 ∷ [] ≡ xs
-  seven-numbers xs l = ext-getD 0 (getD xs 0 0 ∷ getD xs 1 0 ∷ getD xs 2 0 ∷ getD xs 3 0 ∷ getD xs 4 0 ∷ getD xs 5 0 ∷ getD xs 6 0 ∷ []) xs (sym l) at
-    where
-      at : (i : ℕ) → i < 7 → getD (getD xs 0 0 ∷ getD xs 1 0 ∷ getD xs 2 0 ∷ getD xs 3 0 ∷ getD xs 4 0 ∷ getD xs 5 0 ∷ getD xs 6 0 ∷ []) i 0 ≡ getD xs i 0
-      at zero h = refl
-      at (suc zero) h = refl
-      at (suc (suc zero)) h = refl
-      at (suc (suc (suc zero))) h = refl
-      at (suc (suc (suc (suc zero)))) h = refl
-      at (suc (suc (suc (suc (suc zero))))) h = refl
-      at (suc (suc (suc (suc (suc (suc zero)))))) h = refl
-      at (suc (suc (suc (suc (suc (suc (suc i))))))) h = absurd (omega arith)
-
   pub stored-clause : (d : Derivation) (n : ℕ) → entry (map (λ (c : ℕ × Derivation). c .1) cs) n ≡ some d
       → Stored (originList (map (λ (c : ℕ × Derivation). c .1) cs) ++ X) (clauseCells cs ++ C) (bindingCells (map (λ (c : ℕ × Derivation). c .1) cs) ++ Y) n d
   stored-clause (input number ls) n q =
@@ -243,7 +243,7 @@ module _ (cs : List (ℕ × Derivation)) (H : Sourced (map (λ (c : ℕ × Deriv
       let at : (i : ℕ) → i < 7 → part tableO n i ≡ getD (map literalNumber ls ++ replicate (7 - length ls) 0) i 0 = λ i l. number-there n i (input number ls) l q in
       let all : originNumbers tableO n ≡ map literalNumber ls ++ replicate (7 - length ls) 0 =
       (λ i. at 0 (omega arith) i ∷ at 1 (omega arith) i ∷ at 2 (omega arith) i ∷ at 3 (omega arith) i ∷ at 4 (omega arith) i ∷ at 5 (omega arith) i ∷ at 6 (omega arith) i ∷ [])
-      ∙ seven-numbers (map literalNumber ls ++ replicate (7 - length ls) 0) (let z = eight (earlier ds n) (input number ls) s in omega arith) in
+      ∙ seven-numbers (map literalNumber ls ++ replicate (7 - length ls) 0) (let z = eight-cells (earlier ds n) (input number ls) s in omega arith) in
       let count : literalsCell tableC n ≡ length (map literalNumber ls) = c .literalCount ∙ length-map ls (λ (l : RowLiteral). (l .0, (l .1, 1))) ∙ sym (length-map ls literalNumber) in
       subst (λ (m : ℕ). Stored tableO tableC tableB n (input m ls)) (sym e)
       (storedInput (code-there n (input number ls) q)

@@ -1,70 +1,109 @@
 -- Each return is a case of the definition; a record in range has few enough literals to be read.
-use Rattle.entry.proofs.EntryLaws.{input-out, input-few, input-missing, input-variable, input-in}
+use mathlib.Core.Path.{ap, sym, _∙_, subst}
+use mathlib.Core.Bool.{Bool}
+use mathlib.Core.List.{List, map}
+use Prim.Native.Nat.{ℕ, _≤_}
+use lib.ListN.{length}
+use Rattle.record.specs.Record.{recordPart, countOf, decoded, inputKind}
+use Rattle.derivation.specs.Derivation.{RowLiteral, inputLiterals}
+use Rattle.verdict.specs.Refusal.{inRange, allBelow}
+use Rattle.entry.specs.Program.{noVariable}
+use Rattle.entry.proofs.EntryLaws.{input-out, input-few, input-missing, input-variable, input-in, literals-read}
 use borrow.Author.Needs.{needs}
 use Rattle.entry.proofs.entry.input_record.Statement.{statement}
 use Rattle.entry.proofs.entry.input_record.Tie as tie
+use Rattle.entry.proofs.entry.input_record.Reads as reads
+use Rattle.entry.proofs.entry.input_record.Lts as lts
+use Rattle.entry.proofs.rows.no_variable.Reads as no-variable-reads
+use Rattle.entry.proofs.rows.put_cells.Reads as put-cells-reads
+use Rattle.fields.proofs.input_in_range.Reads as input-in-range-reads
+use Rattle.fields.proofs.literal_rows_below.Reads as literal-rows-below-reads
+use Rattle.record.proofs.clause_literals.Reads as clause-literals-reads
+use Rattle.record.proofs.record_part.Reads as record-part-reads
+use Rattle.tables.proofs.put_clause.Reads as put-clause-reads
+
+record-part-requires : tie.Need-record-part-requires
+record-part-requires c κs = search needs
 
 input-in-range-requires : tie.Need-input-in-range-requires
 input-in-range-requires c κs = search needs
 
 returns : tie.Need-returns
 returns c =
-    let s = c .before .before .before .before .args in
-    input-out (s .part .now) (s .k) (s .counts) (s .clauses .now) (s .nodes .now) (c .before .input-in-range .ensures) (c .if1 .taken)
+    let s = c .before .before .before .before .before .args in
+    let e = c .before .input-in-range .ensures ∙ ap (λ (p : List ℕ). inRange inputKind (decoded p)) (c .before .before .record-part .ensures) in
+    (input-out (recordPart (s .file .now) (s .k)) (s .k) (s .counts) (s .clauses .now) (s .nodes .now) (s .origins .now) e (c .if1 .taken), c .before .before .before .before .before .pre .1 .1 .1)
 
 literal-rows-below-requires : tie.Need-literal-rows-below-requires
 literal-rows-below-requires c κs =
-    let s = c .before .before .before .before .args in
-    input-few (s .part .now) (s .k) (s .counts) (s .clauses .now) (s .nodes .now) (c .before .input-in-range .ensures) (c .if1 .left)
+    let s = c .before .before .before .before .before .args in
+    let e = c .before .input-in-range .ensures ∙ ap (λ (p : List ℕ). inRange inputKind (decoded p)) (c .before .before .record-part .ensures) in
+    subst (λ (p : List ℕ). countOf p ≤ 7) (sym (c .before .before .record-part .ensures)) (input-few (recordPart (s .file .now) (s .k)) (s .k) (s .counts) (s .clauses .now) (s .nodes .now) (s .origins .now) e (c .if1 .left))
 
 returns-2 : tie.Need-returns-2
 returns-2 c =
-    let s = c .before .before .before .before .before .before .args in
-    input-missing (s .part .now) (s .k) (s .counts) (s .clauses .now) (s .nodes .now) (c .before .before .before .input-in-range .ensures) (c .before .before .if1 .left) (c .before .literal-rows-below .ensures) (c .if2 .taken)
+    let s = c .before .before .before .before .before .before .before .args in
+    let e = c .before .before .before .input-in-range .ensures ∙ ap (λ (p : List ℕ). inRange inputKind (decoded p)) (c .before .before .before .before .record-part .ensures) in
+    let b = c .before .literal-rows-below .ensures ∙ ap (λ (p : List ℕ). allBelow (s .counts .rows) (map (λ (l : RowLiteral). l .1) (inputLiterals (decoded p)))) (c .before .before .before .before .record-part .ensures) in
+    (input-missing (recordPart (s .file .now) (s .k)) (s .k) (s .counts) (s .clauses .now) (s .nodes .now) (s .origins .now) e (c .before .before .if1 .left) b (c .if2 .taken), c .before .before .before .before .before .before .before .pre .1 .1 .1)
 
 no-variable-requires : tie.Need-no-variable-requires
 no-variable-requires c κs =
-    let s = c .before .before .before .before .before .before .args in
-    (c .before .before .before .before .before .before .pre .1, input-few (s .part .now) (s .k) (s .counts) (s .clauses .now) (s .nodes .now) (c .before .before .before .input-in-range .ensures) (c .before .before .if1 .left))
+    let s = c .before .before .before .before .before .before .before .args in
+    let e = c .before .before .before .input-in-range .ensures ∙ ap (λ (p : List ℕ). inRange inputKind (decoded p)) (c .before .before .before .before .record-part .ensures) in
+    (c .before .before .before .before .before .before .before .pre .1 .1 .0, subst (λ (p : List ℕ). countOf p ≤ 7) (sym (c .before .before .before .before .record-part .ensures)) (input-few (recordPart (s .file .now) (s .k)) (s .k) (s .counts) (s .clauses .now) (s .nodes .now) (s .origins .now) e (c .before .before .if1 .left)))
 
 returns-3 : tie.Need-returns-3
 returns-3 c =
-    let s = c .before .before .before .before .before .before .before .before .args in
-    input-variable (s .part .now) (s .k) (s .counts) (s .clauses .now) (s .nodes .now) (c .before .before .before .before .before .input-in-range .ensures) (c .before .before .before .before .if1 .left) (c .before .before .before .literal-rows-below .ensures) (c .before .before .if2 .left) (c .before .no-variable .ensures) (c .if3 .taken)
+    let s = c .before .before .before .before .before .before .before .before .before .args in
+    let e = c .before .before .before .before .before .input-in-range .ensures ∙ ap (λ (p : List ℕ). inRange inputKind (decoded p)) (c .before .before .before .before .before .before .record-part .ensures) in
+    let b = c .before .before .before .literal-rows-below .ensures ∙ ap (λ (p : List ℕ). allBelow (s .counts .rows) (map (λ (l : RowLiteral). l .1) (inputLiterals (decoded p)))) (c .before .before .before .before .before .before .record-part .ensures) in
+    let v = c .before .no-variable .ensures ∙ ap (λ (p : List ℕ). noVariable (s .nodes .now) (inputLiterals (decoded p))) (c .before .before .before .before .before .before .record-part .ensures) in
+    (input-variable (recordPart (s .file .now) (s .k)) (s .k) (s .counts) (s .clauses .now) (s .nodes .now) (s .origins .now) e (c .before .before .before .before .if1 .left) b (c .before .before .if2 .left) v (c .if3 .taken), c .before .before .before .before .before .before .before .before .before .pre .1 .1 .1)
 
-count-requires : tie.Need-count-requires
-count-requires c κs = search needs
+clause-literals-requires : tie.Need-clause-literals-requires
+clause-literals-requires c κs = search needs
 
-cast-literals : tie.Need-cast-literals
-cast-literals c = search needs
+put-cells-requires : tie.Need-put-cells-requires
+put-cells-requires c κs =
+    (c .before .before .before .before .before .before .before .before .before .before .before .before .before .pre .1 .1 .1, (ap length (literals-read _ _ (c .before .before .before .clause-literals .ensures) (c .before .before .before .before .before .before .before .before .before .before .before .before .before .pre .0) .1), c .before .before .before .before .before .before .before .before .before .before .before .before .before .pre .1 .0))
+
+cast-put-clause : tie.Need-cast-put-clause
+cast-put-clause c = search needs
 
 put-clause-requires : tie.Need-put-clause-requires
 put-clause-requires c κs = search needs
 
-add-t14 : tie.Need-add-t14
-add-t14 c = search needs
+add-t19 : tie.Need-add-t19
+add-t19 c = search needs
 
 same-length : tie.Need-same-length
 same-length c = search needs
 
 returns-4 : tie.Need-returns-4
 returns-4 c =
-    let s = c .before .before .before .before .before .before .before .before .before .before .before .before .before .args in
-    input-in (s .part .now) (s .k) (s .counts) (s .clauses .now) (s .nodes .now) (c .before .before .before .before .before .before .before .before .before .before .input-in-range .ensures) (c .before .before .before .before .before .before .before .before .before .if1 .left) (c .before .before .before .before .before .before .before .before .literal-rows-below .ensures) (c .before .before .before .before .before .before .before .if2 .left) (c .before .before .before .before .before .before .no-variable .ensures) (c .before .before .before .before .before .if3 .left) (c .before .before .before .before .count .ensures) (c .before .before .put-clause .ensures)
+    let s = c .before .before .before .before .before .before .before .before .before .before .before .before .before .before .before .before .before .before .before .args in
+    let e = c .before .before .before .before .before .before .before .before .before .before .before .before .before .before .before .input-in-range .ensures ∙ ap (λ (p : List ℕ). inRange inputKind (decoded p)) (c .before .before .before .before .before .before .before .before .before .before .before .before .before .before .before .before .record-part .ensures) in
+    let b = c .before .before .before .before .before .before .before .before .before .before .before .before .before .literal-rows-below .ensures ∙ ap (λ (p : List ℕ). allBelow (s .counts .rows) (map (λ (l : RowLiteral). l .1) (inputLiterals (decoded p)))) (c .before .before .before .before .before .before .before .before .before .before .before .before .before .before .before .before .record-part .ensures) in
+    let v = c .before .before .before .before .before .before .before .before .before .before .before .no-variable .ensures ∙ ap (λ (p : List ℕ). noVariable (s .nodes .now) (inputLiterals (decoded p))) (c .before .before .before .before .before .before .before .before .before .before .before .before .before .before .before .before .record-part .ensures) in
+    let r = literals-read (s .file .now) (s .k) (c .before .before .before .before .before .before .before .before .before .clause-literals .ensures) (c .before .before .before .before .before .before .before .before .before .before .before .before .before .before .before .before .before .before .before .pre .0) in
+    (input-in (recordPart (s .file .now) (s .k)) (s .k) (s .counts) (s .clauses .now) (s .nodes .now) (s .origins .now) e (c .before .before .before .before .before .before .before .before .before .before .before .before .before .before .if1 .left) b (c .before .before .before .before .before .before .before .before .before .before .before .before .if2 .left) v (c .before .before .before .before .before .before .before .before .before .before .if3 .left) (r .0) (r .1) (c .before .before .before .before .before .put-cells .ensures .0) (c .before .before .put-clause .ensures), c .before .before .before .before .before .put-cells .ensures .1)
 
 pub input-record-spec : {M : Type 1} → statement M
 input-record-spec =
     tie.close
     (tie.spec
+    record-part-requires
     input-in-range-requires
     returns
     literal-rows-below-requires
     returns-2
     no-variable-requires
     returns-3
-    count-requires
-    cast-literals
+    clause-literals-requires
+    put-cells-requires
+    cast-put-clause
     put-clause-requires
-    add-t14
+    add-t19
     same-length
     returns-4)
