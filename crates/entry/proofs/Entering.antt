@@ -148,7 +148,7 @@ origin-table-length ds H few O table =
     ap length table ∙ length-append (originList ds) (replicate (32768 - 8 * length ds) 0) ∙ ap₂ _+_ (origin-length ds H) (length-replicate {A = ℕ} (32768 - 8 * length ds) 0) ∙ omega arith
 
 -- The cells of a record's row.
-zero-list : (ns : List ℕ) → zeros ns ≡ true → ns ≡ replicate (length ns) 0
+pub zero-list : (ns : List ℕ) → zeros ns ≡ true → ns ≡ replicate (length ns) 0
 zero-list [] q = refl
 zero-list (n ∷ ns) q =
     let p = both-true (eqb n 0) (zeros ns) q in

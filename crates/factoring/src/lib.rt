@@ -13,6 +13,7 @@ use inference::same_sign;
 use loading::load;
 use pairs::Unified;
 use record::field;
+use record::fields;
 use record::record_part;
 use unify::unify_literals;
 ghost use mathlib.Core.Path.{_≡_};
@@ -23,22 +24,22 @@ ghost use Rattle.inference.specs.Stepping.{BeforeStep, Factoring, UnifiedTables
 
 // Unifies the two atoms of a factor over the bindings of its parent.
 fn unify_factor(
-    file: &[u8],
     k: u16,
     counts: Counts,
     clauses: &[u16],
     bindings: &mut [u16],
     nodes: &[u16; 32768],
+    origins: &[u16; 32768],
     values: &mut [u16; 524416],
     kept: Atom,
     deleted: Atom,
 ) -> Unified
-    requires { ⌜ Factoring (now file) k counts (now clauses) (now bindings) (now nodes) (now values) kept deleted ⌝ }
-    ensures { λ u. ⌜ ((R : Factoring (now (file .entry)) k counts (now (clauses .entry)) (now (bindings .entry)) (now (nodes .entry)) (now (values .entry)) kept deleted) → unifyFactor (R .step .state) (atomNamed (R .kept)) (atomNamed (R .deleted)) ≡ outcomeOf (now (bindings .exit)) (counts .bindings) u) ⌝ }
+    requires { ⌜ Factoring k counts (now clauses) (now bindings) (now nodes) (now origins) (now values) kept deleted ⌝ }
+    ensures { λ u. ⌜ ((R : Factoring k counts (now (clauses .entry)) (now (bindings .entry)) (now (nodes .entry)) (now (origins .entry)) (now (values .entry)) kept deleted) → unifyFactor (R .step .state) (atomNamed (R .kept)) (atomNamed (R .deleted)) ≡ outcomeOf (now (bindings .exit)) (counts .bindings) u) ⌝ }
     ensures { λ u. ⌜ UnifiedTables (now (bindings .entry)) (now (bindings .exit)) (now (values .exit)) (counts .bindings) u ⌝ }
 {
     following::values::clear(values, index_cell(clauses, kept.clause));
-    load(file, clauses, bindings, nodes, values, kept.clause, 0);
+    load(origins, clauses, bindings, nodes, values, kept.clause, 0);
     unify_literals(
         nodes,
         values,
@@ -53,33 +54,45 @@ fn unify_factor(
 
 // A factor on two named atoms of one clause: its result is no larger than the clause, so no limit is passed.
 fn factor_atoms(
-    file: &[u8],
+    numbers: &[u16; 7],
     k: u16,
     counts: Counts,
     clauses: &mut [u16],
     bindings: &mut [u16],
     nodes: &[u16; 32768],
+    origins: &mut [u16; 32768],
     values: &mut [u16; 524416],
     kept: Atom,
     deleted: Atom,
 ) -> Entered
-    requires { ⌜ FactorNamed (now file) k counts (now clauses) (now bindings) (now nodes) (now values) kept deleted ⌝ }
-    ensures { λ e. ⌜ ((R : FactorNamed (now (file .entry)) k counts (now (clauses .entry)) (now (bindings .entry)) (now (nodes .entry)) (now (values .entry)) kept deleted) → StepRead (now (file .entry)) k counts (now (clauses .entry)) (now (bindings .entry)) (now (nodes .entry)) (now (values .entry)) (R .step) (now (clauses .exit)) (now (bindings .exit)) (now (values .exit)) e) ⌝ }
+    requires { ⌜ FactorNamed (now numbers) k counts (now clauses) (now bindings) (now nodes) (now origins) (now values) kept deleted ⌝ }
+    ensures { λ e. ⌜ ((R : FactorNamed (now (numbers .entry)) k counts (now (clauses .entry)) (now (bindings .entry)) (now (nodes .entry)) (now (origins .entry)) (now (values .entry)) kept deleted) → StepRead (R .file) k counts (now (clauses .entry)) (now (bindings .entry)) (now (nodes .entry)) (now (origins .entry)) (now (values .entry)) (R .step) (now (clauses .exit)) (now (bindings .exit)) (now (origins .exit)) (now (values .exit)) e) ⌝ }
 {
     let literals = literals_cell(clauses, kept.clause) - 1;
     let index = index_cell(clauses, kept.clause);
     let u = unify_factor(
-        file,
         k,
         counts,
         clauses,
         bindings,
         nodes,
+        origins,
         values,
         kept,
         deleted,
     );
-    finish_step(u, k, counts, literals, index, clauses, bindings)
+    finish_step(
+        u,
+        k,
+        counts,
+        literals,
+        index,
+        2,
+        numbers,
+        clauses,
+        bindings,
+        origins,
+    )
 }
 
 // A factor: the tests in the order of their numbers. A literal cannot be factored with itself.
@@ -90,11 +103,12 @@ pub fn factor_record(
     clauses: &mut [u16],
     bindings: &mut [u16],
     nodes: &[u16; 32768],
+    origins: &mut [u16; 32768],
     values: &mut [u16; 524416],
 ) -> Entered
-    requires { ⌜ BeforeStep (now file) k counts (now clauses) (now bindings) (now nodes) (now values) ⌝ }
+    requires { ⌜ BeforeStep (now file) k counts (now clauses) (now bindings) (now nodes) (now origins) (now values) ⌝ }
     requires { ⌜ kindOf (recordPart (now file) k) ≡ 6 ⌝ }
-    ensures { λ e. ⌜ ((E : BeforeStep (now (file .entry)) k counts (now (clauses .entry)) (now (bindings .entry)) (now (nodes .entry)) (now (values .entry))) → StepRead (now (file .entry)) k counts (now (clauses .entry)) (now (bindings .entry)) (now (nodes .entry)) (now (values .entry)) E (now (clauses .exit)) (now (bindings .exit)) (now (values .exit)) e) ⌝ }
+    ensures { λ e. ⌜ ((E : BeforeStep (now (file .entry)) k counts (now (clauses .entry)) (now (bindings .entry)) (now (nodes .entry)) (now (origins .entry)) (now (values .entry))) → StepRead (now (file .entry)) k counts (now (clauses .entry)) (now (bindings .entry)) (now (nodes .entry)) (now (origins .entry)) (now (values .entry)) E (now (clauses .exit)) (now (bindings .exit)) (now (origins .exit)) (now (values .exit)) e) ⌝ }
 {
     let part = record_part(file, k as usize);
     if !step_in_range(part, 3) {
@@ -103,8 +117,8 @@ pub fn factor_record(
     let a = field(part, 0);
     let b = field(part, 1);
     let c = field(part, 2);
-    let left = named_literal(file, clauses, counts.clauses, a, b);
-    let right = named_literal(file, clauses, counts.clauses, a, c);
+    let left = named_literal(origins, clauses, counts.clauses, a, b);
+    let right = named_literal(origins, clauses, counts.clauses, a, c);
     let NamedLiteral::Found(s, r, i) = left else {
         return Entered::Refused(5);
     };
@@ -119,5 +133,17 @@ pub fn factor_record(
     }
     let x = atom_of(a, r, i);
     let y = atom_of(a, q, j);
-    factor_atoms(file, k, counts, clauses, bindings, nodes, values, x, y)
+    let numbers = fields(part);
+    factor_atoms(
+        &numbers,
+        k,
+        counts,
+        clauses,
+        bindings,
+        nodes,
+        origins,
+        values,
+        x,
+        y,
+    )
 }

@@ -17,9 +17,9 @@ use Rattle.unification.specs.Values.{InStep, Models}
 use Rattle.unification.proofs.Chains.{short-le}
 use Rattle.unification.proofs.Lists.{Each}
 use Rattle.unification.proofs.Stability.{follow-agree}
-use Rattle.derivation.specs.Derivation.{literals, input, Literal, Derivation, resolve, factor, numbered, maximumIndex, joined, lookup}
+use Rattle.derivation.specs.Derivation.{literals, input, Literal, Derivation, resolve, factor, numbered, maximumIndex, joined, lookup, clauseNumber}
 use Rattle.loading.specs.Loaded.{BindingIn, AllIn, AllFree, BindingsIn, Loadable, Loaded}
-use Rattle.derivation.specs.Stored.{literalsCell, indexCell, Stored}
+use Rattle.derivation.specs.Stored.{originTableOf, literalsCell, indexCell, Stored}
 use Rattle.derivation.proofs.Known.{Known, KnownEnvironment, known-numbered}
 use Rattle.derivation.proofs.Literals.{each-numbered, LiteralIn, literals-in}
 use Rattle.loading.proofs.LoadedModels.{cleared-free, factor-models}
@@ -30,16 +30,17 @@ use Rattle.verdict.specs.Refusal.{mostIndex}
 use Rattle.verdict.specs.State.{arities, State, rowsOf, derivations, arityOf, clauseOf, rowOf, held}
 use Rattle.verdict.specs.Tables.{Tables, clauseCells, bindingCells, filled}
 use Rattle.verdict.proofs.Advance.{Standing, RowFits}
-use Rattle.entry.proofs.Entering.{node-table-length}
+use Rattle.entry.proofs.Entering.{node-table-length, origin-table-length}
 use Rattle.verdict.proofs.Inversions.{entry-none}
 use Rattle.entry.proofs.Kept.{standing-of, fitting-records}
 use Rattle.entry.proofs.NodeTable.{node-row, has-row, row-there-of, application-row, nodes-ok}
 use Rattle.verdict.proofs.Reading.{state-more}
 use Rattle.verdict.proofs.Standing.{below, ChainsEnd, InOrder, StateOk, order-of, known-of, held-links}
+use Rattle.verdict.proofs.Sources.{number-of}
 use Rattle.verdict.proofs.Tabled.{stored-clause}
 use Rattle.entry.specs.declared.entry.Counts.{Counts}
 
-module _ {F : List ℕ} {t : Tables} {k : ℕ} {S : State} {n : Counts} {here : Tables} {N A : List ℕ} (K : Kept F t k S n here N A) (few : k ≤ recordCount F) where
+module _ {F : List ℕ} {t : Tables} {k : ℕ} {S : State} {n : Counts} {here : Tables} {N O A : List ℕ} (K : Kept F t k S n here N O A) (few : k ≤ recordCount F) where
   most : k ≤ 4096
   most = omega (arith, fitting-records F (K .fit))
 
@@ -58,18 +59,26 @@ module _ {F : List ℕ} {t : Tables} {k : ℕ} {S : State} {n : Counts} {here : 
   pub nodes-room : length N ≡ 32768
   nodes-room = node-table-length (rowsOf S) fit rows-few N (K .nodes)
 
+  pub origins-room : length O ≡ 32768
+  origins-room = origin-table-length (derivations S) (stand-of .sourced) (omega (arith, length-map (S .clauses) (λ (c : ℕ × Derivation). c .1), stand-of .tally .total, most)) O (K .origins)
+
+  -- A clause's number is the one at which it stands.
+  pub number-is : (c : ℕ) (d : Derivation) → clauseOf S c ≡ some d → clauseNumber d ≡ c
+  number-is c d q = number-of (derivations S) (stand-of .sourced) c d q
+
   pub nodes-fine : NodesOk N
   nodes-fine =
       let symbols-few = ok-of .few in
       nodes-ok (rowsOf S) fit N (K .nodes) (arityOf S) (entry-none (arities S) noSymbol (omega arith)) (ok-of .rowsOk) (stand-of .tally .distinct) rows-few
 
   -- Every clause is stored in the tables.
-  pub stored-of : (c : ℕ) (d : Derivation) → clauseOf S c ≡ some d → Stored F (here .clauses) (here .bindings) c d
+  pub stored-of : (c : ℕ) (d : Derivation) → clauseOf S c ≡ some d → Stored O (here .clauses) (here .bindings) c d
   stored-of c d q =
       let p : here .clauses ≡ filled 20480 (clauseCells (S .clauses)) (t .clauses) = ap (λ (x : Tables). x .clauses) (K .tables) in
       let b : here .bindings ≡ filled 32768 (bindingCells (derivations S)) (t .bindings) = ap (λ (x : Tables). x .bindings) (K .tables) in
-      let s = stored-clause F (S .clauses) (stand-of .sourced) (replicate (20480 - length (clauseCells (S .clauses))) 0 ++ drop 20480 (t .clauses)) (replicate (32768 - length (bindingCells (derivations S))) 0 ++ drop 32768 (t .bindings)) d c q in
-      subst (λ (x : List ℕ). Stored F (here .clauses) x c d) (sym b) (subst (λ (x : List ℕ). Stored F x (filled 32768 (bindingCells (derivations S)) (t .bindings)) c d) (sym p) s)
+      let s = stored-clause (S .clauses) (stand-of .sourced) (replicate (32768 - 8 * length (derivations S)) 0) (replicate (20480 - length (clauseCells (S .clauses))) 0 ++ drop 20480 (t .clauses)) (replicate (32768 - length (bindingCells (derivations S))) 0 ++ drop 32768 (t .bindings)) d c q in
+      subst (λ (x : List ℕ). Stored x (here .clauses) (here .bindings) c d) (sym (K .origins)) (subst (λ (x : List ℕ). Stored (originTableOf (derivations S)) (here .clauses) x c d) (sym b)
+      (subst (λ (x : List ℕ). Stored (originTableOf (derivations S)) x (filled 32768 (bindingCells (derivations S)) (t .bindings)) c d) (sym p) s))
 
   pub index-of : (c : ℕ) (d : Derivation) → clauseOf S c ≡ some d → indexCell (here .clauses) c ≡ maximumIndex d
   index-of c d q = stored-cells (stored-of c d q) .index
@@ -143,10 +152,10 @@ module _ {F : List ℕ} {t : Tables} {k : ℕ} {S : State} {n : Counts} {here : 
       subst Ends (follow-agree (Known (length (rowsOf S))) (Known (length (rowsOf S))) (rowOf S) (nodeRow N) (λ d z. sym (agree (d .0) z)) h ρ κ e l) (c e l)
 
   -- What a caller of `load` needs, and what it then has.
-  pub load-ready : (c o : ℕ) (d : Derivation) → clauseOf S c ≡ some d → o + maximumIndex d ≤ 4096 → (Q : List ℕ) → length Q ≡ 524416 → Loadable F (here .clauses) (here .bindings) N Q c o
-  load-ready c o d q f Q v = record { nodes = nodes-fine; nodeRoom = nodes-room; room = v; derivation = d; stored = stored-of c d q; bindings = bindings-in c d q; fits = f }
+  pub load-ready : (c o : ℕ) (d : Derivation) → clauseOf S c ≡ some d → o + maximumIndex d ≤ 4096 → (Q : List ℕ) → length Q ≡ 524416 → Loadable O (here .clauses) (here .bindings) N Q c o
+  load-ready c o d q f Q v = record { nodes = nodes-fine; nodeRoom = nodes-room; originRoom = origins-room; room = v; derivation = d; stored = stored-of c d q; bindings = bindings-in c d q; fits = f }
 
-  pub clause-models : (c : ℕ) (d : Derivation) → clauseOf S c ≡ some d → (top : ℕ) → top ≡ maximumIndex d → (A₀ A₁ A₂ : List ℕ) → Cleared A₀ A₁ (128 * (top + 1)) → Loaded F (here .clauses) (here .bindings) N A₁ A₂ c 0 → Models N top A₂ (lookup d)
+  pub clause-models : (c : ℕ) (d : Derivation) → clauseOf S c ≡ some d → (top : ℕ) → top ≡ maximumIndex d → (A₀ A₁ A₂ : List ℕ) → Cleared A₀ A₁ (128 * (top + 1)) → Loaded O (here .clauses) (here .bindings) N A₁ A₂ c 0 → Models N top A₂ (lookup d)
   clause-models c d q top p A₀ A₁ A₂ C L =
       let o = order-in c d q in
       let s = index-fits c d q in

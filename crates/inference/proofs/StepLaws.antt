@@ -18,7 +18,7 @@ use Rattle.unification.proofs.Chains.{short-le}
 use Rattle.unification.proofs.Rows.{Below}
 use Rattle.unification.proofs.Stability.{run-agree}
 use Rattle.unification.proofs.Tests.{some-injective}
-use Rattle.derivation.specs.Derivation.{literals, Derivation, raise, maximumIndex, joined, lookup}
+use Rattle.derivation.specs.Derivation.{literals, Derivation, raise, maximumIndex, joined, lookup, clauseNumber}
 use Rattle.loading.specs.Loaded.{BindingsIn, Loadable, Loaded}
 use Rattle.derivation.specs.Stored.{literalsCell, indexCell, Stored}
 use Rattle.derivation.proofs.Chains.{short-joined}
@@ -30,6 +30,7 @@ use Rattle.tables.specs.Cells.{clearedPart, withClauseCells}
 use Rattle.verdict.specs.State.{State, rowsOf, derivations, clauseOf, rowOf, held}
 use Rattle.verdict.specs.Step.{step, unifyResolve, unifyFactor}
 use Rattle.inference.specs.Stepping.{BeforeStep, AtomOf, atomNamed, Resolving, Factoring, UnifiedTables, finished, withStep, stepFinished, HeldUpTo}
+use Rattle.entry.specs.Program.{withNode}
 use Rattle.entry.specs.Progress.{tablesWith}
 use Rattle.verdict.specs.Tables.{Tables, bindingCells}
 use Rattle.verdict.proofs.Advance.{Standing}
@@ -46,7 +47,7 @@ use Rattle.entry.specs.declared.entry.Entered.the-variants.{Stands, Refused}
 use Rattle.entry.specs.declared.entry.Counts.{Counts}
 use Rattle.inference.specs.declared.Atom.{Atom}
 
-module _ {F : List ℕ} {k : ℕ} {n : Counts} {C B N A : List ℕ} (E : BeforeStep F k n C B N A) where
+module _ {F : List ℕ} {k : ℕ} {n : Counts} {C B N O A : List ℕ} (E : BeforeStep F k n C B N O A) where
   abbrev S : State
   S = E .state
 
@@ -72,10 +73,16 @@ module _ {F : List ℕ} {k : ℕ} {n : Counts} {C B N A : List ℕ} (E : BeforeS
   ok-of = kept.ok-of (E .kept) few-inside
 
   pub small : k < 4096
-  small = few-records F T k S n Here N A (E .kept) (E .inside)
+  small = few-records F T k S n Here N O A (E .kept) (E .inside)
 
   pub nodes-room : length N ≡ 32768
   nodes-room = kept.nodes-room (E .kept) few-inside
+
+  pub origins-room : length O ≡ 32768
+  origins-room = kept.origins-room (E .kept) few-inside
+
+  pub number-is : (c : ℕ) (d : Derivation) → clauseOf (E .state) c ≡ some d → clauseNumber d ≡ c
+  number-is c d q = kept.number-is (E .kept) few-inside c d q
 
   pub nodes-fine : NodesOk N
   nodes-fine = kept.nodes-fine (E .kept) few-inside
@@ -94,7 +101,7 @@ module _ {F : List ℕ} {k : ℕ} {n : Counts} {C B N A : List ℕ} (E : BeforeS
   held-few = omega (arith, held-count, few-bindings)
 
   pub few-of : n .clauses < 4096
-  few-of = omega (arith, clause-count, few-clauses F T k S n Here N A (E .kept) (E .inside), small)
+  few-of = omega (arith, clause-count, few-clauses F T k S n Here N O A (E .kept) (E .inside), small)
 
   cells : length (bindingCells (derivations (E .state))) ≡ 4 * held (E .state)
   unfolding held
@@ -102,13 +109,13 @@ module _ {F : List ℕ} {k : ℕ} {n : Counts} {C B N A : List ℕ} (E : BeforeS
 
   pub room-of : 32768 ≤ length B
   room-of =
-      let b = bindings-here F T k S n Here N A (E .kept) (E .inside) in
+      let b = bindings-here F T k S n Here N O A (E .kept) (E .inside) in
       let z = sizes T (E .kept .long) in
       let c : length (bindingCells (derivations S)) ≤ 32768 = omega (arith, cells, few-bindings) in
       rw (ap length b ∙ filled-length 32768 (bindingCells (derivations S)) (T .bindings) c (z .bindings)) (z .bindings)
 
   -- Clauses and rows, as for every state that the program keeps.
-  pub stored-of : (c : ℕ) (d : Derivation) → clauseOf (E .state) c ≡ some d → Stored F C B c d
+  pub stored-of : (c : ℕ) (d : Derivation) → clauseOf (E .state) c ≡ some d → Stored O C B c d
   stored-of c d q = kept.stored-of (E .kept) few-inside c d q
 
   pub index-of : (c : ℕ) (d : Derivation) → clauseOf (E .state) c ≡ some d → indexCell C c ≡ maximumIndex d
@@ -145,7 +152,7 @@ module _ {F : List ℕ} {k : ℕ} {n : Counts} {C B N A : List ℕ} (E : BeforeS
   links-there h l = l
 
   -- What a caller of `load` and `unify_literals` needs.
-  pub load-ready : (c o : ℕ) (d : Derivation) → clauseOf (E .state) c ≡ some d → o + maximumIndex d ≤ 4096 → (Q : List ℕ) → length Q ≡ 524416 → Loadable F C B N Q c o
+  pub load-ready : (c o : ℕ) (d : Derivation) → clauseOf (E .state) c ≡ some d → o + maximumIndex d ≤ 4096 → (Q : List ℕ) → length Q ≡ 524416 → Loadable O C B N Q c o
   load-ready c o d q f Q v = kept.load-ready (E .kept) few-inside c o d q f Q v
 
   facing : (ρ : Environment) (top : ℕ) (Q : List ℕ) (e d : Expression) → Models N top Q ρ → KnownEnvironment (length (rowsOf (E .state))) ρ → ChainsEnd (rowsOf (E .state)) (held (E .state)) ρ → InStep N top e → InStep N top d → Facing N top Q (n .bindings) ρ e d
@@ -182,7 +189,7 @@ module _ {F : List ℕ} {k : ℕ} {n : Counts} {C B N A : List ℕ} (E : BeforeS
     both-chains : ChainsEnd (rowsOf (E .state)) (held (E .state)) (joined (maximumIndex (x .clause)) (lookup (x .clause)) (lookup (y .clause)))
     both-chains = short-joined (λ r. r < L) (rowOf S) (maximumIndex l) (maximumIndex r) (lookup l) (lookup r) (lookup-in (rowOf S) l (X .valid)) (lookup-in (rowOf S) r (Y .valid)) (held S) (X .chains) (Y .chains)
 
-    pub resolve-facing : (raised top : ℕ) → raised ≡ indexCell C a → top ≡ raised + indexCell C d → (A₁ A₂ A₃ : List ℕ) → Cleared A A₁ (128 * (top + 1)) → Loaded F C B N A₁ A₂ a 0 → Loaded F C B N A₂ A₃ d raised
+    pub resolve-facing : (raised top : ℕ) → raised ≡ indexCell C a → top ≡ raised + indexCell C d → (A₁ A₂ A₃ : List ℕ) → Cleared A A₁ (128 * (top + 1)) → Loaded O C B N A₁ A₂ a 0 → Loaded O C B N A₂ A₃ d raised
         → Facing N top A₃ (n .bindings) (joined (maximumIndex (x .clause)) (lookup (x .clause)) (lookup (y .clause))) (b, c) (e, raised + f)
     resolve-facing raised top pr pt A₁ A₂ A₃ K U W =
         let pl : raised ≡ maximumIndex l = pr ∙ index-of a l (x .isClause) in
@@ -216,14 +223,14 @@ module _ {F : List ℕ} {k : ℕ} {n : Counts} {C B N A : List ℕ} (E : BeforeS
     abbrev m : Derivation
     m = x .clause
 
-    O : InOrder (rowsOf (E .state)) (held (E .state)) (x .clause)
-    O = order-in a m (x .isClause)
+    Ord : InOrder (rowsOf (E .state)) (held (E .state)) (x .clause)
+    Ord = order-in a m (x .isClause)
 
     same-clause : y .clause ≡ x .clause
     same-clause = some-injective (sym (y .isClause) ∙ ap (clauseOf S) p ∙ x .isClause)
 
     one-known : KnownEnvironment (length (rowsOf (E .state))) (lookup (x .clause))
-    one-known = known-of 4096 S ok-of m O
+    one-known = known-of 4096 S ok-of m Ord
 
     parent-small : maximumIndex (x .clause) ≤ 4096
     parent-small = kept.index-fits (E .kept) few-inside a m (x .isClause)
@@ -231,7 +238,7 @@ module _ {F : List ℕ} {k : ℕ} {n : Counts} {C B N A : List ℕ} (E : BeforeS
     pub factor-fits : 0 + maximumIndex (x .clause) ≤ 4096
     factor-fits = omega (arith, parent-small)
 
-    pub factor-facing : (top : ℕ) → top ≡ indexCell C a → (A₁ A₂ : List ℕ) → Cleared A A₁ (128 * (top + 1)) → Loaded F C B N A₁ A₂ a 0 → Facing N top A₂ (n .bindings) (lookup (x .clause)) (b, c) (e, f)
+    pub factor-facing : (top : ℕ) → top ≡ indexCell C a → (A₁ A₂ : List ℕ) → Cleared A A₁ (128 * (top + 1)) → Loaded O C B N A₁ A₂ a 0 → Facing N top A₂ (n .bindings) (lookup (x .clause)) (b, c) (e, f)
     factor-facing top pt A₁ A₂ K U =
         let pq : top ≡ maximumIndex m = pt ∙ index-of a m (x .isClause) in
         let kx = atom-known a b c x in
@@ -245,7 +252,7 @@ module _ {F : List ℕ} {k : ℕ} {n : Counts} {C B N A : List ℕ} (E : BeforeS
         let s = parent-small in
         facing (lookup m) top A₂ (b, c) (e, f)
         (kept.clause-models (E .kept) few-inside a m (x .isClause) top pq A A₁ A₂ K U)
-        one-known (O .chains)
+        one-known (Ord .chains)
         (record { row = there b (rw (← xr) (kx .0)); low = omega arith; high = omega arith })
         (record { row = there e (rw (← yr) (ky .0)); low = omega arith; high = omega arith })
 
@@ -262,58 +269,58 @@ unified-tables : (N A₂ A₃ B B′ : List ℕ) (held : ℕ) (e d : Expression)
 unified-tables N A₂ A₃ B B′ held e d u W = record { values = W .values; bindings = W .bindings; before = W .before; counted = W .counted }
 
 -- The needs of the program's functions, one law for each.
-module _ {F : List ℕ} {k : ℕ} {n : Counts} {C B N A : List ℕ} {x y : Atom} where
-  pub factor-clear : (R : Factoring F k n C B N A x y) (top : ℕ) → top ≡ indexCell C (x .clause) → (length A ≡ 524416) × (top ≤ 4096)
+module _ {k : ℕ} {n : Counts} {C B N O A : List ℕ} {x y : Atom} where
+  pub factor-clear : (R : Factoring k n C B N O A x y) (top : ℕ) → top ≡ indexCell C (x .clause) → (length A ≡ 524416) × (top ≤ 4096)
   factor-clear R top p =
       let q = factor-fits (R .step) (x .clause) (x .row) (x .index) (y .clause) (y .row) (y .index) (R .kept) (R .deleted) (R .sameClause) in
       (R .step .kept .values, omega (arith, p, index-of (R .step) (x .clause) (R .kept .clause) (R .kept .isClause), q))
 
-  pub factor-load : (R : Factoring F k n C B N A x y) (A₁ : List ℕ) → length A₁ ≡ 524416 → Loadable F C B N A₁ (x .clause) 0
+  pub factor-load : (R : Factoring k n C B N O A x y) (A₁ : List ℕ) → length A₁ ≡ 524416 → Loadable O C B N A₁ (x .clause) 0
   factor-load R A₁ l = load-ready (R .step) (x .clause) 0 (R .kept .clause) (R .kept .isClause) (factor-fits (R .step) (x .clause) (x .row) (x .index) (y .clause) (y .row) (y .index) (R .kept) (R .deleted) (R .sameClause)) A₁ l
 
-  factor-faces : (R : Factoring F k n C B N A x y) (top : ℕ) → top ≡ indexCell C (x .clause) → (A₁ A₂ : List ℕ) → Cleared A A₁ (128 * (top + 1)) → Loaded F C B N A₁ A₂ (x .clause) 0 → Facing N top A₂ (n .bindings) (lookup (R .kept .clause)) (x .row, x .index) (y .row, y .index)
+  factor-faces : (R : Factoring k n C B N O A x y) (top : ℕ) → top ≡ indexCell C (x .clause) → (A₁ A₂ : List ℕ) → Cleared A A₁ (128 * (top + 1)) → Loaded O C B N A₁ A₂ (x .clause) 0 → Facing N top A₂ (n .bindings) (lookup (R .kept .clause)) (x .row, x .index) (y .row, y .index)
   factor-faces R top p A₁ A₂ K L = factor-facing (R .step) (x .clause) (x .row) (x .index) (y .clause) (y .row) (y .index) (R .kept) (R .deleted) (R .sameClause) top p A₁ A₂ K L
 
-  pub factor-ready : (R : Factoring F k n C B N A x y) (top : ℕ) → top ≡ indexCell C (x .clause) → (A₁ A₂ : List ℕ) → Cleared A A₁ (128 * (top + 1)) → Loaded F C B N A₁ A₂ (x .clause) 0 → Ready N A₂ B (n .bindings) (x .row, x .index) (y .row, y .index)
+  pub factor-ready : (R : Factoring k n C B N O A x y) (top : ℕ) → top ≡ indexCell C (x .clause) → (A₁ A₂ : List ℕ) → Cleared A A₁ (128 * (top + 1)) → Loaded O C B N A₁ A₂ (x .clause) 0 → Ready N A₂ B (n .bindings) (x .row, x .index) (y .row, y .index)
   factor-ready R top p A₁ A₂ K L = ready (R .step) (lookup (R .kept .clause)) top A₂ (x .row, x .index) (y .row, y .index) (factor-faces R top p A₁ A₂ K L)
 
-  pub factor-unified : (top : ℕ) → top ≡ indexCell C (x .clause) → (A₁ A₂ A₃ B′ : List ℕ) (u : Unified) → Cleared A A₁ (128 * (top + 1)) → Loaded F C B N A₁ A₂ (x .clause) 0 → Answered N A₂ A₃ B B′ (n .bindings) (x .row, x .index) (y .row, y .index) u
-      → ((R : Factoring F k n C B N A x y) → unifyFactor (R .step .state) (atomNamed (R .kept)) (atomNamed (R .deleted)) ≡ outcomeOf B′ (n .bindings) u) × UnifiedTables B B′ A₃ (n .bindings) u
+  pub factor-unified : (top : ℕ) → top ≡ indexCell C (x .clause) → (A₁ A₂ A₃ B′ : List ℕ) (u : Unified) → Cleared A A₁ (128 * (top + 1)) → Loaded O C B N A₁ A₂ (x .clause) 0 → Answered N A₂ A₃ B B′ (n .bindings) (x .row, x .index) (y .row, y .index) u
+      → ((R : Factoring k n C B N O A x y) → unifyFactor (R .step .state) (atomNamed (R .kept)) (atomNamed (R .deleted)) ≡ outcomeOf B′ (n .bindings) u) × UnifiedTables B B′ A₃ (n .bindings) u
   factor-unified top p A₁ A₂ A₃ B′ u K L W = (
     λ R. factor-outcome (R .step) (x .clause) (x .row) (x .index) (y .clause) (y .row) (y .index) (R .kept) (R .deleted) (R .sameClause) (outcomeOf B′ (n .bindings) u) (W .outcome top (lookup (R .kept .clause)) (factor-faces R top p A₁ A₂ K L)),
     unified-tables N A₂ A₃ B B′ (n .bindings) (x .row, x .index) (y .row, y .index) u W,
   )
 
-  pub resolve-top : (R : Resolving F k n C B N A x y) (raised other : ℕ) → raised ≡ indexCell C (x .clause) → other ≡ indexCell C (y .clause) → raised + other ≤ 4096
+  pub resolve-top : (R : Resolving k n C B N O A x y) (raised other : ℕ) → raised ≡ indexCell C (x .clause) → other ≡ indexCell C (y .clause) → raised + other ≤ 4096
   resolve-top R raised other p q = omega (arith, p ∙ index-of (R .step) (x .clause) (R .left .clause) (R .left .isClause), q ∙ index-of (R .step) (y .clause) (R .right .clause) (R .right .isClause), R .fits)
 
-  pub resolve-clear : (R : Resolving F k n C B N A x y) (raised other : ℕ) → raised ≡ indexCell C (x .clause) → other ≡ indexCell C (y .clause) → (length A ≡ 524416) × (raised + other ≤ 4096)
+  pub resolve-clear : (R : Resolving k n C B N O A x y) (raised other : ℕ) → raised ≡ indexCell C (x .clause) → other ≡ indexCell C (y .clause) → (length A ≡ 524416) × (raised + other ≤ 4096)
   resolve-clear R raised other p q = (R .step .kept .values, resolve-top R raised other p q)
 
-  pub resolve-load : (R : Resolving F k n C B N A x y) (A₁ : List ℕ) → length A₁ ≡ 524416 → Loadable F C B N A₁ (x .clause) 0
+  pub resolve-load : (R : Resolving k n C B N O A x y) (A₁ : List ℕ) → length A₁ ≡ 524416 → Loadable O C B N A₁ (x .clause) 0
   resolve-load R A₁ l = load-ready (R .step) (x .clause) 0 (R .left .clause) (R .left .isClause) (omega (arith, R .fits)) A₁ l
 
-  pub resolve-load-right : (R : Resolving F k n C B N A x y) (raised : ℕ) → raised ≡ indexCell C (x .clause) → (A₂ : List ℕ) → length A₂ ≡ 524416 → Loadable F C B N A₂ (y .clause) raised
+  pub resolve-load-right : (R : Resolving k n C B N O A x y) (raised : ℕ) → raised ≡ indexCell C (x .clause) → (A₂ : List ℕ) → length A₂ ≡ 524416 → Loadable O C B N A₂ (y .clause) raised
   resolve-load-right R raised p A₂ l = load-ready (R .step) (y .clause) raised (R .right .clause) (R .right .isClause) (omega (arith, p ∙ index-of (R .step) (x .clause) (R .left .clause) (R .left .isClause), R .fits)) A₂ l
 
-  resolve-faces : (R : Resolving F k n C B N A x y) (raised other : ℕ) → raised ≡ indexCell C (x .clause) → other ≡ indexCell C (y .clause) → (A₁ A₂ A₃ : List ℕ) → Cleared A A₁ (128 * ((raised + other) + 1)) → Loaded F C B N A₁ A₂ (x .clause) 0 → Loaded F C B N A₂ A₃ (y .clause) raised
+  resolve-faces : (R : Resolving k n C B N O A x y) (raised other : ℕ) → raised ≡ indexCell C (x .clause) → other ≡ indexCell C (y .clause) → (A₁ A₂ A₃ : List ℕ) → Cleared A A₁ (128 * ((raised + other) + 1)) → Loaded O C B N A₁ A₂ (x .clause) 0 → Loaded O C B N A₂ A₃ (y .clause) raised
       → Facing N (raised + other) A₃ (n .bindings) (joined (maximumIndex (R .left .clause)) (lookup (R .left .clause)) (lookup (R .right .clause))) (x .row, x .index) (y .row, raised + y .index)
   resolve-faces R raised other p q A₁ A₂ A₃ K L M = resolve-facing (R .step) (x .clause) (x .row) (x .index) (y .clause) (y .row) (y .index) (R .left) (R .right) (R .fits) raised (raised + other) p (ap (λ (z : ℕ). raised + z) q) A₁ A₂ A₃ K L M
 
-  pub resolve-ready : (R : Resolving F k n C B N A x y) (raised other : ℕ) → raised ≡ indexCell C (x .clause) → other ≡ indexCell C (y .clause) → (A₁ A₂ A₃ : List ℕ) → Cleared A A₁ (128 * ((raised + other) + 1)) → Loaded F C B N A₁ A₂ (x .clause) 0 → Loaded F C B N A₂ A₃ (y .clause) raised
+  pub resolve-ready : (R : Resolving k n C B N O A x y) (raised other : ℕ) → raised ≡ indexCell C (x .clause) → other ≡ indexCell C (y .clause) → (A₁ A₂ A₃ : List ℕ) → Cleared A A₁ (128 * ((raised + other) + 1)) → Loaded O C B N A₁ A₂ (x .clause) 0 → Loaded O C B N A₂ A₃ (y .clause) raised
       → Ready N A₃ B (n .bindings) (x .row, x .index) (y .row, raised + y .index)
   resolve-ready R raised other p q A₁ A₂ A₃ K L M =
       ready (R .step) (joined (maximumIndex (R .left .clause)) (lookup (R .left .clause)) (lookup (R .right .clause))) (raised + other) A₃ (x .row, x .index) (y .row, raised + y .index) (resolve-faces R raised other p q A₁ A₂ A₃ K L M)
 
   -- The raised index of the right atom fits.
-  pub resolve-index : (R : Resolving F k n C B N A x y) (raised : ℕ) → raised ≡ indexCell C (x .clause) → raised + y .index ≤ 4096
+  pub resolve-index : (R : Resolving k n C B N O A x y) (raised : ℕ) → raised ≡ indexCell C (x .clause) → raised + y .index ≤ 4096
   resolve-index R raised p =
       let i = atom-known (R .step) (y .clause) (y .row) (y .index) (R .right) .1 in
       omega (arith, p ∙ index-of (R .step) (x .clause) (R .left .clause) (R .left .isClause), R .fits, i, R .right .isIndex)
 
-  pub resolve-unified : (raised other : ℕ) → raised ≡ indexCell C (x .clause) → other ≡ indexCell C (y .clause) → (A₁ A₂ A₃ A₄ B′ : List ℕ) (u : Unified) → Cleared A A₁ (128 * ((raised + other) + 1)) → Loaded F C B N A₁ A₂ (x .clause) 0 → Loaded F C B N A₂ A₃ (y .clause) raised
+  pub resolve-unified : (raised other : ℕ) → raised ≡ indexCell C (x .clause) → other ≡ indexCell C (y .clause) → (A₁ A₂ A₃ A₄ B′ : List ℕ) (u : Unified) → Cleared A A₁ (128 * ((raised + other) + 1)) → Loaded O C B N A₁ A₂ (x .clause) 0 → Loaded O C B N A₂ A₃ (y .clause) raised
       → Answered N A₃ A₄ B B′ (n .bindings) (x .row, x .index) (y .row, raised + y .index) u
-      → ((R : Resolving F k n C B N A x y) → unifyResolve (R .step .state) (atomNamed (R .left)) (atomNamed (R .right)) ≡ outcomeOf B′ (n .bindings) u) × UnifiedTables B B′ A₄ (n .bindings) u
+      → ((R : Resolving k n C B N O A x y) → unifyResolve (R .step .state) (atomNamed (R .left)) (atomNamed (R .right)) ≡ outcomeOf B′ (n .bindings) u) × UnifiedTables B B′ A₄ (n .bindings) u
   resolve-unified raised other p q A₁ A₂ A₃ A₄ B′ u K L M W = (
     λ R. resolve-outcome (R .step) (x .clause) (x .row) (x .index) (y .clause) (y .row) (y .index) (R .left) (R .right) (R .fits) raised p (outcomeOf B′ (n .bindings) u) (W .outcome (raised + other) (joined (maximumIndex (R .left .clause)) (lookup (R .left .clause)) (lookup (R .right .clause))) (resolve-faces R raised other p q A₁ A₂ A₃ K L M)),
     unified-tables N A₃ A₄ B B′ (n .bindings) (x .row, x .index) (y .row, raised + y .index) u W,
@@ -323,8 +330,9 @@ module _ {F : List ℕ} {k : ℕ} {n : Counts} {C B N A : List ℕ} {x y : Atom}
 pub finish-up : (held : ℕ) (u : Unified) (w h : ℕ) → u ≡ Done w h → HeldUpTo held u → (held ≤ h) × (h ≤ 8192)
 finish-up held u w h p q = subst (HeldUpTo held) p q
 
-pub finish-done : (u : Unified) (w h k : ℕ) (n : Counts) (l i : ℕ) (C C′ B : List ℕ) → u ≡ Done w h → C′ ≡ withClauseCells C (n .clauses) k l i (n .bindings) (h - n .bindings) → finished (Stands (withStep n h)) C′ B ≡ stepFinished u k n l i C B
-finish-done u w h k n l i C C′ B p q = ap (λ (x : List ℕ). finished (Stands (withStep n h)) x B) q ∙ sym (ap (λ (v : Unified). stepFinished v k n l i C B) p)
+pub finish-done : (u : Unified) (w h k : ℕ) (n : Counts) (l i : ℕ) (cells C C′ B O O′ : List ℕ) → u ≡ Done w h → C′ ≡ withClauseCells C (n .clauses) k l i (n .bindings) (h - n .bindings) → O′ ≡ withNode O (n .clauses) cells
+    → finished (Stands (withStep n h)) C′ B O′ ≡ stepFinished u k n l i cells C B O
+finish-done u w h k n l i cells C C′ B O O′ p q r = ap₂ (λ (x y : List ℕ). finished (Stands (withStep n h)) x B y) q r ∙ sym (ap (λ (v : Unified). stepFinished v k n l i cells C B O) p)
 
-pub finish-refused : (u : Unified) (q k : ℕ) (n : Counts) (l i : ℕ) (C B B′ : List ℕ) → u ≡ unified-variants.Refused q → B′ ≡ clearedPart (4 * n .bindings) 32768 B → finished (Refused q) C B′ ≡ stepFinished u k n l i C B
-finish-refused u q k n l i C B B′ p e = ap (λ (x : List ℕ). finished (Refused q) C x) e ∙ sym (ap (λ (v : Unified). stepFinished v k n l i C B) p)
+pub finish-refused : (u : Unified) (q k : ℕ) (n : Counts) (l i : ℕ) (cells C B B′ O : List ℕ) → u ≡ unified-variants.Refused q → B′ ≡ clearedPart (4 * n .bindings) 32768 B → finished (Refused q) C B′ O ≡ stepFinished u k n l i cells C B O
+finish-refused u q k n l i cells C B B′ O p e = ap (λ (x : List ℕ). finished (Refused q) C x O) e ∙ sym (ap (λ (v : Unified). stepFinished v k n l i cells C B O) p)

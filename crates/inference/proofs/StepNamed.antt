@@ -5,23 +5,23 @@ use mathlib.Core.Option.{Option, some}
 use mathlib.Core.List.{List, [], _∷_, map}
 use Prim.Native.Nat.{ℕ, zero, suc, _+_, _-_, _≤_, _<_}
 use native.Mathlib.Omega.{arith}
-use lib.Dec.{leb}
-use lib.ListN.{length, length-append, length-map}
+use lib.Dec.{eqb, leb}
+use lib.ListN.{length, drop, length-append, length-map}
 use borrow.Author.Tests.{le-leb, lt-leb}
-use Rattle.record.specs.Record.{Record, recordPart, decoded, resolveKind, factorKind, fieldA, fieldB, fieldC, fieldD}
+use Rattle.record.specs.Record.{Record, recordPart, fieldsOf, decoded, resolveKind, factorKind, fieldA, fieldB, fieldC, fieldD}
 use Rattle.unification.specs.Environment.{Binding}
 use Rattle.unify.specs.Unifying.{outcomeOf}
-use Rattle.unification.proofs.Tests.{some-not-none, some-injective}
+use Rattle.unification.proofs.Tests.{both-true, some-not-none, some-injective}
 use Rattle.derivation.specs.Derivation.{literals, Literal, Derivation, resolve, factor, numbered, without, raiseLiteral, maximumIndex}
-use Rattle.derivation.specs.Stored.{literalsCell, indexCell}
-use Rattle.verdict.specs.Refusal.{tooLarge, mostLiterals, mostIndex, isThere, onBoth, resultFits, withinLimits}
+use Rattle.derivation.specs.Stored.{cellsOfOrigin, literalsCell, indexCell}
+use Rattle.verdict.specs.Refusal.{tooLarge, mostLiterals, mostIndex, isThere, onBoth, resultFits, withinLimits, zeros}
 use Rattle.verdict.specs.State.{State, clauseOf, nextClause}
 use Rattle.verdict.specs.Step.{require, step, addClause, unifyResolve, unifyFactor, onNamed}
 use Rattle.inference.specs.Stepping.{atomNamed, Resolving, Factoring, UnifiedTables, finished, stepFinished, ResolveNamed, FactorNamed, StepRead}
-use Rattle.entry.proofs.Entering.{and-false}
+use Rattle.entry.proofs.Entering.{and-false, zero-list}
 use Rattle.verdict.proofs.Inversions.{literal-named}
 use Rattle.inference.proofs.StepEnds.{step-ended}
-use Rattle.inference.proofs.StepLaws.{index-of, literals-of}
+use Rattle.inference.proofs.StepLaws.{index-of, literals-of, number-is}
 use Rattle.inference.proofs.StepTests.{Step, refuse, index-small, literals-small, resolve-kind, factor-kind, step-tests}
 use Rattle.pairs.specs.declared.Unified.{Unified}
 use Rattle.entry.specs.declared.entry.Counts.{Counts}
@@ -36,12 +36,12 @@ one-fewer (y ∷ ys) zero x q = absurd (some-not-none refl q)
 one-fewer (y ∷ ys) (suc zero) x q = omega arith
 one-fewer (y ∷ ys) (suc (suc a)) x q = let h = one-fewer ys (suc a) x q in omega arith
 
-module _ {F : List ℕ} {k : ℕ} {n : Counts} {C B N A : List ℕ} {x y : Atom} (R : ResolveNamed F k n C B N A x y) where
+module _ {ns : List ℕ} {k : ℕ} {n : Counts} {C B N O A : List ℕ} {x y : Atom} (R : ResolveNamed ns k n C B N O A x y) where
   abbrev S : State
   S = R .step .state
 
   abbrev rec : Record
-  rec = decoded (recordPart F k)
+  rec = decoded (recordPart (R .file) k)
 
   abbrev l : Derivation
   l = R .left .clause
@@ -50,12 +50,12 @@ module _ {F : List ℕ} {k : ℕ} {n : Counts} {C B N A : List ℕ} {x y : Atom}
   r = R .right .clause
 
   abbrev result : List Binding → Derivation
-  result bs = resolve (nextClause S) (R .left .clause) (fieldB (decoded (recordPart F k))) (R .right .clause) (fieldD (decoded (recordPart F k))) bs
+  result bs = resolve (nextClause S) (R .left .clause) (fieldB (decoded (recordPart (R .file) k))) (R .right .clause) (fieldD (decoded (recordPart (R .file) k))) bs
 
-  left-fewer : length (without (literals (R .left .clause)) (fieldB (decoded (recordPart F k)))) + 1 ≡ length (literals (R .left .clause))
+  left-fewer : length (without (literals (R .left .clause)) (fieldB (decoded (recordPart (R .file) k)))) + 1 ≡ length (literals (R .left .clause))
   left-fewer = one-fewer (literals l) (fieldB rec) (R .left .literal) (literal-named S (fieldA rec) (fieldB rec) (atomNamed (R .left)) (R .isLeft) .1)
 
-  right-fewer : length (without (literals (R .right .clause)) (fieldD (decoded (recordPart F k)))) + 1 ≡ length (literals (R .right .clause))
+  right-fewer : length (without (literals (R .right .clause)) (fieldD (decoded (recordPart (R .file) k)))) + 1 ≡ length (literals (R .right .clause))
   right-fewer = one-fewer (literals r) (fieldD rec) (R .right .literal) (literal-named S (fieldC rec) (fieldD rec) (atomNamed (R .right)) (R .isRight) .1)
 
   left-small : length (literals (R .left .clause)) ≤ 128
@@ -63,6 +63,14 @@ module _ {F : List ℕ} {k : ℕ} {n : Counts} {C B N A : List ℕ} {x y : Atom}
 
   right-small : length (literals (R .right .clause)) ≤ 128
   right-small = literals-small (R .step) (y .clause) r (R .right .isClause)
+
+  -- The cells of its origin.
+  resolve-origin : (bs : List Binding) → 3 ∷ ns ≡ cellsOfOrigin (resolve (nextClause (R .step .state)) (R .left .clause) (fieldB (decoded (recordPart (R .file) k))) (R .right .clause) (fieldD (decoded (recordPart (R .file) k))) bs)
+  resolve-origin bs =
+      let z = both-true (eqb (rec .count) 0) (zeros (drop 4 (rec .fields))) (R .ranged) .1 in
+      let a = number-is (R .step) (fieldA rec) l (literal-named S (fieldA rec) (fieldB rec) (atomNamed (R .left)) (R .isLeft) .0) in
+      let c = number-is (R .step) (fieldC rec) r (literal-named S (fieldC rec) (fieldD rec) (atomNamed (R .right)) (R .isRight) .0) in
+      ap (λ (x : List ℕ). 3 ∷ x) (R .numbers) ∙ (λ i. 3 ∷ sym a i ∷ fieldB rec ∷ sym c i ∷ fieldD rec ∷ zero-list (drop 4 (rec .fields)) z i)
 
   -- The cells that the program reads.
   module _ (lc rc : ℕ) (pl : lc ≡ literalsCell C (x .clause)) (pr : rc ≡ literalsCell C (y .clause)) where
@@ -94,29 +102,29 @@ module _ {F : List ℕ} {k : ℕ} {n : Counts} {C B N A : List ℕ} {x y : Atom}
     index-result : (bs : List Binding) → li + ri ≡ maximumIndex (result bs)
     index-result bs = ap₂ _+_ li-is ri-is
 
-    pub resolving : li + ri ≤ 4096 → Resolving F k n C B N A x y
-    resolving m = record { step = R .step; left = R .left; right = R .right; fits = omega (arith, li-is, ri-is) }
+    pub resolving : li + ri ≤ 4096 → Resolving k n C B N O A x y
+    resolving m = record { file = R .file; step = R .step; left = R .left; right = R .right; fits = omega (arith, li-is, ri-is) }
 
   -- What is left of the step.
-  limits : withinLimits (R .step .state) resolveKind (decoded (recordPart F k)) ≡ resultFits (result [])
+  limits : withinLimits (R .step .state) resolveKind (decoded (recordPart (R .file) k)) ≡ resultFits (result [])
   limits = ap₂ (λ (o p : Option (Derivation × Literal)). onBoth (λ x y. resultFits (resolve (nextClause S) (x .0) (fieldB rec) (y .0) (fieldD rec) [])) o p) (R .isLeft) (R .isRight)
 
   limited : (d : Bool) → resultFits (result []) ≡ d → Step (R .step) resolveKind true true true d
   limited d q = step-tests (R .step) resolveKind (resolve-kind (R .step) (R .isResolve)) refl refl refl true true true d (R .ranged) (ap₂ (λ (o p : Option (Derivation × Literal)). isThere o && isThere p) (R .isLeft) (R .isRight)) (R .signs) (limits ∙ q)
 
-  too-large : resultFits (result []) ≡ false → StepRead F k n C B N A (R .step) C B A (Refused 9)
+  too-large : resultFits (result []) ≡ false → StepRead (R .file) k n C B N O A (R .step) C B O A (Refused 9)
   unfolding require
   too-large q = refuse (R .step) tooLarge (limited false q)
 
-  pub too-many-literals : (lc rc : ℕ) → lc ≡ literalsCell C (x .clause) → rc ≡ literalsCell C (y .clause) → 128 < (lc + rc) - 2 → StepRead F k n C B N A (R .step) C B A (Refused 9)
+  pub too-many-literals : (lc rc : ℕ) → lc ≡ literalsCell C (x .clause) → rc ≡ literalsCell C (y .clause) → 128 < (lc + rc) - 2 → StepRead (R .file) k n C B N O A (R .step) C B O A (Refused 9)
   unfolding mostLiterals
   too-many-literals lc rc pl pr m = too-large (ap (λ (b : Bool). b && leb (maximumIndex (result [])) mostIndex) (lt-leb (length (literals (result []))) 128 (subst (λ (z : ℕ). 128 < z) (literals-result lc rc pl pr []) m)))
 
-  pub too-high-index : (li ri : ℕ) → li ≡ indexCell C (x .clause) → ri ≡ indexCell C (y .clause) → 4096 < li + ri → StepRead F k n C B N A (R .step) C B A (Refused 9)
+  pub too-high-index : (li ri : ℕ) → li ≡ indexCell C (x .clause) → ri ≡ indexCell C (y .clause) → 4096 < li + ri → StepRead (R .file) k n C B N O A (R .step) C B O A (Refused 9)
   unfolding mostIndex
   too-high-index li ri pl pr m = too-large (ap (λ (b : Bool). leb (length (literals (result []))) mostLiterals && b) (lt-leb (maximumIndex (result [])) 4096 (subst (λ (z : ℕ). 4096 < z) (index-result li ri pl pr []) m)) ∙ and-false (leb (length (literals (result []))) mostLiterals))
 
-  entered : resultFits (result []) ≡ true → step (R .step .state) k (decoded (recordPart F k)) ≡ addClause (R .step .state) k result (unifyResolve (R .step .state) (atomNamed (R .left)) (atomNamed (R .right)))
+  entered : resultFits (result []) ≡ true → step (R .step .state) k (decoded (recordPart (R .file) k)) ≡ addClause (R .step .state) k result (unifyResolve (R .step .state) (atomNamed (R .left)) (atomNamed (R .right)))
   unfolding require
   entered q = limited true q ∙ ap₂ (λ (o p : Option (Derivation × Literal)). onNamed (λ x y. addClause S k (resolve (nextClause S) (x .0) (fieldB rec) (y .0) (fieldD rec)) (unifyResolve S x y)) o p) (R .isLeft) (R .isRight)
 
@@ -125,40 +133,47 @@ module _ {F : List ℕ} {k : ℕ} {n : Counts} {C B N A : List ℕ} {x y : Atom}
     unfolding mostLiterals mostIndex
     fits = ap₂ (λ (a b : Bool). a && b) (le-leb (length (literals (result []))) 128 (subst (λ (z : ℕ). z ≤ 128) (literals-result lc rc pl pr []) few)) (le-leb (maximumIndex (result [])) 4096 (subst (λ (z : ℕ). z ≤ 4096) (index-result li ri ql qr []) low))
 
-    pub resolve-ended : (B′ A′ : List ℕ) (u : Unified) → ((Q : Resolving F k n C B N A x y) → unifyResolve (Q .step .state) (atomNamed (Q .left)) (atomNamed (Q .right)) ≡ outcomeOf B′ (n .bindings) u) → UnifiedTables B B′ A′ (n .bindings) u
-        → (e : Entered) (C₂ B₂ : List ℕ) → finished e C₂ B₂ ≡ stepFinished u k n ((lc + rc) - 2) (li + ri) C B′ → StepRead F k n C B N A (R .step) C₂ B₂ A′ e
+    pub resolve-ended : (B′ A′ : List ℕ) (u : Unified) → ((Q : Resolving k n C B N O A x y) → unifyResolve (Q .step .state) (atomNamed (Q .left)) (atomNamed (Q .right)) ≡ outcomeOf B′ (n .bindings) u) → UnifiedTables B B′ A′ (n .bindings) u
+        → (e : Entered) (C₂ B₂ O₂ : List ℕ) → finished e C₂ B₂ O₂ ≡ stepFinished u k n ((lc + rc) - 2) (li + ri) (3 ∷ ns) C B′ O → StepRead (R .file) k n C B N O A (R .step) C₂ B₂ O₂ A′ e
     unfolding resolving
-    resolve-ended B′ A′ u o U e C₂ B₂ q =
-        step-ended (R .step) result ((lc + rc) - 2) (li + ri) (literals-result lc rc pl pr) (index-result li ri ql qr) (λ bs. refl) B′ A′ u (entered fits ∙ ap (addClause S k result) (o (resolving li ri ql qr low))) U e C₂ B₂ q
+    resolve-ended B′ A′ u o U e C₂ B₂ O₂ q =
+        step-ended (R .step) result ((lc + rc) - 2) (li + ri) (literals-result lc rc pl pr) (index-result li ri ql qr) (λ bs. refl) (3 ∷ ns) resolve-origin B′ A′ u (entered fits ∙ ap (addClause S k result) (o (resolving li ri ql qr low))) U e C₂ B₂ O₂ q
 
-module _ {F : List ℕ} {k : ℕ} {n : Counts} {C B N A : List ℕ} {x y : Atom} (R : FactorNamed F k n C B N A x y) where
+module _ {ns : List ℕ} {k : ℕ} {n : Counts} {C B N O A : List ℕ} {x y : Atom} (R : FactorNamed ns k n C B N O A x y) where
   abbrev factored : List Binding → Derivation
-  factored bs = factor (nextClause (R .step .state)) (R .kept .clause) (fieldB (decoded (recordPart F k))) (fieldC (decoded (recordPart F k))) bs
+  factored bs = factor (nextClause (R .step .state)) (R .kept .clause) (fieldB (decoded (recordPart (R .file) k))) (fieldC (decoded (recordPart (R .file) k))) bs
 
   same-parent : R .deleted .clause ≡ R .kept .clause
   same-parent = some-injective (sym (R .deleted .isClause) ∙ ap (clauseOf (R .step .state)) (R .sameClause) ∙ R .kept .isClause)
 
-  kept-fewer : length (without (literals (R .kept .clause)) (fieldC (decoded (recordPart F k)))) + 1 ≡ length (literals (R .kept .clause))
+  kept-fewer : length (without (literals (R .kept .clause)) (fieldC (decoded (recordPart (R .file) k)))) + 1 ≡ length (literals (R .kept .clause))
   kept-fewer =
-      let d = literal-named (R .step .state) (fieldA (decoded (recordPart F k))) (fieldC (decoded (recordPart F k))) (atomNamed (R .deleted)) (R .isDeleted) .1 in
-      one-fewer (literals (R .kept .clause)) (fieldC (decoded (recordPart F k))) (R .deleted .literal) (ap (λ (c : Derivation). numbered (literals c) (fieldC (decoded (recordPart F k)))) (sym same-parent) ∙ d)
+      let d = literal-named (R .step .state) (fieldA (decoded (recordPart (R .file) k))) (fieldC (decoded (recordPart (R .file) k))) (atomNamed (R .deleted)) (R .isDeleted) .1 in
+      one-fewer (literals (R .kept .clause)) (fieldC (decoded (recordPart (R .file) k))) (R .deleted .literal) (ap (λ (c : Derivation). numbered (literals c) (fieldC (decoded (recordPart (R .file) k)))) (sym same-parent) ∙ d)
 
-  pub factoring : Factoring F k n C B N A x y
-  factoring = record { step = R .step; sameClause = R .sameClause; kept = R .kept; deleted = R .deleted }
+  factor-origin : (bs : List Binding) → 2 ∷ ns ≡ cellsOfOrigin (factor (nextClause (R .step .state)) (R .kept .clause) (fieldB (decoded (recordPart (R .file) k))) (fieldC (decoded (recordPart (R .file) k))) bs)
+  factor-origin bs =
+      let f = decoded (recordPart (R .file) k) in
+      let z = both-true (eqb (f .count) 0) (zeros (drop 3 (f .fields))) (R .ranged) .1 in
+      let a = number-is (R .step) (fieldA f) (R .kept .clause) (literal-named (R .step .state) (fieldA f) (fieldB f) (atomNamed (R .kept)) (R .isKept) .0) in
+      ap (λ (x : List ℕ). 2 ∷ x) (R .numbers) ∙ (λ i. 2 ∷ sym a i ∷ fieldB f ∷ fieldC f ∷ zero-list (drop 3 (f .fields)) z i)
 
-  factor-limits : withinLimits (R .step .state) factorKind (decoded (recordPart F k)) ≡ true
+  pub factoring : Factoring k n C B N O A x y
+  factoring = record { file = R .file; step = R .step; sameClause = R .sameClause; kept = R .kept; deleted = R .deleted }
+
+  factor-limits : withinLimits (R .step .state) factorKind (decoded (recordPart (R .file) k)) ≡ true
   unfolding mostLiterals mostIndex
   factor-limits =
       let c = R .kept .clause in
       let m : length (literals (factored [])) ≤ 128 = omega (arith, kept-fewer, literals-small (R .step) (x .clause) c (R .kept .isClause)) in
-      ap₂ (λ (o p : Option (Derivation × Literal)). onBoth (λ x y. resultFits (factor (nextClause (R .step .state)) (x .0) (fieldB (decoded (recordPart F k))) (fieldC (decoded (recordPart F k))) [])) o p) (R .isKept) (R .isDeleted)
+      ap₂ (λ (o p : Option (Derivation × Literal)). onBoth (λ x y. resultFits (factor (nextClause (R .step .state)) (x .0) (fieldB (decoded (recordPart (R .file) k))) (fieldC (decoded (recordPart (R .file) k))) [])) o p) (R .isKept) (R .isDeleted)
       ∙ ap₂ (λ (a b : Bool). a && b) (le-leb (length (literals (factored []))) 128 m) (le-leb (maximumIndex c) 4096 (index-small (R .step) (x .clause) c (R .kept .isClause)))
 
-  factor-entered : step (R .step .state) k (decoded (recordPart F k)) ≡ addClause (R .step .state) k factored (unifyFactor (R .step .state) (atomNamed (R .kept)) (atomNamed (R .deleted)))
+  factor-entered : step (R .step .state) k (decoded (recordPart (R .file) k)) ≡ addClause (R .step .state) k factored (unifyFactor (R .step .state) (atomNamed (R .kept)) (atomNamed (R .deleted)))
   unfolding require
   factor-entered =
       step-tests (R .step) factorKind (factor-kind (R .step) (R .isFactor)) refl refl refl true true true true (R .ranged) (ap₂ (λ (o p : Option (Derivation × Literal)). isThere o && isThere p) (R .isKept) (R .isDeleted)) (R .signs) factor-limits
-      ∙ ap₂ (λ (o p : Option (Derivation × Literal)). onNamed (λ x y. addClause (R .step .state) k (factor (nextClause (R .step .state)) (x .0) (fieldB (decoded (recordPart F k))) (fieldC (decoded (recordPart F k)))) (unifyFactor (R .step .state) x y)) o p) (R .isKept) (R .isDeleted)
+      ∙ ap₂ (λ (o p : Option (Derivation × Literal)). onNamed (λ x y. addClause (R .step .state) k (factor (nextClause (R .step .state)) (x .0) (fieldB (decoded (recordPart (R .file) k))) (fieldC (decoded (recordPart (R .file) k)))) (unifyFactor (R .step .state) x y)) o p) (R .isKept) (R .isDeleted)
 
   module _ (lc : ℕ) (pl : lc ≡ literalsCell C (x .clause)) where
     lc-kept : lc ≡ length (literals (R .kept .clause))
@@ -167,8 +182,8 @@ module _ {F : List ℕ} {k : ℕ} {n : Counts} {C B N A : List ℕ} {x y : Atom}
     pub factor-literals : 1 ≤ lc
     factor-literals = omega (arith, lc-kept, kept-fewer)
 
-    pub factor-ended : (ix : ℕ) → ix ≡ indexCell C (x .clause) → (B′ A′ : List ℕ) (u : Unified) → ((Q : Factoring F k n C B N A x y) → unifyFactor (Q .step .state) (atomNamed (Q .kept)) (atomNamed (Q .deleted)) ≡ outcomeOf B′ (n .bindings) u) → UnifiedTables B B′ A′ (n .bindings) u
-        → (e : Entered) (C₂ B₂ : List ℕ) → finished e C₂ B₂ ≡ stepFinished u k n (lc - 1) ix C B′ → StepRead F k n C B N A (R .step) C₂ B₂ A′ e
+    pub factor-ended : (ix : ℕ) → ix ≡ indexCell C (x .clause) → (B′ A′ : List ℕ) (u : Unified) → ((Q : Factoring k n C B N O A x y) → unifyFactor (Q .step .state) (atomNamed (Q .kept)) (atomNamed (Q .deleted)) ≡ outcomeOf B′ (n .bindings) u) → UnifiedTables B B′ A′ (n .bindings) u
+        → (e : Entered) (C₂ B₂ O₂ : List ℕ) → finished e C₂ B₂ O₂ ≡ stepFinished u k n (lc - 1) ix (2 ∷ ns) C B′ O → StepRead (R .file) k n C B N O A (R .step) C₂ B₂ O₂ A′ e
     unfolding factoring
-    factor-ended ix pi B′ A′ u o U e C₂ B₂ q =
-        step-ended (R .step) factored (lc - 1) ix (λ bs. omega (arith, lc-kept, kept-fewer)) (λ bs. pi ∙ index-of (R .step) (x .clause) (R .kept .clause) (R .kept .isClause)) (λ bs. refl) B′ A′ u (factor-entered ∙ ap (addClause (R .step .state) k factored) (o factoring)) U e C₂ B₂ q
+    factor-ended ix pi B′ A′ u o U e C₂ B₂ O₂ q =
+        step-ended (R .step) factored (lc - 1) ix (λ bs. omega (arith, lc-kept, kept-fewer)) (λ bs. pi ∙ index-of (R .step) (x .clause) (R .kept .clause) (R .kept .isClause)) (λ bs. refl) (2 ∷ ns) factor-origin B′ A′ u (factor-entered ∙ ap (addClause (R .step .state) k factored) (o factoring)) U e C₂ B₂ O₂ q

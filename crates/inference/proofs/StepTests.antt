@@ -8,7 +8,7 @@ use native.Mathlib.Omega.{arith}
 use lib.Dec.{eqb}
 use lib.ListN.{length, length-map}
 use borrow.Author.Tests.{eq-eqb, ne-eqb}
-use Rattle.record.specs.Record.{pick, Record, recordPart, kindOf, fieldOf, decoded, Kind, resolveKind, factorKind, kindNumbered, fieldA, fieldB, fieldC, fieldD}
+use Rattle.record.specs.Record.{pick, Record, recordPart, kindOf, fieldOf, fieldsOf, decoded, Kind, resolveKind, factorKind, kindNumbered, fieldA, fieldB, fieldC, fieldD}
 use Rattle.unification.proofs.Tests.{true-not-false}
 use Rattle.derivation.specs.Derivation.{literals, Literal, Derivation, numbered, maximumIndex}
 use Rattle.clauses.specs.Named.{namedLiteral, StoredClause}
@@ -21,7 +21,7 @@ use Rattle.inference.specs.Stepping.{BeforeStep, AtomOf, ClausesStored, 
 use Rattle.entry.proofs.Entering.{and-false}
 use Rattle.verdict.proofs.Inversions.{literal-named, not-equal, entry-none}
 use Rattle.verdict.proofs.Resolution.{at-kind}
-use Rattle.inference.proofs.StepLaws.{clause-count, stored-of, order-in}
+use Rattle.inference.proofs.StepLaws.{clause-count, stored-of, order-in, origins-room}
 use Rattle.clauses.specs.declared.literal.NamedLiteral.{NamedLiteral}
 use Rattle.clauses.specs.declared.literal.NamedLiteral.the-variants.{Found, Absent}
 use Rattle.entry.specs.declared.entry.Counts.{Counts}
@@ -45,21 +45,21 @@ named-in n d o q = rw q (try (numbered (literals d) n))
     try none = refl
     try (some l) = refl
 
-module _ {F C : List ℕ} {count : ℕ} where
-  clause-there : (R : ClausesStored F C count) (c : ℕ) → c < count → (d : Derivation) × (clauseOf (R .state) c ≡ some d)
+module _ {O C : List ℕ} {count : ℕ} where
+  clause-there : (R : ClausesStored O C count) (c : ℕ) → c < count → (d : Derivation) × (clauseOf (R .state) c ≡ some d)
   clause-there R c l = entry-some (derivations (R .state)) c (omega (arith, R .size, length-map (R .state .clauses) (λ (x : ℕ × Derivation). x .1)))
 
-  pub named-clause : (R : ClausesStored F C count) (c : ℕ) → c < count → StoredClause F C c
+  pub named-clause : (R : ClausesStored O C count) (c : ℕ) → c < count → StoredClause O C c
   named-clause R c l =
       let d = clause-there R c l in
-      record { bindings = R .bindings; derivation = d .0; stored = R .stored c (d .0) (d .1); fits = R .fits c (d .0) (d .1) }
+      record { room = R .room; bindings = R .bindings; derivation = d .0; stored = R .stored c (d .0) (d .1); fits = R .fits c (d .0) (d .1) }
 
-  pub named-there : (c n : ℕ) → c < count → (r : NamedLiteral) → ((B : List ℕ) (d : Derivation) → Stored F C B c d → r ≡ namedLiteral (numbered (literals d) n)) → (R : ClausesStored F C count) → r ≡ namedAnswer (literalNamed (R .state) c n)
+  pub named-there : (c n : ℕ) → c < count → (r : NamedLiteral) → ((B : List ℕ) (d : Derivation) → Stored O C B c d → r ≡ namedLiteral (numbered (literals d) n)) → (R : ClausesStored O C count) → r ≡ namedAnswer (literalNamed (R .state) c n)
   named-there c n l r f R =
       let d = clause-there R c l in
       f (R .bindings) (d .0) (R .stored c (d .0) (d .1)) ∙ named-in n (d .0) (clauseOf (R .state) c) (d .1)
 
-  pub named-missing : (c n : ℕ) → count ≤ c → (R : ClausesStored F C count) → Absent ≡ namedAnswer (literalNamed (R .state) c n)
+  pub named-missing : (c n : ℕ) → count ≤ c → (R : ClausesStored O C count) → Absent ≡ namedAnswer (literalNamed (R .state) c n)
   named-missing c n l R = sym (ap (λ (o : Option Derivation). namedAnswer (literalIn n o)) (entry-none (derivations (R .state)) c (omega (arith, R .size, length-map (R .state .clauses) (λ (x : ℕ × Derivation). x .1)))))
 
 absent-none : (o : Option (Derivation × Literal)) → namedAnswer o ≡ Absent → o ≡ none
@@ -85,7 +85,7 @@ pub not-true : (b : Bool) → not b ≡ true → b ≡ false
 not-true true q = absurd (true-not-false q refl)
 not-true false q = refl
 
-module _ {F : List ℕ} {k : ℕ} {n : Counts} {C B N A : List ℕ} (E : BeforeStep F k n C B N A) where
+module _ {F : List ℕ} {k : ℕ} {n : Counts} {C B N O A : List ℕ} (E : BeforeStep F k n C B N O A) where
   abbrev S : State
   S = E .state
 
@@ -100,12 +100,12 @@ module _ {F : List ℕ} {k : ℕ} {n : Counts} {C B N A : List ℕ} (E : BeforeS
   unfolding mostLiterals
   literals-small c d q = order-in E c d q .literalsFit
 
-  pub clauses-stored : ClausesStored F C (n .clauses)
-  clauses-stored = record { state = S; bindings = B; size = sym (clause-count E); stored = stored-of E; fits = index-small }
+  pub clauses-stored : ClausesStored O C (n .clauses)
+  clauses-stored = record { room = origins-room E; state = S; bindings = B; size = sym (clause-count E); stored = stored-of E; fits = index-small }
 
   -- A refusal leaves everything as it was.
-  pub refuse : (q : Reason) → step (E .state) k (decoded (recordPart F k)) ≡ refused q → StepRead F k n C B N A E C B A (Refused (reasonNumber q))
-  refuse q p = record { next = (q, p, refl, E .kept .tables, E .kept .nodes, E .kept .values) }
+  pub refuse : (q : Reason) → step (E .state) k (decoded (recordPart F k)) ≡ refused q → StepRead F k n C B N O A E C B O A (Refused (reasonNumber q))
+  refuse q p = record { next = (q, p, refl, E .kept .tables, E .kept .nodes, E .kept .origins, E .kept .values) }
 
   pub resolve-kind : kindOf (recordPart F k) ≡ 5 → kindOfRecord (decoded (recordPart F k)) ≡ resolveKind
   resolve-kind q = ap kindNumbered q
@@ -127,15 +127,15 @@ module _ {F : List ℕ} {k : ℕ} {n : Counts} {C B N A : List ℕ} (E : BeforeS
   step-tests kind e x y z a b c d p q r s = step-of kind e x y z ∙ (λ i. require (p i) outOfRange (require (q i) notThere (require (r i) wrongSigns (require (s i) tooLarge (enter S k kind rec)))))
 
   -- The literals that a step names.
-  pub left-is : (P : List ℕ) → P ≡ recordPart F k → (c m : ℕ) → c ≡ fieldOf P 0 → m ≡ fieldOf P 1 → (r : NamedLiteral) → ((R : ClausesStored F C (n .clauses)) → r ≡ namedAnswer (literalNamed (R .state) c m)) → r ≡ namedAnswer (leftOf (E .state) (decoded (recordPart F k)))
+  pub left-is : (P : List ℕ) → P ≡ recordPart F k → (c m : ℕ) → c ≡ fieldOf P 0 → m ≡ fieldOf P 1 → (r : NamedLiteral) → ((R : ClausesStored O C (n .clauses)) → r ≡ namedAnswer (literalNamed (R .state) c m)) → r ≡ namedAnswer (leftOf (E .state) (decoded (recordPart F k)))
   unfolding clauses-stored
   left-is P e c m p q r f = f clauses-stored ∙ ap₂ (λ (x y : ℕ). namedAnswer (literalNamed S x y)) (p ∙ ap (λ (l : List ℕ). fieldOf l 0) e) (q ∙ ap (λ (l : List ℕ). fieldOf l 1) e)
 
-  pub right-is : (P : List ℕ) → P ≡ recordPart F k → (c m : ℕ) → c ≡ fieldOf P 2 → m ≡ fieldOf P 3 → (r : NamedLiteral) → ((R : ClausesStored F C (n .clauses)) → r ≡ namedAnswer (literalNamed (R .state) c m)) → r ≡ namedAnswer (rightOf (E .state) (decoded (recordPart F k)))
+  pub right-is : (P : List ℕ) → P ≡ recordPart F k → (c m : ℕ) → c ≡ fieldOf P 2 → m ≡ fieldOf P 3 → (r : NamedLiteral) → ((R : ClausesStored O C (n .clauses)) → r ≡ namedAnswer (literalNamed (R .state) c m)) → r ≡ namedAnswer (rightOf (E .state) (decoded (recordPart F k)))
   unfolding clauses-stored
   right-is P e c m p q r f = f clauses-stored ∙ ap₂ (λ (x y : ℕ). namedAnswer (literalNamed S x y)) (p ∙ ap (λ (l : List ℕ). fieldOf l 2) e) (q ∙ ap (λ (l : List ℕ). fieldOf l 3) e)
 
-  pub deleted-is : (P : List ℕ) → P ≡ recordPart F k → (c m : ℕ) → c ≡ fieldOf P 0 → m ≡ fieldOf P 2 → (r : NamedLiteral) → ((R : ClausesStored F C (n .clauses)) → r ≡ namedAnswer (literalNamed (R .state) c m)) → r ≡ namedAnswer (deletedOf (E .state) (decoded (recordPart F k)))
+  pub deleted-is : (P : List ℕ) → P ≡ recordPart F k → (c m : ℕ) → c ≡ fieldOf P 0 → m ≡ fieldOf P 2 → (r : NamedLiteral) → ((R : ClausesStored O C (n .clauses)) → r ≡ namedAnswer (literalNamed (R .state) c m)) → r ≡ namedAnswer (deletedOf (E .state) (decoded (recordPart F k)))
   unfolding clauses-stored
   deleted-is P e c m p q r f = f clauses-stored ∙ ap₂ (λ (x y : ℕ). namedAnswer (literalNamed S x y)) (p ∙ ap (λ (l : List ℕ). fieldOf l 0) e) (q ∙ ap (λ (l : List ℕ). fieldOf l 2) e)
 
@@ -160,17 +160,17 @@ module _ {F : List ℕ} {k : ℕ} {n : Counts} {C B N A : List ℕ} (E : BeforeS
     tests : (x y z w : Bool) → inRange resolveKind (decoded (recordPart F k)) ≡ x → allThere (E .state) resolveKind (decoded (recordPart F k)) ≡ y → fittingSigns (E .state) resolveKind (decoded (recordPart F k)) ≡ z → withinLimits (E .state) resolveKind (decoded (recordPart F k)) ≡ w → Step resolveKind x y z w
     tests = step-tests resolveKind (resolve-kind kd) refl refl refl
 
-    pub resolve-out : not b ≡ true → StepRead F k n C B N A E C B A (Refused 4)
+    pub resolve-out : not b ≡ true → StepRead F k n C B N O A E C B O A (Refused 4)
     unfolding require
     resolve-out q = refuse outOfRange (tests false (allThere S resolveKind rec) (fittingSigns S resolveKind rec) (withinLimits S resolveKind rec) (ap (λ (l : List ℕ). stepInRange 4 (decoded l)) (sym e) ∙ sym range ∙ not-true b q) refl refl refl)
 
     module _ (ok : not b ≡ false) (left right : NamedLiteral) (isLeft : left ≡ namedAnswer (leftOf (E .state) (decoded (recordPart F k)))) (isRight : right ≡ namedAnswer (rightOf (E .state) (decoded (recordPart F k)))) where
-      pub resolve-left-absent : left ≡ Absent → StepRead F k n C B N A E C B A (Refused 5)
+      pub resolve-left-absent : left ≡ Absent → StepRead F k n C B N O A E C B O A (Refused 5)
       unfolding require
       resolve-left-absent q =
           refuse notThere (tests true false (fittingSigns S resolveKind rec) (withinLimits S resolveKind rec) (ranged ok) (ap (λ (o : Option (Derivation × Literal)). isThere o && isThere (rightOf S rec)) (absent-none (leftOf S rec) (sym isLeft ∙ q))) refl refl)
 
-      pub resolve-right-absent : right ≡ Absent → StepRead F k n C B N A E C B A (Refused 5)
+      pub resolve-right-absent : right ≡ Absent → StepRead F k n C B N O A E C B O A (Refused 5)
       unfolding require
       resolve-right-absent q =
           refuse notThere (tests true false (fittingSigns S resolveKind rec) (withinLimits S resolveKind rec) (ranged ok) (ap (λ (o : Option (Derivation × Literal)). isThere (leftOf S rec) && isThere o) (absent-none (rightOf S rec) (sym isRight ∙ q)) ∙ and-false (isThere (leftOf S rec))) refl refl)
@@ -190,14 +190,16 @@ module _ {F : List ℕ} {k : ℕ} {n : Counts} {C B N A : List ℕ} (E : BeforeS
             ap₂ (λ (o p : Option (Derivation × Literal)). onBoth (λ x y. not (equalSigns (x .1 .0) (y .1 .0))) o p) (X .isNamed) (Y .isNamed)
             ∙ ap₂ (λ (a b : Bool). not (equalSigns a b)) (X .isSign) (Y .isSign)
 
-        pub resolve-equal-signs : (z : Bool) → z ≡ equalSigns s t → z ≡ true → StepRead F k n C B N A E C B A (Refused 8)
+        pub resolve-equal-signs : (z : Bool) → z ≡ equalSigns s t → z ≡ true → StepRead F k n C B N O A E C B O A (Refused 8)
         unfolding require
         resolve-equal-signs z p h = refuse wrongSigns (tests true true false (withinLimits S resolveKind rec) (ranged ok) both-there (sign-test ∙ ap not (sym p ∙ h)) refl)
 
         module _ (z : Bool) (p : z ≡ equalSigns s t) (h : z ≡ false) (a c : ℕ) (pa : a ≡ fieldOf P 0) (pc : c ≡ fieldOf P 2) (x y : Atom) (isX : x ≡ record { clause = a; row = r; index = i }) (isY : y ≡ record { clause = c; row = q; index = j }) where
-          pub resolve-checked : ResolveNamed F k n C B N A x y
+          pub resolve-checked : {ns : List ℕ} → ns ≡ fieldsOf P → ResolveNamed ns k n C B N O A x y
           unfolding atom-found
-          resolve-checked = record {
+          resolve-checked v = record {
+            file = F;
+            numbers = v ∙ ap fieldsOf e;
             step = E;
             isResolve = kd;
             ranged = ranged ok;
@@ -208,9 +210,9 @@ module _ {F : List ℕ} {k : ℕ} {n : Counts} {C B N A : List ℕ} (E : BeforeS
             signs = sign-test ∙ ap not (sym p ∙ h);
           }
 
-          pub resolve-read : (C′ B′ A′ : List ℕ) (g : Entered) → ((R : ResolveNamed F k n C B N A x y) → StepRead F k n C B N A (R .step) C′ B′ A′ g) → StepRead F k n C B N A E C′ B′ A′ g
+          pub resolve-read : {ns : List ℕ} → ns ≡ fieldsOf P → (C′ B′ O′ A′ : List ℕ) (g : Entered) → ((R : ResolveNamed ns k n C B N O A x y) → StepRead (R .file) k n C B N O A (R .step) C′ B′ O′ A′ g) → StepRead F k n C B N O A E C′ B′ O′ A′ g
           unfolding resolve-checked
-          resolve-read C′ B′ A′ g f = f resolve-checked
+          resolve-read v C′ B′ O′ A′ g f = f (resolve-checked v)
 
   -- Factor, test by test.
   module _ (kd : kindOf (recordPart F k) ≡ 6) (P : List ℕ) (e : P ≡ recordPart F k) (b : Bool) (range : b ≡ stepInRange 3 (decoded P)) where
@@ -220,17 +222,17 @@ module _ {F : List ℕ} {k : ℕ} {n : Counts} {C B N A : List ℕ} (E : BeforeS
     factor-tests : (x y z w : Bool) → inRange factorKind (decoded (recordPart F k)) ≡ x → allThere (E .state) factorKind (decoded (recordPart F k)) ≡ y → fittingSigns (E .state) factorKind (decoded (recordPart F k)) ≡ z → withinLimits (E .state) factorKind (decoded (recordPart F k)) ≡ w → Step factorKind x y z w
     factor-tests = step-tests factorKind (factor-kind kd) refl refl refl
 
-    pub factor-out : not b ≡ true → StepRead F k n C B N A E C B A (Refused 4)
+    pub factor-out : not b ≡ true → StepRead F k n C B N O A E C B O A (Refused 4)
     unfolding require
     factor-out q = refuse outOfRange (factor-tests false (allThere S factorKind rec) (fittingSigns S factorKind rec) (withinLimits S factorKind rec) (ap (λ (l : List ℕ). stepInRange 3 (decoded l)) (sym e) ∙ sym range ∙ not-true b q) refl refl refl)
 
     module _ (ok : not b ≡ false) (left right : NamedLiteral) (isLeft : left ≡ namedAnswer (leftOf (E .state) (decoded (recordPart F k)))) (isRight : right ≡ namedAnswer (deletedOf (E .state) (decoded (recordPart F k)))) where
-      pub factor-kept-absent : left ≡ Absent → StepRead F k n C B N A E C B A (Refused 5)
+      pub factor-kept-absent : left ≡ Absent → StepRead F k n C B N O A E C B O A (Refused 5)
       unfolding require
       factor-kept-absent q =
           refuse notThere (factor-tests true false (fittingSigns S factorKind rec) (withinLimits S factorKind rec) (factor-ranged ok) (ap (λ (o : Option (Derivation × Literal)). isThere o && isThere (deletedOf S rec)) (absent-none (leftOf S rec) (sym isLeft ∙ q))) refl refl)
 
-      pub factor-deleted-absent : right ≡ Absent → StepRead F k n C B N A E C B A (Refused 5)
+      pub factor-deleted-absent : right ≡ Absent → StepRead F k n C B N O A E C B O A (Refused 5)
       unfolding require
       factor-deleted-absent q =
           refuse notThere (factor-tests true false (fittingSigns S factorKind rec) (withinLimits S factorKind rec) (factor-ranged ok) (ap (λ (o : Option (Derivation × Literal)). isThere (leftOf S rec) && isThere o) (absent-none (deletedOf S rec) (sym isRight ∙ q)) ∙ and-false (isThere (leftOf S rec))) refl refl)
@@ -250,7 +252,7 @@ module _ {F : List ℕ} {k : ℕ} {n : Counts} {C B N A : List ℕ} (E : BeforeS
             ap₂ (λ (o p : Option (Derivation × Literal)). onBoth (λ x y. equalSigns (x .1 .0) (y .1 .0)) o p && not (eqb (fieldB rec) (fieldC rec))) (K .isNamed) (D .isNamed)
             ∙ ap₂ (λ (a b : Bool). equalSigns a b && not (eqb (fieldB rec) (fieldC rec))) (K .isSign) (D .isSign)
 
-        pub factor-other-signs : (z : Bool) → z ≡ equalSigns s t → not z ≡ true → StepRead F k n C B N A E C B A (Refused 8)
+        pub factor-other-signs : (z : Bool) → z ≡ equalSigns s t → not z ≡ true → StepRead F k n C B N O A E C B O A (Refused 8)
         unfolding require
         factor-other-signs z p h = refuse wrongSigns (factor-tests true true false (withinLimits S factorKind rec) (factor-ranged ok) two-there (sign-of-both ∙ ap (λ (x : Bool). x && not (eqb (fieldB rec) (fieldC rec))) (sym p ∙ not-true z h)) refl)
 
@@ -258,14 +260,16 @@ module _ {F : List ℕ} {k : ℕ} {n : Counts} {C B N A : List ℕ} (E : BeforeS
           different : fittingSigns (E .state) factorKind (decoded (recordPart F k)) ≡ not (eqb d c)
           different = sign-of-both ∙ ap₂ (λ (x y : Bool). x && not y) (sym p ∙ not-false z h) (ap₂ eqb (sym (pd ∙ ap (λ (l : List ℕ). fieldOf l 1) e)) (sym (pc ∙ ap (λ (l : List ℕ). fieldOf l 2) e)))
 
-          pub factor-same : d ≡ c → StepRead F k n C B N A E C B A (Refused 8)
+          pub factor-same : d ≡ c → StepRead F k n C B N O A E C B O A (Refused 8)
           unfolding require
           factor-same u = refuse wrongSigns (factor-tests true true false (withinLimits S factorKind rec) (factor-ranged ok) two-there (different ∙ ap not (eq-eqb d c u)) refl)
 
           module _ (u : ¬ (d ≡ c)) (x y : Atom) (isX : x ≡ record { clause = a; row = r; index = i }) (isY : y ≡ record { clause = a; row = q; index = j }) where
-            pub factor-checked : FactorNamed F k n C B N A x y
+            pub factor-checked : {ns : List ℕ} → ns ≡ fieldsOf P → FactorNamed ns k n C B N O A x y
             unfolding atom-found
-            factor-checked = record {
+            factor-checked w = record {
+              file = F;
+              numbers = w ∙ ap fieldsOf e;
               step = E;
               isFactor = kd;
               ranged = factor-ranged ok;
@@ -277,6 +281,6 @@ module _ {F : List ℕ} {k : ℕ} {n : Counts} {C B N A : List ℕ} (E : BeforeS
               signs = different ∙ ap not (ne-eqb d c u);
             }
 
-            pub factor-read : (C′ B′ A′ : List ℕ) (g : Entered) → ((R : FactorNamed F k n C B N A x y) → StepRead F k n C B N A (R .step) C′ B′ A′ g) → StepRead F k n C B N A E C′ B′ A′ g
+            pub factor-read : {ns : List ℕ} → ns ≡ fieldsOf P → (C′ B′ O′ A′ : List ℕ) (g : Entered) → ((R : FactorNamed ns k n C B N O A x y) → StepRead (R .file) k n C B N O A (R .step) C′ B′ O′ A′ g) → StepRead F k n C B N O A E C′ B′ O′ A′ g
             unfolding factor-checked
-            factor-read C′ B′ A′ g f = f factor-checked
+            factor-read v C′ B′ O′ A′ g f = f (factor-checked v)

@@ -5,11 +5,12 @@ use mathlib.Core.Option.{Option, none, some}
 use mathlib.Core.List.{List}
 use Prim.Native.Nat.{ℕ, _+_, _-_, _*_, _≤_, _<_}
 use lib.ListN.{length, getD}
-use Rattle.record.specs.Record.{recordCount, recordPart, kindOf, decoded, resolveKind, factorKind}
+use Rattle.record.specs.Record.{recordCount, recordPart, kindOf, fieldsOf, decoded, resolveKind, factorKind}
 use Rattle.unify.specs.Unifying.{Counted}
 use Rattle.derivation.specs.Derivation.{literals, Literal, Derivation, numbered, maximumIndex}
 use Rattle.derivation.specs.Stored.{Stored}
 use Rattle.tables.specs.Cells.{clearedPart, withClauseCells}
+use Rattle.entry.specs.Program.{withNode}
 use Rattle.entry.specs.Progress.{Kept, Next, tablesWith}
 use Rattle.verdict.specs.Refusal.{inRange, leftOf, rightOf, deletedOf, fittingSigns}
 use Rattle.verdict.specs.State.{State, clauseOf}
@@ -25,13 +26,13 @@ use Rattle.clauses.specs.declared.literal.NamedLiteral.the-variants.{Found, Abs
 use Rattle.inference.specs.declared.Atom.{Atom}
 
 -- What a function on a step asks: what the program keeps before record k, for some tables of symbols and rows.
-pub record BeforeStep (F : List ℕ) (k : ℕ) (n : Counts) (C B N A : List ℕ) : Type 0 where
+pub record BeforeStep (F : List ℕ) (k : ℕ) (n : Counts) (C B N O A : List ℕ) : Type 0 where
   pub inside : k < recordCount F
   pub tablesBefore : Tables
   pub state : State
   pub symbols : List ℕ
   pub rows : List ℕ
-  pub kept : Kept F tablesBefore k state n (tablesWith symbols rows C B) N A
+  pub kept : Kept F tablesBefore k state n (tablesWith symbols rows C B) N O A
 
 -- A literal of clause c that exists, with the row and index of its atom.
 pub record AtomOf (S : State) (c r i : ℕ) : Type 0 where
@@ -47,15 +48,17 @@ abbrev pub atomNamed : {S : State} {c r i : ℕ} → AtomOf S c r i → Derivati
 atomNamed x = (x .clause, x .literal)
 
 -- A resolve on two atoms whose result has a maximum index of at most 4,096.
-pub record Resolving (F : List ℕ) (k : ℕ) (n : Counts) (C B N A : List ℕ) (x y : Atom) : Type 0 where
-  pub step : BeforeStep F k n C B N A
+pub record Resolving (k : ℕ) (n : Counts) (C B N O A : List ℕ) (x y : Atom) : Type 0 where
+  pub file : List ℕ
+  pub step : BeforeStep file k n C B N O A
   pub left : AtomOf (step .state) (x .clause) (x .row) (x .index)
   pub right : AtomOf (step .state) (y .clause) (y .row) (y .index)
   pub fits : maximumIndex (left .clause) + maximumIndex (right .clause) ≤ 4096
 
 -- A factor on two atoms of one clause.
-pub record Factoring (F : List ℕ) (k : ℕ) (n : Counts) (C B N A : List ℕ) (x y : Atom) : Type 0 where
-  pub step : BeforeStep F k n C B N A
+pub record Factoring (k : ℕ) (n : Counts) (C B N O A : List ℕ) (x y : Atom) : Type 0 where
+  pub file : List ℕ
+  pub step : BeforeStep file k n C B N O A
   pub sameClause : y .clause ≡ x .clause
   pub kept : AtomOf (step .state) (x .clause) (x .row) (x .index)
   pub deleted : AtomOf (step .state) (y .clause) (y .row) (y .index)
@@ -72,35 +75,39 @@ pub record Finished : Type 0 where
   pub answer : Entered
   pub clauses : List ℕ
   pub bindings : List ℕ
+  pub origins : List ℕ
 
-abbrev pub finished : Entered → List ℕ → List ℕ → Finished
-finished e C B = record { answer = e; clauses = C; bindings = B }
+abbrev pub finished : Entered → List ℕ → List ℕ → List ℕ → Finished
+finished e C B O = record { answer = e; clauses = C; bindings = B; origins = O }
 
 abbrev pub withStep : Counts → ℕ → Counts
 withStep n h = record { symbols = n .symbols; rows = n .rows; clauses = n .clauses + 1; bindings = h }
 
-abbrev pub stepFinished : Unified → ℕ → Counts → ℕ → ℕ → List ℕ → List ℕ → Finished
-stepFinished (Done w h) k n literals index C B =
-    finished (Stands (withStep n h)) (withClauseCells C (n .clauses) k literals index (n .bindings) (h - n .bindings)) B
-stepFinished (Refused q) k n literals index C B = finished (entered.Refused q) C (clearedPart (4 * n .bindings) 32768 B)
+abbrev pub stepFinished : Unified → ℕ → Counts → ℕ → ℕ → List ℕ → List ℕ → List ℕ → List ℕ → Finished
+stepFinished (Done w h) k n literals index cells C B O =
+    finished (Stands (withStep n h)) (withClauseCells C (n .clauses) k literals index (n .bindings) (h - n .bindings)) B (withNode O (n .clauses) cells)
+stepFinished (Refused q) k n literals index cells C B O = finished (entered.Refused q) C (clearedPart (4 * n .bindings) 32768 B) O
 
 abbrev pub HeldUpTo : ℕ → Unified → Type 0
 HeldUpTo held (Done w h) = (held ≤ h) × (h ≤ 8192)
 HeldUpTo held (Refused q) = Unit {0}
 
 -- What finishing a step asks.
-pub record Finishing (n : Counts) (B : List ℕ) (u : Unified) : Type 0 where
+pub record Finishing (n : Counts) (B O ns : List ℕ) (u : Unified) : Type 0 where
+  pub origins : length O ≡ 32768
+  pub numbers : length ns ≡ 7
   pub clauses : n .clauses < 4096
   pub held : n .bindings ≤ 8192
   pub room : 32768 ≤ length B
   pub upTo : HeldUpTo (n .bindings) u
 
 -- The clauses of a state as the tables store them, for looking up literals.
-pub record ClausesStored (F C : List ℕ) (count : ℕ) : Type 0 where
+pub record ClausesStored (O C : List ℕ) (count : ℕ) : Type 0 where
+  pub room : length O ≡ 32768
   pub state : State
   pub bindings : List ℕ
   pub size : length (state .clauses) ≡ count
-  pub stored : (c : ℕ) (d : Derivation) → clauseOf state c ≡ some d → Stored F C bindings c d
+  pub stored : (c : ℕ) (d : Derivation) → clauseOf state c ≡ some d → Stored O C bindings c d
   pub fits : (c : ℕ) (d : Derivation) → clauseOf state c ≡ some d → maximumIndex d ≤ 4096
 
 -- A named literal as the program answers it.
@@ -108,28 +115,32 @@ abbrev pub namedAnswer : Option (Derivation × Literal) → NamedLiteral
 namedAnswer none = Absent
 namedAnswer (some x) = Found (x .1 .0) (x .1 .1 .0) (x .1 .1 .1)
 
--- A resolve or a factor whose tests up to 8 have passed.
-pub record ResolveNamed (F : List ℕ) (k : ℕ) (n : Counts) (C B N A : List ℕ) (x y : Atom) : Type 0 where
-  pub step : BeforeStep F k n C B N A
-  pub isResolve : kindOf (recordPart F k) ≡ 5
-  pub ranged : inRange resolveKind (decoded (recordPart F k)) ≡ true
+-- A resolve or a factor whose tests up to 8 have passed, with the seven fields of its record.
+pub record ResolveNamed (ns : List ℕ) (k : ℕ) (n : Counts) (C B N O A : List ℕ) (x y : Atom) : Type 0 where
+  pub file : List ℕ
+  pub numbers : ns ≡ fieldsOf (recordPart file k)
+  pub step : BeforeStep file k n C B N O A
+  pub isResolve : kindOf (recordPart file k) ≡ 5
+  pub ranged : inRange resolveKind (decoded (recordPart file k)) ≡ true
   pub left : AtomOf (step .state) (x .clause) (x .row) (x .index)
   pub right : AtomOf (step .state) (y .clause) (y .row) (y .index)
-  pub isLeft : leftOf (step .state) (decoded (recordPart F k)) ≡ some (atomNamed left)
-  pub isRight : rightOf (step .state) (decoded (recordPart F k)) ≡ some (atomNamed right)
-  pub signs : fittingSigns (step .state) resolveKind (decoded (recordPart F k)) ≡ true
+  pub isLeft : leftOf (step .state) (decoded (recordPart file k)) ≡ some (atomNamed left)
+  pub isRight : rightOf (step .state) (decoded (recordPart file k)) ≡ some (atomNamed right)
+  pub signs : fittingSigns (step .state) resolveKind (decoded (recordPart file k)) ≡ true
 
-pub record FactorNamed (F : List ℕ) (k : ℕ) (n : Counts) (C B N A : List ℕ) (x y : Atom) : Type 0 where
-  pub step : BeforeStep F k n C B N A
-  pub isFactor : kindOf (recordPart F k) ≡ 6
-  pub ranged : inRange factorKind (decoded (recordPart F k)) ≡ true
+pub record FactorNamed (ns : List ℕ) (k : ℕ) (n : Counts) (C B N O A : List ℕ) (x y : Atom) : Type 0 where
+  pub file : List ℕ
+  pub numbers : ns ≡ fieldsOf (recordPart file k)
+  pub step : BeforeStep file k n C B N O A
+  pub isFactor : kindOf (recordPart file k) ≡ 6
+  pub ranged : inRange factorKind (decoded (recordPart file k)) ≡ true
   pub sameClause : y .clause ≡ x .clause
   pub kept : AtomOf (step .state) (x .clause) (x .row) (x .index)
   pub deleted : AtomOf (step .state) (y .clause) (y .row) (y .index)
-  pub isKept : leftOf (step .state) (decoded (recordPart F k)) ≡ some (atomNamed kept)
-  pub isDeleted : deletedOf (step .state) (decoded (recordPart F k)) ≡ some (atomNamed deleted)
-  pub signs : fittingSigns (step .state) factorKind (decoded (recordPart F k)) ≡ true
+  pub isKept : leftOf (step .state) (decoded (recordPart file k)) ≡ some (atomNamed kept)
+  pub isDeleted : deletedOf (step .state) (decoded (recordPart file k)) ≡ some (atomNamed deleted)
+  pub signs : fittingSigns (step .state) factorKind (decoded (recordPart file k)) ≡ true
 
 -- What the program has after record k, by the state before it.
-pub record StepRead (F : List ℕ) (k : ℕ) (n : Counts) (C B N A : List ℕ) (E : BeforeStep F k n C B N A) (C′ B′ A′ : List ℕ) (e : Entered) : Type 0 where
-  pub next : Next F (E .tablesBefore) k (E .state) (tablesWith (E .symbols) (E .rows) C′ B′) N A′ e
+pub record StepRead (F : List ℕ) (k : ℕ) (n : Counts) (C B N O A : List ℕ) (E : BeforeStep F k n C B N O A) (C′ B′ O′ A′ : List ℕ) (e : Entered) : Type 0 where
+  pub next : Next F (E .tablesBefore) k (E .state) (tablesWith (E .symbols) (E .rows) C′ B′) N O′ A′ e

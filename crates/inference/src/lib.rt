@@ -4,10 +4,12 @@ use clauses::literal::NamedLiteral;
 use clauses::literal::literal;
 use entry::entry::Counts;
 use entry::entry::Entered;
+use entry::rows::put_cells;
 use pairs::Unified;
 use tables::clear;
 use tables::put_clause;
 ghost use mathlib.Core.Path.{_≡_};
+ghost use mathlib.Core.List.{_∷_};
 ghost use Rattle.verdict.specs.Refusal.{literalNamed, equalSigns};
 ghost use Rattle.inference.specs.Stepping.{Finishing, finished, stepFinished, ClausesStored, namedAnswer};
 
@@ -25,23 +27,27 @@ pub fn atom_of(clause: u16, row: u16, index: u16) -> Atom
     Atom { clause, row, index }
 }
 
-// A step that went through is entered; a refused one has its bindings cleared away again.
+// A step that went through is entered, with its code and its fields in the table of origins; a refused one has its bindings cleared away again.
 pub fn finish_step(
     u: Unified,
     k: u16,
     counts: Counts,
     literals: u16,
     index: u16,
+    code: u16,
+    numbers: &[u16; 7],
     clauses: &mut [u16],
     bindings: &mut [u16],
+    origins: &mut [u16; 32768],
 ) -> Entered
-    requires { ⌜ Finishing counts (now bindings) u ⌝ }
-    ensures { λ e. ⌜ finished e (now (clauses .exit)) (now (bindings .exit)) ≡ stepFinished u k counts literals index (now (clauses .entry)) (now (bindings .entry)) ⌝ }
+    requires { ⌜ Finishing counts (now bindings) (now origins) (now numbers) u ⌝ }
+    ensures { λ e. ⌜ finished e (now (clauses .exit)) (now (bindings .exit)) (now (origins .exit)) ≡ stepFinished u k counts literals index (code ∷ now (numbers .entry)) (now (clauses .entry)) (now (bindings .entry)) (now (origins .entry)) ⌝ }
 {
     let held = counts.bindings;
     match u {
         Unified::Done(_, h) => {
             let n = counts.clauses;
+            put_cells(origins, n, code, numbers);
             put_clause(clauses, n, k, literals, index, held, h - held);
             Entered::Stands(Counts {
                 symbols: counts.symbols,
@@ -58,12 +64,18 @@ pub fn finish_step(
 }
 
 // The literal that a step names, if the clause and the literal exist.
-pub fn named_literal(file: &[u8], clauses: &[u16], count: u16, c: u16, n: u16) -> NamedLiteral
-    requires { ⌜ ClausesStored (now file) (now clauses) count ⌝ }
-    ensures { λ r. ⌜ ((R : ClausesStored (now (file .entry)) (now (clauses .entry)) count) → r ≡ namedAnswer (literalNamed (R .state) c n)) ⌝ }
+pub fn named_literal(
+    origins: &[u16; 32768],
+    clauses: &[u16],
+    count: u16,
+    c: u16,
+    n: u16,
+) -> NamedLiteral
+    requires { ⌜ ClausesStored (now origins) (now clauses) count ⌝ }
+    ensures { λ r. ⌜ ((R : ClausesStored (now (origins .entry)) (now (clauses .entry)) count) → r ≡ namedAnswer (literalNamed (R .state) c n)) ⌝ }
 {
     if c < count {
-        literal(file, clauses, c, n)
+        literal(origins, clauses, c, n)
     } else {
         NamedLiteral::Absent
     }

@@ -13,6 +13,7 @@ use inference::same_sign;
 use loading::load;
 use pairs::Unified;
 use record::field;
+use record::fields;
 use record::record_part;
 use unify::unify_literals;
 ghost use mathlib.Core.Path.{_≡_};
@@ -23,25 +24,33 @@ ghost use Rattle.inference.specs.Stepping.{BeforeStep, Resolving, UnifiedTables
 
 // Unifies the atoms of a resolve over the bindings of both parents. The right parent's indices are raised by the left one's maximum.
 fn unify_resolve(
-    file: &[u8],
     k: u16,
     counts: Counts,
     clauses: &[u16],
     bindings: &mut [u16],
     nodes: &[u16; 32768],
+    origins: &[u16; 32768],
     values: &mut [u16; 524416],
     left: Atom,
     right: Atom,
 ) -> Unified
-    requires { ⌜ Resolving (now file) k counts (now clauses) (now bindings) (now nodes) (now values) left right ⌝ }
-    ensures { λ u. ⌜ ((R : Resolving (now (file .entry)) k counts (now (clauses .entry)) (now (bindings .entry)) (now (nodes .entry)) (now (values .entry)) left right) → unifyResolve (R .step .state) (atomNamed (R .left)) (atomNamed (R .right)) ≡ outcomeOf (now (bindings .exit)) (counts .bindings) u) ⌝ }
+    requires { ⌜ Resolving k counts (now clauses) (now bindings) (now nodes) (now origins) (now values) left right ⌝ }
+    ensures { λ u. ⌜ ((R : Resolving k counts (now (clauses .entry)) (now (bindings .entry)) (now (nodes .entry)) (now (origins .entry)) (now (values .entry)) left right) → unifyResolve (R .step .state) (atomNamed (R .left)) (atomNamed (R .right)) ≡ outcomeOf (now (bindings .exit)) (counts .bindings) u) ⌝ }
     ensures { λ u. ⌜ UnifiedTables (now (bindings .entry)) (now (bindings .exit)) (now (values .exit)) (counts .bindings) u ⌝ }
 {
     let raised = index_cell(clauses, left.clause);
     let top = raised + index_cell(clauses, right.clause);
     following::values::clear(values, top);
-    load(file, clauses, bindings, nodes, values, left.clause, 0);
-    load(file, clauses, bindings, nodes, values, right.clause, raised);
+    load(origins, clauses, bindings, nodes, values, left.clause, 0);
+    load(
+        origins,
+        clauses,
+        bindings,
+        nodes,
+        values,
+        right.clause,
+        raised,
+    );
     unify_literals(
         nodes,
         values,
@@ -56,18 +65,19 @@ fn unify_resolve(
 
 // A resolve on two named atoms of opposite signs: the limits on its result, unification, and its end.
 fn resolve_atoms(
-    file: &[u8],
+    numbers: &[u16; 7],
     k: u16,
     counts: Counts,
     clauses: &mut [u16],
     bindings: &mut [u16],
     nodes: &[u16; 32768],
+    origins: &mut [u16; 32768],
     values: &mut [u16; 524416],
     left: Atom,
     right: Atom,
 ) -> Entered
-    requires { ⌜ ResolveNamed (now file) k counts (now clauses) (now bindings) (now nodes) (now values) left right ⌝ }
-    ensures { λ e. ⌜ ((R : ResolveNamed (now (file .entry)) k counts (now (clauses .entry)) (now (bindings .entry)) (now (nodes .entry)) (now (values .entry)) left right) → StepRead (now (file .entry)) k counts (now (clauses .entry)) (now (bindings .entry)) (now (nodes .entry)) (now (values .entry)) (R .step) (now (clauses .exit)) (now (bindings .exit)) (now (values .exit)) e) ⌝ }
+    requires { ⌜ ResolveNamed (now numbers) k counts (now clauses) (now bindings) (now nodes) (now origins) (now values) left right ⌝ }
+    ensures { λ e. ⌜ ((R : ResolveNamed (now (numbers .entry)) k counts (now (clauses .entry)) (now (bindings .entry)) (now (nodes .entry)) (now (origins .entry)) (now (values .entry)) left right) → StepRead (R .file) k counts (now (clauses .entry)) (now (bindings .entry)) (now (nodes .entry)) (now (origins .entry)) (now (values .entry)) (R .step) (now (clauses .exit)) (now (bindings .exit)) (now (origins .exit)) (now (values .exit)) e) ⌝ }
 {
     let literals = literals_cell(clauses, left.clause) + literals_cell(clauses, right.clause) - 2;
     if 128 < literals {
@@ -78,17 +88,28 @@ fn resolve_atoms(
         return Entered::Refused(9);
     }
     let u = unify_resolve(
-        file,
         k,
         counts,
         clauses,
         bindings,
         nodes,
+        origins,
         values,
         left,
         right,
     );
-    finish_step(u, k, counts, literals, index, clauses, bindings)
+    finish_step(
+        u,
+        k,
+        counts,
+        literals,
+        index,
+        3,
+        numbers,
+        clauses,
+        bindings,
+        origins,
+    )
 }
 
 // A resolve: the tests in the order of their numbers, with the literals that it names taken apart before their signs are compared.
@@ -99,11 +120,12 @@ pub fn resolve_record(
     clauses: &mut [u16],
     bindings: &mut [u16],
     nodes: &[u16; 32768],
+    origins: &mut [u16; 32768],
     values: &mut [u16; 524416],
 ) -> Entered
-    requires { ⌜ BeforeStep (now file) k counts (now clauses) (now bindings) (now nodes) (now values) ⌝ }
+    requires { ⌜ BeforeStep (now file) k counts (now clauses) (now bindings) (now nodes) (now origins) (now values) ⌝ }
     requires { ⌜ kindOf (recordPart (now file) k) ≡ 5 ⌝ }
-    ensures { λ e. ⌜ ((E : BeforeStep (now (file .entry)) k counts (now (clauses .entry)) (now (bindings .entry)) (now (nodes .entry)) (now (values .entry))) → StepRead (now (file .entry)) k counts (now (clauses .entry)) (now (bindings .entry)) (now (nodes .entry)) (now (values .entry)) E (now (clauses .exit)) (now (bindings .exit)) (now (values .exit)) e) ⌝ }
+    ensures { λ e. ⌜ ((E : BeforeStep (now (file .entry)) k counts (now (clauses .entry)) (now (bindings .entry)) (now (nodes .entry)) (now (origins .entry)) (now (values .entry))) → StepRead (now (file .entry)) k counts (now (clauses .entry)) (now (bindings .entry)) (now (nodes .entry)) (now (origins .entry)) (now (values .entry)) E (now (clauses .exit)) (now (bindings .exit)) (now (origins .exit)) (now (values .exit)) e) ⌝ }
 {
     let part = record_part(file, k as usize);
     if !step_in_range(part, 4) {
@@ -111,8 +133,8 @@ pub fn resolve_record(
     }
     let a = field(part, 0);
     let c = field(part, 2);
-    let left = named_literal(file, clauses, counts.clauses, a, field(part, 1));
-    let right = named_literal(file, clauses, counts.clauses, c, field(part, 3));
+    let left = named_literal(origins, clauses, counts.clauses, a, field(part, 1));
+    let right = named_literal(origins, clauses, counts.clauses, c, field(part, 3));
     let NamedLiteral::Found(s, r, i) = left else {
         return Entered::Refused(5);
     };
@@ -124,5 +146,17 @@ pub fn resolve_record(
     }
     let x = atom_of(a, r, i);
     let y = atom_of(c, q, j);
-    resolve_atoms(file, k, counts, clauses, bindings, nodes, values, x, y)
+    let numbers = fields(part);
+    resolve_atoms(
+        &numbers,
+        k,
+        counts,
+        clauses,
+        bindings,
+        nodes,
+        origins,
+        values,
+        x,
+        y,
+    )
 }

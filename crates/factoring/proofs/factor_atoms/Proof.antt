@@ -1,15 +1,23 @@
+use mathlib.Core.Path.{ap}
+use lib.ListN.{length}
 use Rattle.inference.proofs.StepEnds.{finishing}
 use Rattle.inference.proofs.StepNamed.{factoring, factor-literals, factor-ended}
 use borrow.Author.Needs.{needs}
 use Rattle.factoring.proofs.factor_atoms.Statement.{statement}
 use Rattle.factoring.proofs.factor_atoms.Tie as tie
+use Rattle.factoring.proofs.factor_atoms.Reads as reads
+use Rattle.factoring.proofs.factor_atoms.Lts as lts
+use Rattle.clauses.proofs.index_cell.Reads as index-cell-reads
+use Rattle.clauses.proofs.literals_cell.Reads as literals-cell-reads
+use Rattle.factoring.proofs.unify_factor.Reads as unify-factor-reads
+use Rattle.inference.proofs.finish_step.Reads as finish-step-reads
 
 literals-cell-requires : tie.Need-literals-cell-requires
 literals-cell-requires c κs = search needs
 
 sub-literals : tie.Need-sub-literals
 sub-literals c =
-    factor-literals (c .before .before .before .before .before .pre) _ (c .literals-cell .ensures)
+    factor-literals (c .before .before .before .before .pre) _ (c .literals-cell .ensures)
 
 index-cell-requires : tie.Need-index-cell-requires
 index-cell-requires c κs = search needs
@@ -20,7 +28,7 @@ unify-factor-requires c κs =
 
 finish-step-requires : tie.Need-finish-step-requires
 finish-step-requires c κs =
-    finishing (c .before .before .before .before .before .before .before .before .before .before .before .before .before .before .before .pre .step) _ _ _ (c .before .before .before .before .unify-factor .ensures .1)
+    finishing (c .before .before .before .before .before .before .before .before .before .before .before .before .before .before .before .before .pre .step) _ _ _ (c .before .before .before .before .before .unify-factor .ensures .1) _ (ap length (c .before .before .before .before .before .before .before .before .before .before .before .before .before .before .before .before .pre .numbers))
 
 same-length : tie.Need-same-length
 same-length c = search needs
@@ -30,7 +38,7 @@ same-length-2 c = search needs
 
 returns : tie.Need-returns
 returns c =
-    λ R. factor-ended R _ (c .before .before .before .before .before .before .before .before .before .before .before .before .before .before .before .literals-cell .ensures) _ (c .before .before .before .before .before .before .before .before .before .before .before .before .before .index-cell .ensures) _ _ _ (c .before .before .before .before .before .before .before .before .before .unify-factor .ensures .0) (c .before .before .before .before .before .before .before .before .before .unify-factor .ensures .1) _ _ _ (c .before .before .before .before .finish-step .ensures)
+    λ R. factor-ended R _ (c .before .before .before .before .before .before .before .before .before .before .before .before .before .before .before .before .before .literals-cell .ensures) _ (c .before .before .before .before .before .before .before .before .before .before .before .before .before .before .before .index-cell .ensures) _ _ _ (c .before .before .before .before .before .before .before .before .before .before .unify-factor .ensures .0) (c .before .before .before .before .before .before .before .before .before .before .unify-factor .ensures .1) _ _ _ _ (c .before .before .before .before .finish-step .ensures)
 
 pub factor-atoms-spec : {M : Type 1} → statement M
 factor-atoms-spec =

@@ -2,6 +2,16 @@ use Rattle.inference.proofs.StepTests.{clauses-stored, left-is, deleted-is, fac
 use borrow.Author.Needs.{needs}
 use Rattle.factoring.proofs.factor_record.Statement.{statement}
 use Rattle.factoring.proofs.factor_record.Tie as tie
+use Rattle.factoring.proofs.factor_record.Reads as reads
+use Rattle.factoring.proofs.factor_record.Lts as lts
+use Rattle.factoring.proofs.factor_atoms.Reads as factor-atoms-reads
+use Rattle.fields.proofs.step_in_range.Reads as step-in-range-reads
+use Rattle.inference.proofs.atom_of.Reads as atom-of-reads
+use Rattle.inference.proofs.named_literal.Reads as named-literal-reads
+use Rattle.inference.proofs.same_sign.Reads as same-sign-reads
+use Rattle.record.proofs.field.Reads as field-reads
+use Rattle.record.proofs.fields.Reads as fields-reads
+use Rattle.record.proofs.record_part.Reads as record-part-reads
 
 record-part-requires : tie.Need-record-part-requires
 record-part-requires c κs = search needs
@@ -24,11 +34,11 @@ field-requires-3 c κs = search needs
 
 named-literal-requires : tie.Need-named-literal-requires
 named-literal-requires c κs =
-    clauses-stored (c .before .before .before .before .before .before .before .before .before .before .pre .0)
+    clauses-stored (c .before .before .before .before .before .before .before .before .before .before .before .pre .0)
 
 named-literal-requires-2 : tie.Need-named-literal-requires-2
 named-literal-requires-2 c κs =
-    clauses-stored (c .before .before .before .before .before .before .before .before .before .before .before .before .pre .0)
+    clauses-stored (c .before .before .before .before .before .before .before .before .before .before .before .before .before .before .pre .0)
 
 enum-known-left : tie.Need-enum-known-left
 enum-known-left c = search needs
@@ -41,7 +51,7 @@ same-length c = search needs
 
 returns-2 : tie.Need-returns-2
 returns-2 c =
-    λ E. factor-kept-absent E (c .before .before .before .before .before .before .before .before .before .before .before .before .before .before .before .pre .1) _ (c .before .before .before .before .before .before .before .before .before .before .before .record-part .ensures) _ (c .before .before .before .before .before .before .before .before .before .before .step-in-range .ensures) (c .before .before .before .before .before .before .before .before .before .if1 .left) _ _ (left-is E _ (c .before .before .before .before .before .before .before .before .before .before .before .record-part .ensures) _ _ (c .before .before .before .before .before .before .before .before .field .ensures) (c .before .before .before .before .before .before .before .field2 .ensures) _ (c .before .before .before .before .named-literal .ensures)) (deleted-is E _ (c .before .before .before .before .before .before .before .before .before .before .before .record-part .ensures) _ _ (c .before .before .before .before .before .before .before .before .field .ensures) (c .before .before .before .before .before .before .field3 .ensures) _ (c .before .before .named-literal2 .ensures)) (c .enum-told .given .1)
+    λ E. factor-kept-absent E (c .before .before .before .before .before .before .before .before .before .before .before .before .before .before .before .before .before .pre .1) _ (c .before .before .before .before .before .before .before .before .before .before .before .before .before .record-part .ensures) _ (c .before .before .before .before .before .before .before .before .before .before .before .before .step-in-range .ensures) (c .before .before .before .before .before .before .before .before .before .before .before .if1 .left) _ _ (left-is E _ (c .before .before .before .before .before .before .before .before .before .before .before .before .before .record-part .ensures) _ _ (c .before .before .before .before .before .before .before .before .before .before .field .ensures) (c .before .before .before .before .before .before .before .before .before .field2 .ensures) _ (c .before .before .before .before .before .named-literal .ensures)) (deleted-is E _ (c .before .before .before .before .before .before .before .before .before .before .before .before .before .record-part .ensures) _ _ (c .before .before .before .before .before .before .before .before .before .before .field .ensures) (c .before .before .before .before .before .before .before .before .field3 .ensures) _ (c .before .before .named-literal2 .ensures)) (c .enum-told .given .1)
 
 enum-known-right : tie.Need-enum-known-right
 enum-known-right c = search needs
@@ -54,7 +64,7 @@ same-length-2 c = search needs
 
 returns-3 : tie.Need-returns-3
 returns-3 c =
-    λ E. factor-deleted-absent E (c .before .before .before .before .before .before .before .before .before .before .before .before .before .before .before .before .before .before .pre .1) _ (c .before .before .before .before .before .before .before .before .before .before .before .before .before .before .record-part .ensures) _ (c .before .before .before .before .before .before .before .before .before .before .before .before .before .step-in-range .ensures) (c .before .before .before .before .before .before .before .before .before .before .before .before .if1 .left) _ _ (left-is E _ (c .before .before .before .before .before .before .before .before .before .before .before .before .before .before .record-part .ensures) _ _ (c .before .before .before .before .before .before .before .before .before .before .before .field .ensures) (c .before .before .before .before .before .before .before .before .before .before .field2 .ensures) _ (c .before .before .before .before .before .before .before .named-literal .ensures)) (deleted-is E _ (c .before .before .before .before .before .before .before .before .before .before .before .before .before .before .record-part .ensures) _ _ (c .before .before .before .before .before .before .before .before .before .before .before .field .ensures) (c .before .before .before .before .before .before .before .before .before .field3 .ensures) _ (c .before .before .before .before .before .named-literal2 .ensures)) (c .enum-told2 .given .1)
+    λ E. factor-deleted-absent E (c .before .before .before .before .before .before .before .before .before .before .before .before .before .before .before .before .before .before .before .before .pre .1) _ (c .before .before .before .before .before .before .before .before .before .before .before .before .before .before .before .before .record-part .ensures) _ (c .before .before .before .before .before .before .before .before .before .before .before .before .before .before .before .step-in-range .ensures) (c .before .before .before .before .before .before .before .before .before .before .before .before .before .before .if1 .left) _ _ (left-is E _ (c .before .before .before .before .before .before .before .before .before .before .before .before .before .before .before .before .record-part .ensures) _ _ (c .before .before .before .before .before .before .before .before .before .before .before .before .before .field .ensures) (c .before .before .before .before .before .before .before .before .before .before .before .before .field2 .ensures) _ (c .before .before .before .before .before .before .before .before .named-literal .ensures)) (deleted-is E _ (c .before .before .before .before .before .before .before .before .before .before .before .before .before .before .before .before .record-part .ensures) _ _ (c .before .before .before .before .before .before .before .before .before .before .before .before .before .field .ensures) (c .before .before .before .before .before .before .before .before .before .before .before .field3 .ensures) _ (c .before .before .before .before .before .named-literal2 .ensures)) (c .enum-told2 .given .1)
 
 same-sign-requires : tie.Need-same-sign-requires
 same-sign-requires c κs = search needs
@@ -64,14 +74,14 @@ same-length-3 c = search needs
 
 returns-4 : tie.Need-returns-4
 returns-4 c =
-    λ E. factor-other-signs E (c .before .before .before .before .before .before .before .before .before .before .before .before .before .before .before .before .before .before .before .before .before .pre .1) _ (c .before .before .before .before .before .before .before .before .before .before .before .before .before .before .before .before .before .record-part .ensures) _ (c .before .before .before .before .before .before .before .before .before .before .before .before .before .before .before .before .step-in-range .ensures) (c .before .before .before .before .before .before .before .before .before .before .before .before .before .before .before .if1 .left) _ _ (left-is E _ (c .before .before .before .before .before .before .before .before .before .before .before .before .before .before .before .before .before .record-part .ensures) _ _ (c .before .before .before .before .before .before .before .before .before .before .before .before .before .before .field .ensures) (c .before .before .before .before .before .before .before .before .before .before .before .before .before .field2 .ensures) _ (c .before .before .before .before .before .before .before .before .before .before .named-literal .ensures)) (deleted-is E _ (c .before .before .before .before .before .before .before .before .before .before .before .before .before .before .before .before .before .record-part .ensures) _ _ (c .before .before .before .before .before .before .before .before .before .before .before .before .before .before .field .ensures) (c .before .before .before .before .before .before .before .before .before .before .before .before .field3 .ensures) _ (c .before .before .before .before .before .before .before .before .named-literal2 .ensures)) _ _ _ _ _ _ (c .before .before .before .before .before .before .left .given .1) (c .before .before .before .right .given .1) _ (c .before .same-sign .ensures) (c .if2 .taken)
+    λ E. factor-other-signs E (c .before .before .before .before .before .before .before .before .before .before .before .before .before .before .before .before .before .before .before .before .before .before .before .pre .1) _ (c .before .before .before .before .before .before .before .before .before .before .before .before .before .before .before .before .before .before .before .record-part .ensures) _ (c .before .before .before .before .before .before .before .before .before .before .before .before .before .before .before .before .before .before .step-in-range .ensures) (c .before .before .before .before .before .before .before .before .before .before .before .before .before .before .before .before .before .if1 .left) _ _ (left-is E _ (c .before .before .before .before .before .before .before .before .before .before .before .before .before .before .before .before .before .before .before .record-part .ensures) _ _ (c .before .before .before .before .before .before .before .before .before .before .before .before .before .before .before .before .field .ensures) (c .before .before .before .before .before .before .before .before .before .before .before .before .before .before .before .field2 .ensures) _ (c .before .before .before .before .before .before .before .before .before .before .before .named-literal .ensures)) (deleted-is E _ (c .before .before .before .before .before .before .before .before .before .before .before .before .before .before .before .before .before .before .before .record-part .ensures) _ _ (c .before .before .before .before .before .before .before .before .before .before .before .before .before .before .before .before .field .ensures) (c .before .before .before .before .before .before .before .before .before .before .before .before .before .before .field3 .ensures) _ (c .before .before .before .before .before .before .before .before .named-literal2 .ensures)) _ _ _ _ _ _ (c .before .before .before .before .before .before .left .given .1) (c .before .before .before .right .given .1) _ (c .before .same-sign .ensures) (c .if2 .taken)
 
 same-length-4 : tie.Need-same-length-4
 same-length-4 c = search needs
 
 returns-5 : tie.Need-returns-5
 returns-5 c =
-    λ E. factor-same E (c .before .before .before .before .before .before .before .before .before .before .before .before .before .before .before .before .before .before .before .before .before .before .pre .1) _ (c .before .before .before .before .before .before .before .before .before .before .before .before .before .before .before .before .before .before .record-part .ensures) _ (c .before .before .before .before .before .before .before .before .before .before .before .before .before .before .before .before .before .step-in-range .ensures) (c .before .before .before .before .before .before .before .before .before .before .before .before .before .before .before .before .if1 .left) _ _ (left-is E _ (c .before .before .before .before .before .before .before .before .before .before .before .before .before .before .before .before .before .before .record-part .ensures) _ _ (c .before .before .before .before .before .before .before .before .before .before .before .before .before .before .before .field .ensures) (c .before .before .before .before .before .before .before .before .before .before .before .before .before .before .field2 .ensures) _ (c .before .before .before .before .before .before .before .before .before .before .before .named-literal .ensures)) (deleted-is E _ (c .before .before .before .before .before .before .before .before .before .before .before .before .before .before .before .before .before .before .record-part .ensures) _ _ (c .before .before .before .before .before .before .before .before .before .before .before .before .before .before .before .field .ensures) (c .before .before .before .before .before .before .before .before .before .before .before .before .before .field3 .ensures) _ (c .before .before .before .before .before .before .before .before .before .named-literal2 .ensures)) _ _ _ _ _ _ (c .before .before .before .before .before .before .before .left .given .1) (c .before .before .before .before .right .given .1) _ (c .before .before .same-sign .ensures) (c .before .if2 .left) _ _ _ (c .before .before .before .before .before .before .before .before .before .before .before .before .before .before .before .field .ensures) (c .before .before .before .before .before .before .before .before .before .before .before .before .before .before .field2 .ensures) (c .before .before .before .before .before .before .before .before .before .before .before .before .before .field3 .ensures) (c .if3 .taken)
+    λ E. factor-same E (c .before .before .before .before .before .before .before .before .before .before .before .before .before .before .before .before .before .before .before .before .before .before .before .before .pre .1) _ (c .before .before .before .before .before .before .before .before .before .before .before .before .before .before .before .before .before .before .before .before .record-part .ensures) _ (c .before .before .before .before .before .before .before .before .before .before .before .before .before .before .before .before .before .before .before .step-in-range .ensures) (c .before .before .before .before .before .before .before .before .before .before .before .before .before .before .before .before .before .before .if1 .left) _ _ (left-is E _ (c .before .before .before .before .before .before .before .before .before .before .before .before .before .before .before .before .before .before .before .before .record-part .ensures) _ _ (c .before .before .before .before .before .before .before .before .before .before .before .before .before .before .before .before .before .field .ensures) (c .before .before .before .before .before .before .before .before .before .before .before .before .before .before .before .before .field2 .ensures) _ (c .before .before .before .before .before .before .before .before .before .before .before .before .named-literal .ensures)) (deleted-is E _ (c .before .before .before .before .before .before .before .before .before .before .before .before .before .before .before .before .before .before .before .before .record-part .ensures) _ _ (c .before .before .before .before .before .before .before .before .before .before .before .before .before .before .before .before .before .field .ensures) (c .before .before .before .before .before .before .before .before .before .before .before .before .before .before .before .field3 .ensures) _ (c .before .before .before .before .before .before .before .before .before .named-literal2 .ensures)) _ _ _ _ _ _ (c .before .before .before .before .before .before .before .left .given .1) (c .before .before .before .before .right .given .1) _ (c .before .before .same-sign .ensures) (c .before .if2 .left) _ _ _ (c .before .before .before .before .before .before .before .before .before .before .before .before .before .before .before .before .before .field .ensures) (c .before .before .before .before .before .before .before .before .before .before .before .before .before .before .before .before .field2 .ensures) (c .before .before .before .before .before .before .before .before .before .before .before .before .before .before .before .field3 .ensures) (c .if3 .taken)
 
 atom-of-requires : tie.Need-atom-of-requires
 atom-of-requires c κs = search needs
@@ -79,10 +89,13 @@ atom-of-requires c κs = search needs
 atom-of-requires-2 : tie.Need-atom-of-requires-2
 atom-of-requires-2 c κs = search needs
 
+fields-requires : tie.Need-fields-requires
+fields-requires c κs = search needs
+
 factor-atoms-requires : tie.Need-factor-atoms-requires
 factor-atoms-requires c κs =
-    let E = c .before .before .before .before .before .before .before .before .before .before .before .before .before .before .before .before .before .before .before .before .before .before .before .before .before .before .before .pre .0 in
-    factor-checked E (c .before .before .before .before .before .before .before .before .before .before .before .before .before .before .before .before .before .before .before .before .before .before .before .before .before .before .before .pre .1) _ (c .before .before .before .before .before .before .before .before .before .before .before .before .before .before .before .before .before .before .before .before .before .before .before .record-part .ensures) _ (c .before .before .before .before .before .before .before .before .before .before .before .before .before .before .before .before .before .before .before .before .before .before .step-in-range .ensures) (c .before .before .before .before .before .before .before .before .before .before .before .before .before .before .before .before .before .before .before .before .before .if1 .left) _ _ (left-is E _ (c .before .before .before .before .before .before .before .before .before .before .before .before .before .before .before .before .before .before .before .before .before .before .before .record-part .ensures) _ _ (c .before .before .before .before .before .before .before .before .before .before .before .before .before .before .before .before .before .before .before .before .field .ensures) (c .before .before .before .before .before .before .before .before .before .before .before .before .before .before .before .before .before .before .before .field2 .ensures) _ (c .before .before .before .before .before .before .before .before .before .before .before .before .before .before .before .before .named-literal .ensures)) (deleted-is E _ (c .before .before .before .before .before .before .before .before .before .before .before .before .before .before .before .before .before .before .before .before .before .before .before .record-part .ensures) _ _ (c .before .before .before .before .before .before .before .before .before .before .before .before .before .before .before .before .before .before .before .before .field .ensures) (c .before .before .before .before .before .before .before .before .before .before .before .before .before .before .before .before .before .before .field3 .ensures) _ (c .before .before .before .before .before .before .before .before .before .before .before .before .before .before .named-literal2 .ensures)) _ _ _ _ _ _ (c .before .before .before .before .before .before .before .before .before .before .before .before .left .given .1) (c .before .before .before .before .before .before .before .before .before .right .given .1) _ (c .before .before .before .before .before .before .before .same-sign .ensures) (c .before .before .before .before .before .before .if2 .left) _ _ _ (c .before .before .before .before .before .before .before .before .before .before .before .before .before .before .before .before .before .before .before .before .field .ensures) (c .before .before .before .before .before .before .before .before .before .before .before .before .before .before .before .before .before .before .before .field2 .ensures) (c .before .before .before .before .before .before .before .before .before .before .before .before .before .before .before .before .before .before .field3 .ensures) (c .before .before .before .before .before .if3 .left) _ _ (c .before .before .before .before .atom-of .ensures) (c .before .before .before .atom-of2 .ensures)
+    let E = c .before .before .before .before .before .before .before .before .before .before .before .before .before .before .before .before .before .before .before .before .before .before .before .before .before .before .before .before .before .before .before .before .pre .0 in
+    factor-checked E (c .before .before .before .before .before .before .before .before .before .before .before .before .before .before .before .before .before .before .before .before .before .before .before .before .before .before .before .before .before .before .before .before .pre .1) _ (c .before .before .before .before .before .before .before .before .before .before .before .before .before .before .before .before .before .before .before .before .before .before .before .before .before .before .before .before .record-part .ensures) _ (c .before .before .before .before .before .before .before .before .before .before .before .before .before .before .before .before .before .before .before .before .before .before .before .before .before .before .before .step-in-range .ensures) (c .before .before .before .before .before .before .before .before .before .before .before .before .before .before .before .before .before .before .before .before .before .before .before .before .before .before .if1 .left) _ _ (left-is E _ (c .before .before .before .before .before .before .before .before .before .before .before .before .before .before .before .before .before .before .before .before .before .before .before .before .before .before .before .before .record-part .ensures) _ _ (c .before .before .before .before .before .before .before .before .before .before .before .before .before .before .before .before .before .before .before .before .before .before .before .before .before .field .ensures) (c .before .before .before .before .before .before .before .before .before .before .before .before .before .before .before .before .before .before .before .before .before .before .before .before .field2 .ensures) _ (c .before .before .before .before .before .before .before .before .before .before .before .before .before .before .before .before .before .before .before .before .named-literal .ensures)) (deleted-is E _ (c .before .before .before .before .before .before .before .before .before .before .before .before .before .before .before .before .before .before .before .before .before .before .before .before .before .before .before .before .record-part .ensures) _ _ (c .before .before .before .before .before .before .before .before .before .before .before .before .before .before .before .before .before .before .before .before .before .before .before .before .before .field .ensures) (c .before .before .before .before .before .before .before .before .before .before .before .before .before .before .before .before .before .before .before .before .before .before .before .field3 .ensures) _ (c .before .before .before .before .before .before .before .before .before .before .before .before .before .before .before .before .before .named-literal2 .ensures)) _ _ _ _ _ _ (c .before .before .before .before .before .before .before .before .before .before .before .before .before .before .before .left .given .1) (c .before .before .before .before .before .before .before .before .before .before .before .before .right .given .1) _ (c .before .before .before .before .before .before .before .before .before .before .same-sign .ensures) (c .before .before .before .before .before .before .before .before .before .if2 .left) _ _ _ (c .before .before .before .before .before .before .before .before .before .before .before .before .before .before .before .before .before .before .before .before .before .before .before .before .before .field .ensures) (c .before .before .before .before .before .before .before .before .before .before .before .before .before .before .before .before .before .before .before .before .before .before .before .before .field2 .ensures) (c .before .before .before .before .before .before .before .before .before .before .before .before .before .before .before .before .before .before .before .before .before .before .before .field3 .ensures) (c .before .before .before .before .before .before .before .before .if3 .left) _ _ (c .before .before .before .before .before .before .before .atom-of .ensures) (c .before .before .before .before .before .before .atom-of2 .ensures) (c .before .before .before .before .before .fields .ensures)
 
 same-length-5 : tie.Need-same-length-5
 same-length-5 c = search needs
@@ -92,7 +105,7 @@ same-length-6 c = search needs
 
 returns-6 : tie.Need-returns-6
 returns-6 c =
-    λ E. factor-read E (c .before .before .before .before .before .before .before .before .before .before .before .before .before .before .before .before .before .before .before .before .before .before .before .before .before .before .before .before .before .before .before .before .pre .1) _ (c .before .before .before .before .before .before .before .before .before .before .before .before .before .before .before .before .before .before .before .before .before .before .before .before .before .before .before .before .record-part .ensures) _ (c .before .before .before .before .before .before .before .before .before .before .before .before .before .before .before .before .before .before .before .before .before .before .before .before .before .before .before .step-in-range .ensures) (c .before .before .before .before .before .before .before .before .before .before .before .before .before .before .before .before .before .before .before .before .before .before .before .before .before .before .if1 .left) _ _ (left-is E _ (c .before .before .before .before .before .before .before .before .before .before .before .before .before .before .before .before .before .before .before .before .before .before .before .before .before .before .before .before .record-part .ensures) _ _ (c .before .before .before .before .before .before .before .before .before .before .before .before .before .before .before .before .before .before .before .before .before .before .before .before .before .field .ensures) (c .before .before .before .before .before .before .before .before .before .before .before .before .before .before .before .before .before .before .before .before .before .before .before .before .field2 .ensures) _ (c .before .before .before .before .before .before .before .before .before .before .before .before .before .before .before .before .before .before .before .before .before .named-literal .ensures)) (deleted-is E _ (c .before .before .before .before .before .before .before .before .before .before .before .before .before .before .before .before .before .before .before .before .before .before .before .before .before .before .before .before .record-part .ensures) _ _ (c .before .before .before .before .before .before .before .before .before .before .before .before .before .before .before .before .before .before .before .before .before .before .before .before .before .field .ensures) (c .before .before .before .before .before .before .before .before .before .before .before .before .before .before .before .before .before .before .before .before .before .before .before .field3 .ensures) _ (c .before .before .before .before .before .before .before .before .before .before .before .before .before .before .before .before .before .before .before .named-literal2 .ensures)) _ _ _ _ _ _ (c .before .before .before .before .before .before .before .before .before .before .before .before .before .before .before .before .before .left .given .1) (c .before .before .before .before .before .before .before .before .before .before .before .before .before .before .right .given .1) _ (c .before .before .before .before .before .before .before .before .before .before .before .before .same-sign .ensures) (c .before .before .before .before .before .before .before .before .before .before .before .if2 .left) _ _ _ (c .before .before .before .before .before .before .before .before .before .before .before .before .before .before .before .before .before .before .before .before .before .before .before .before .before .field .ensures) (c .before .before .before .before .before .before .before .before .before .before .before .before .before .before .before .before .before .before .before .before .before .before .before .before .field2 .ensures) (c .before .before .before .before .before .before .before .before .before .before .before .before .before .before .before .before .before .before .before .before .before .before .before .field3 .ensures) (c .before .before .before .before .before .before .before .before .before .before .if3 .left) _ _ (c .before .before .before .before .before .before .before .before .before .atom-of .ensures) (c .before .before .before .before .before .before .before .before .atom-of2 .ensures) _ _ _ _ (c .before .before .before .before .factor-atoms .ensures)
+    λ E. factor-read E (c .before .before .before .before .before .before .before .before .before .before .before .before .before .before .before .before .before .before .before .before .before .before .before .before .before .before .before .before .before .before .before .before .before .before .before .before .before .pre .1) _ (c .before .before .before .before .before .before .before .before .before .before .before .before .before .before .before .before .before .before .before .before .before .before .before .before .before .before .before .before .before .before .before .before .before .record-part .ensures) _ (c .before .before .before .before .before .before .before .before .before .before .before .before .before .before .before .before .before .before .before .before .before .before .before .before .before .before .before .before .before .before .before .before .step-in-range .ensures) (c .before .before .before .before .before .before .before .before .before .before .before .before .before .before .before .before .before .before .before .before .before .before .before .before .before .before .before .before .before .before .before .if1 .left) _ _ (left-is E _ (c .before .before .before .before .before .before .before .before .before .before .before .before .before .before .before .before .before .before .before .before .before .before .before .before .before .before .before .before .before .before .before .before .before .record-part .ensures) _ _ (c .before .before .before .before .before .before .before .before .before .before .before .before .before .before .before .before .before .before .before .before .before .before .before .before .before .before .before .before .before .before .field .ensures) (c .before .before .before .before .before .before .before .before .before .before .before .before .before .before .before .before .before .before .before .before .before .before .before .before .before .before .before .before .before .field2 .ensures) _ (c .before .before .before .before .before .before .before .before .before .before .before .before .before .before .before .before .before .before .before .before .before .before .before .before .before .named-literal .ensures)) (deleted-is E _ (c .before .before .before .before .before .before .before .before .before .before .before .before .before .before .before .before .before .before .before .before .before .before .before .before .before .before .before .before .before .before .before .before .before .record-part .ensures) _ _ (c .before .before .before .before .before .before .before .before .before .before .before .before .before .before .before .before .before .before .before .before .before .before .before .before .before .before .before .before .before .before .field .ensures) (c .before .before .before .before .before .before .before .before .before .before .before .before .before .before .before .before .before .before .before .before .before .before .before .before .before .before .before .before .field3 .ensures) _ (c .before .before .before .before .before .before .before .before .before .before .before .before .before .before .before .before .before .before .before .before .before .before .named-literal2 .ensures)) _ _ _ _ _ _ (c .before .before .before .before .before .before .before .before .before .before .before .before .before .before .before .before .before .before .before .before .left .given .1) (c .before .before .before .before .before .before .before .before .before .before .before .before .before .before .before .before .before .right .given .1) _ (c .before .before .before .before .before .before .before .before .before .before .before .before .before .before .before .same-sign .ensures) (c .before .before .before .before .before .before .before .before .before .before .before .before .before .before .if2 .left) _ _ _ (c .before .before .before .before .before .before .before .before .before .before .before .before .before .before .before .before .before .before .before .before .before .before .before .before .before .before .before .before .before .before .field .ensures) (c .before .before .before .before .before .before .before .before .before .before .before .before .before .before .before .before .before .before .before .before .before .before .before .before .before .before .before .before .before .field2 .ensures) (c .before .before .before .before .before .before .before .before .before .before .before .before .before .before .before .before .before .before .before .before .before .before .before .before .before .before .before .before .field3 .ensures) (c .before .before .before .before .before .before .before .before .before .before .before .before .before .if3 .left) _ _ (c .before .before .before .before .before .before .before .before .before .before .before .before .atom-of .ensures) (c .before .before .before .before .before .before .before .before .before .before .before .atom-of2 .ensures) (c .before .before .before .before .before .before .before .before .before .before .fields .ensures) _ _ _ _ _ (c .before .before .before .before .factor-atoms .ensures)
 
 pub factor-record-spec : {M : Type 1} → statement M
 factor-record-spec =
@@ -121,6 +134,7 @@ factor-record-spec =
     returns-5
     atom-of-requires
     atom-of-requires-2
+    fields-requires
     factor-atoms-requires
     same-length-5
     same-length-6

@@ -2,21 +2,27 @@ use Rattle.inference.proofs.StepLaws.{factor-clear, factor-load, factor-ready, 
 use borrow.Author.Needs.{needs}
 use Rattle.factoring.proofs.unify_factor.Statement.{statement}
 use Rattle.factoring.proofs.unify_factor.Tie as tie
+use Rattle.factoring.proofs.unify_factor.Reads as reads
+use Rattle.factoring.proofs.unify_factor.Lts as lts
+use Rattle.clauses.proofs.index_cell.Reads as index-cell-reads
+use Rattle.following.proofs.values.clear.Reads as clear-reads
+use Rattle.loading.proofs.load.Reads as load-reads
+use Rattle.unify.proofs.unify_literals.Reads as unify-literals-reads
 
 index-cell-requires : tie.Need-index-cell-requires
 index-cell-requires c κs = search needs
 
 clear-requires : tie.Need-clear-requires
 clear-requires c κs =
-    factor-clear (c .before .before .before .before .before .pre) _ (c .index-cell .ensures)
+    factor-clear (c .before .before .before .before .pre) _ (c .index-cell .ensures)
 
 load-requires : tie.Need-load-requires
 load-requires c κs =
-    factor-load (c .before .before .before .before .before .before .before .before .pre) _ (c .before .before .clear .ensures .1)
+    factor-load (c .before .before .before .before .before .before .before .pre) _ (c .before .before .clear .ensures .1)
 
 unify-literals-requires : tie.Need-unify-literals-requires
 unify-literals-requires c κs =
-    factor-ready (c .before .before .before .before .before .before .before .before .before .before .before .pre) _ (c .before .before .before .before .before .before .index-cell .ensures) _ _ (c .before .before .before .before .before .clear .ensures .0) (c .before .before .load .ensures)
+    factor-ready (c .before .before .before .before .before .before .before .before .before .before .pre) _ (c .before .before .before .before .before .before .index-cell .ensures) _ _ (c .before .before .before .before .before .clear .ensures .0) (c .before .before .load .ensures)
 
 same-length : tie.Need-same-length
 same-length c = search needs

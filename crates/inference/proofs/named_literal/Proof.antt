@@ -1,10 +1,14 @@
 use Rattle.inference.proofs.StepTests.{named-clause, named-there, named-missing}
+use borrow.Author.Needs.{needs}
 use Rattle.inference.proofs.named_literal.Statement.{statement}
 use Rattle.inference.proofs.named_literal.Tie as tie
+use Rattle.inference.proofs.named_literal.Reads as reads
+use Rattle.inference.proofs.named_literal.Lts as lts
+use Rattle.clauses.proofs.literal.literal.Reads as literal-reads
 
 literal-requires : tie.Need-literal-requires
 literal-requires c κs =
-    named-clause (c .before .before .before .pre) _ (c .if1 .taken)
+    named-clause (c .before .before .pre) _ (c .if1 .taken)
 
 returns : tie.Need-returns
 returns c =

@@ -1,9 +1,17 @@
+use mathlib.Core.Path.{ap}
+use lib.ListN.{length}
 use native.Mathlib.Omega.{arith}
 use Rattle.inference.proofs.StepEnds.{finishing}
 use Rattle.inference.proofs.StepNamed.{literals-sum, index-sum, resolving, too-many-literals, too-high-index, resolve-ended}
 use borrow.Author.Needs.{needs}
 use Rattle.resolution.proofs.resolve_atoms.Statement.{statement}
 use Rattle.resolution.proofs.resolve_atoms.Tie as tie
+use Rattle.resolution.proofs.resolve_atoms.Reads as reads
+use Rattle.resolution.proofs.resolve_atoms.Lts as lts
+use Rattle.clauses.proofs.index_cell.Reads as index-cell-reads
+use Rattle.clauses.proofs.literals_cell.Reads as literals-cell-reads
+use Rattle.inference.proofs.finish_step.Reads as finish-step-reads
+use Rattle.resolution.proofs.unify_resolve.Reads as unify-resolve-reads
 
 literals-cell-requires : tie.Need-literals-cell-requires
 literals-cell-requires c κs = search needs
@@ -13,11 +21,11 @@ literals-cell-requires-2 c κs = search needs
 
 add-literals : tie.Need-add-literals
 add-literals c =
-    omega (arith, literals-sum (c .before .before .before .before .before .before .before .pre) _ _ (c .before .before .literals-cell .ensures) (c .literals-cell2 .ensures) .1)
+    omega (arith, literals-sum (c .before .before .before .before .before .before .pre) _ _ (c .before .before .literals-cell .ensures) (c .literals-cell2 .ensures) .1)
 
 sub-literals : tie.Need-sub-literals
 sub-literals c =
-    literals-sum (c .before .before .before .before .before .before .before .pre) _ _ (c .before .before .literals-cell .ensures) (c .literals-cell2 .ensures) .0
+    literals-sum (c .before .before .before .before .before .before .pre) _ _ (c .before .before .literals-cell .ensures) (c .literals-cell2 .ensures) .0
 
 same-length : tie.Need-same-length
 same-length c = search needs
@@ -34,7 +42,7 @@ index-cell-requires-2 c κs = search needs
 
 add-index : tie.Need-add-index
 add-index c =
-    omega (arith, index-sum (c .before .before .before .before .before .before .before .before .before .before .before .before .pre) _ _ (c .before .before .index-cell .ensures) (c .index-cell2 .ensures))
+    omega (arith, index-sum (c .before .before .before .before .before .before .before .before .before .before .before .pre) _ _ (c .before .before .index-cell .ensures) (c .index-cell2 .ensures))
 
 same-length-2 : tie.Need-same-length-2
 same-length-2 c = search needs
@@ -45,11 +53,11 @@ returns-2 c =
 
 unify-resolve-requires : tie.Need-unify-resolve-requires
 unify-resolve-requires c κs =
-    resolving (c .before .before .before .before .before .before .before .before .before .before .before .before .before .before .before .before .pre) _ _ (c .before .before .before .before .before .before .index-cell .ensures) (c .before .before .before .before .index-cell2 .ensures) (c .before .before .before .if2 .left)
+    resolving (c .before .before .before .before .before .before .before .before .before .before .before .before .before .before .before .before .pre) _ _ (c .before .before .before .before .before .before .before .index-cell .ensures) (c .before .before .before .before .before .index-cell2 .ensures) (c .before .before .before .before .if2 .left)
 
 finish-step-requires : tie.Need-finish-step-requires
 finish-step-requires c κs =
-    finishing (c .before .before .before .before .before .before .before .before .before .before .before .before .before .before .before .before .before .before .before .before .before .pre .step) _ _ _ (c .before .before .before .before .unify-resolve .ensures .1)
+    finishing (c .before .before .before .before .before .before .before .before .before .before .before .before .before .before .before .before .before .before .before .before .before .before .pre .step) _ _ _ (c .before .before .before .before .before .unify-resolve .ensures .1) _ (ap length (c .before .before .before .before .before .before .before .before .before .before .before .before .before .before .before .before .before .before .before .before .before .before .pre .numbers))
 
 same-length-3 : tie.Need-same-length-3
 same-length-3 c = search needs
@@ -59,7 +67,7 @@ same-length-4 c = search needs
 
 returns-3 : tie.Need-returns-3
 returns-3 c =
-    λ R. resolve-ended R _ _ _ _ (c .before .before .before .before .before .before .before .before .before .before .before .before .before .before .before .before .before .before .before .before .before .literals-cell .ensures) (c .before .before .before .before .before .before .before .before .before .before .before .before .before .before .before .before .before .before .before .literals-cell2 .ensures) (c .before .before .before .before .before .before .before .before .before .before .before .before .before .before .before .before .index-cell .ensures) (c .before .before .before .before .before .before .before .before .before .before .before .before .before .before .index-cell2 .ensures) (c .before .before .before .before .before .before .before .before .before .before .before .before .before .before .before .before .before .before .if1 .left) (c .before .before .before .before .before .before .before .before .before .before .before .before .before .if2 .left) _ _ _ (c .before .before .before .before .before .before .before .before .before .unify-resolve .ensures .0) (c .before .before .before .before .before .before .before .before .before .unify-resolve .ensures .1) _ _ _ (c .before .before .before .before .finish-step .ensures)
+    λ R. resolve-ended R _ _ _ _ (c .before .before .before .before .before .before .before .before .before .before .before .before .before .before .before .before .before .before .before .before .before .before .before .literals-cell .ensures) (c .before .before .before .before .before .before .before .before .before .before .before .before .before .before .before .before .before .before .before .before .before .literals-cell2 .ensures) (c .before .before .before .before .before .before .before .before .before .before .before .before .before .before .before .before .before .before .index-cell .ensures) (c .before .before .before .before .before .before .before .before .before .before .before .before .before .before .before .before .index-cell2 .ensures) (c .before .before .before .before .before .before .before .before .before .before .before .before .before .before .before .before .before .before .before .before .if1 .left) (c .before .before .before .before .before .before .before .before .before .before .before .before .before .before .before .if2 .left) _ _ _ (c .before .before .before .before .before .before .before .before .before .before .unify-resolve .ensures .0) (c .before .before .before .before .before .before .before .before .before .before .unify-resolve .ensures .1) _ _ _ _ (c .before .before .before .before .finish-step .ensures)
 
 pub resolve-atoms-spec : {M : Type 1} → statement M
 resolve-atoms-spec =

@@ -3,6 +3,12 @@ use Rattle.inference.proofs.StepLaws.{resolve-top, resolve-clear, resolve-load,
 use borrow.Author.Needs.{needs}
 use Rattle.resolution.proofs.unify_resolve.Statement.{statement}
 use Rattle.resolution.proofs.unify_resolve.Tie as tie
+use Rattle.resolution.proofs.unify_resolve.Reads as reads
+use Rattle.resolution.proofs.unify_resolve.Lts as lts
+use Rattle.clauses.proofs.index_cell.Reads as index-cell-reads
+use Rattle.following.proofs.values.clear.Reads as clear-reads
+use Rattle.loading.proofs.load.Reads as load-reads
+use Rattle.unify.proofs.unify_literals.Reads as unify-literals-reads
 
 index-cell-requires : tie.Need-index-cell-requires
 index-cell-requires c κs = search needs
@@ -12,27 +18,27 @@ index-cell-requires-2 c κs = search needs
 
 add-top : tie.Need-add-top
 add-top c =
-    omega (arith, resolve-top (c .before .before .before .before .before .pre) _ _ (c .before .index-cell .ensures) (c .index-cell2 .ensures))
+    omega (arith, resolve-top (c .before .before .before .before .pre) _ _ (c .before .index-cell .ensures) (c .index-cell2 .ensures))
 
 clear-requires : tie.Need-clear-requires
 clear-requires c κs =
-    resolve-clear (c .before .before .before .before .before .before .pre) _ _ (c .before .before .index-cell .ensures) (c .before .index-cell2 .ensures)
+    resolve-clear (c .before .before .before .before .before .pre) _ _ (c .before .before .index-cell .ensures) (c .before .index-cell2 .ensures)
 
 load-requires : tie.Need-load-requires
 load-requires c κs =
-    resolve-load (c .before .before .before .before .before .before .before .before .before .pre) _ (c .before .before .clear .ensures .1)
+    resolve-load (c .before .before .before .before .before .before .before .before .pre) _ (c .before .before .clear .ensures .1)
 
 load-requires-2 : tie.Need-load-requires-2
 load-requires-2 c κs =
-    resolve-load-right (c .before .before .before .before .before .before .before .before .before .before .before .before .pre) _ (c .before .before .before .before .before .before .before .before .index-cell .ensures) _ (c .before .before .load .ensures .room)
+    resolve-load-right (c .before .before .before .before .before .before .before .before .before .before .before .pre) _ (c .before .before .before .before .before .before .before .before .index-cell .ensures) _ (c .before .before .load .ensures .room)
 
 add-unify-literals : tie.Need-add-unify-literals
 add-unify-literals c =
-    omega (arith, resolve-index (c .before .before .before .before .before .before .before .before .before .before .before .before .before .before .before .before .pre) _ (c .before .before .before .before .before .before .before .before .before .before .before .before .index-cell .ensures))
+    omega (arith, resolve-index (c .before .before .before .before .before .before .before .before .before .before .before .before .before .before .before .pre) _ (c .before .before .before .before .before .before .before .before .before .before .before .before .index-cell .ensures))
 
 unify-literals-requires : tie.Need-unify-literals-requires
 unify-literals-requires c κs =
-    resolve-ready (c .before .before .before .before .before .before .before .before .before .before .before .before .before .before .before .before .pre) _ _ (c .before .before .before .before .before .before .before .before .before .before .before .before .index-cell .ensures) (c .before .before .before .before .before .before .before .before .before .before .before .index-cell2 .ensures) _ _ _ (c .before .before .before .before .before .before .before .before .before .clear .ensures .0) (c .before .before .before .before .before .before .load .ensures) (c .before .before .before .load2 .ensures)
+    resolve-ready (c .before .before .before .before .before .before .before .before .before .before .before .before .before .before .before .pre) _ _ (c .before .before .before .before .before .before .before .before .before .before .before .before .index-cell .ensures) (c .before .before .before .before .before .before .before .before .before .before .before .index-cell2 .ensures) _ _ _ (c .before .before .before .before .before .before .before .before .before .clear .ensures .0) (c .before .before .before .before .before .before .load .ensures) (c .before .before .before .load2 .ensures)
 
 same-length : tie.Need-same-length
 same-length c = search needs
