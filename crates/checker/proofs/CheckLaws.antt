@@ -11,7 +11,7 @@ use lib.Seq.{getD-append-add}
 use borrow.Author.Tests.{ne-eqb}
 use Rattle.record.specs.Record.{pick}
 use Rattle.derivation.specs.Derivation.{literals, Derivation}
-use Rattle.derivation.specs.Stored.{literalsCell}
+use Rattle.derivation.specs.Stored.{originTableOf, literalsCell}
 use Rattle.answer.specs.Given.{answerGiven, numbersWith, firstZero, standingNumbers, endedNumbers}
 use Rattle.tables.specs.Cells.{clearedPart}
 use Rattle.entry.specs.Progress.{nodeTableOf, countsOf, ReadTo, tablesWith}
@@ -34,13 +34,14 @@ module _ {F : List ℕ} {s r C B : List ℕ} (R : Readable F (tablesWith s r C B
   table-sizes = sizes (tablesWith s r C B) (R .long)
 
   module _ {s′ r′ C′ B′ A : List ℕ} (ps : s′ ≡ clearedPart 0 4096 s) (pr : r′ ≡ clearedPart 0 4096 r) (pc : C′ ≡ clearedPart 0 20480 C) (pb : B′ ≡ clearedPart 0 32768 B) (pa : length A ≡ 524416) where
-    unfoldable pub begun : (N : List ℕ) → N ≡ nodeTableOf [] → Begun F (tablesWith s′ r′ C′ B′) N A
-    begun N isEmpty = record {
+    unfoldable pub begun : (N O : List ℕ) → N ≡ nodeTableOf [] → O ≡ originTableOf [] → Begun F (tablesWith s′ r′ C′ B′) N O A
+    begun N O noRow noClause = record {
       tablesBefore = tablesWith s r C B;
       fit = R .fit;
       long = R .long;
       cleared = λ i. record { symbols = ps i; rows = pr i; clauses = pc i; bindings = pb i };
-      nodes = isEmpty;
+      nodes = noRow;
+      origins = noClause;
       values = pa;
     }
 
@@ -86,14 +87,14 @@ module _ (F : List ℕ) (t : Tables) (here : Tables) (a : Answer) where
     tables = h ∙ ap (λ (x : Ending). filledTables (stateOf x) t) (sym q);
   }
 
-  file-read : (e : Ended) (N A : List ℕ) → EndedWith F t e here N A → answerGiven a ≡ endedNumbers e (here .clauses) → FileRead F t a here
-  file-read (All n) N A X p = all-read-numbers n (X .state) (X .ended .0) (X .ended .1) (X .left .kept .tables) p
-  file-read (Refused number k n) N A X p = refused-read-numbers number k n (X .state) (X .ended .1 .0) (X .ended .0) (X .ended .1 .1) (X .ended .1 .2) (X .left .kept .tables) p
+  file-read : (e : Ended) (N O A : List ℕ) → EndedWith F t e here N O A → answerGiven a ≡ endedNumbers e (here .clauses) → FileRead F t a here
+  file-read (All n) N O A X p = all-read-numbers n (X .state) (X .ended .0) (X .ended .1) (X .left .kept .tables) p
+  file-read (Refused number k n) N O A X p = refused-read-numbers number k n (X .state) (X .ended .1 .0) (X .ended .0) (X .ended .1 .1) (X .ended .1 .2) (X .left .kept .tables) p
 
   -- The state that reading ended with is the definition's.
   ended-state : (e : Ended) (S : State) → EndsAs F S e → S ≡ stateOf (ending F)
   ended-state (All n) S q = sym (ap stateOf (q .1))
   ended-state (Refused number k n) S q = sym (ap stateOf (q .1 .1))
 
-  pub file-read-with : (e : Ended) (N A : List ℕ) → EndedWith F t e here N A → answerGiven a ≡ endedNumbers e (here .clauses) → FileReadWith F t a here N A
-  file-read-with e N A X p = record { file = file-read e N A X p; left = subst (λ (S : State). ReadTo F t S here N A) (ended-state e (X .state) (X .ended)) (X .left) }
+  pub file-read-with : (e : Ended) (N O A : List ℕ) → EndedWith F t e here N O A → answerGiven a ≡ endedNumbers e (here .clauses) → FileReadWith F t a here N O A
+  file-read-with e N O A X p = record { file = file-read e N O A X p; left = subst (λ (S : State). ReadTo F t S here N O A) (ended-state e (X .state) (X .ended)) (X .left) }

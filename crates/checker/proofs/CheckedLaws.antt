@@ -1,20 +1,23 @@
 -- The contract of the check, from the three ways that a check can go.
-use mathlib.Core.Path.{_≡_, refl, sym, ap, _∙_}
+use mathlib.Core.Path.{_≡_, refl, sym, ap, ap₂, _∙_}
 use mathlib.Core.Bool.{Bool, true, false, not}
 use mathlib.Core.Option.{some}
-use mathlib.Core.List.{List, [], _∷_, _++_}
-use Prim.Native.Nat.{ℕ, _+_, _-_, _*_, _<_}
+use mathlib.Core.List.{List, [], _∷_, _++_, append-nil}
+use Prim.Native.Nat.{ℕ, _+_, _-_, _*_, _≤_, _<_}
 use native.Mathlib.Omega.{arith}
-use lib.ListN.{length, getD, drop, replicate, length-map, List·getD-append}
+use lib.ListN.{length, getD, take, drop, replicate, length-map, drop-of-length-le, List·getD-append}
 use Rattle.unification.specs.Row.{Variable}
 use Rattle.unification.proofs.Tests.{true-not-false, some-injective}
 use Rattle.derivation.specs.Derivation.{Derivation, maximumIndex}
-use Rattle.checker.specs.Contract.{Checked, CheckedWith, stateLeft}
+use Rattle.checker.specs.Contract.{Checked, Workspace, workspaceWith, CheckedWith}
 use Rattle.answer.specs.Given.{verdictGiven, answerGiven, untouchedNumbers}
-use Rattle.checker.specs.Reader.{Readable, FileRead, Unwritten, FileReadWith}
+use Rattle.checker.specs.Reader.{Readable, FileRead, FileReadWith, clearTable}
+use Rattle.tables.specs.Cells.{clearedPart}
+use Rattle.derivation.specs.Stored.{originTableOf}
 use Rattle.entry.specs.Progress.{nodeTableOf}
+use Rattle.inference.proofs.KeptClauses.{nodes-room, origins-room}
 use Rattle.verdict.specs.Refusal.{Reason, badLength, shortTable}
-use Rattle.verdict.specs.State.{State, start, rowsOf, derivations, clauseOf, held}
+use Rattle.verdict.specs.State.{State, derivations, clauseOf, held}
 use Rattle.verdict.specs.Step.{stateOf}
 use Rattle.verdict.specs.Tables.{Tables, lengthsOf, clauseCells, tablesAfter}
 use Rattle.verdict.specs.Verdict.{refusal, check, accepted, undecided, verdictNumbers, answerNumbers, longEnough, fittingLength, ending}
@@ -102,27 +105,53 @@ module _ (F : List ℕ) (t : Tables) (a : Answer) (b : Bool) (isFitting : b ≡ 
         let l : longEnough (lengthsOf t) ≡ true = sym isLong ∙ not-false d q in
         checked F t a here (R .numbers ∙ sym (ap answerNumbers (check-reads F t fits l))) (R .tables ∙ sym (tables-read F t fits l))
 
--- The same with a node table: the state that the check leaves, in each of the three ways.
-module _ (F : List ℕ) (t : Tables) where
-  pub left-length : fittingLength (length F) ≡ false → stateLeft F (lengthsOf t) ≡ start
-  left-length f = rw f
-
-  pub left-tables : fittingLength (length F) ≡ true → longEnough (lengthsOf t) ≡ false → stateLeft F (lengthsOf t) ≡ start
-  left-tables f l = rw (f, l)
-
-  pub left-read : fittingLength (length F) ≡ true → longEnough (lengthsOf t) ≡ true → stateLeft F (lengthsOf t) ≡ stateOf (ending F)
-  left-read f l = rw (f, l)
-
-module _ (F : List ℕ) (t : Tables) (a : Answer) (b : Bool) (isFitting : b ≡ fittingLength (length F)) where
-  pub checked-length-with : not b ≡ true → answerGiven a ≡ untouchedNumbers 1 → (N A : List ℕ) → Unwritten N A → CheckedWith F t a t N A
-  checked-length-with q p N A U =
-      record { checked = checked-length F t a b isFitting q p; nodes = U .nodes ∙ ap (λ (S : State). nodeTableOf (rowsOf S)) (sym (left-length F t (sym isFitting ∙ not-true b q))); values = U .values; read = λ f l. absurd (true-not-false f (sym isFitting ∙ not-true b q)) }
+-- The same with a lent workspace, in each of the three ways.
+module _ (F : List ℕ) (t : Tables) (w : Workspace) (a : Answer) (b : Bool) (isFitting : b ≡ fittingLength (length F))
+    (nodes : length (w .nodes) ≡ 32768) (origins : length (w .origins) ≡ 32768) (values : length (w .values) ≡ 524416) where
+  pub checked-length-with : not b ≡ true → answerGiven a ≡ untouchedNumbers 1 → CheckedWith F t w a t w
+  checked-length-with q p =
+      let f : fittingLength (length F) ≡ false = sym isFitting ∙ not-true b q in
+      record { checked = checked-length F t a b isFitting q p; nodes = rw f refl; origins = rw f refl; nodeRoom = nodes; originRoom = origins; values = values; read = λ g l. absurd (true-not-false g f) }
 
   module _ (fit : not b ≡ false) (d : Bool) (isLong : d ≡ longEnough (lengthsOf t)) where
-    pub checked-tables-with : not d ≡ true → answerGiven a ≡ untouchedNumbers 2 → (N A : List ℕ) → Unwritten N A → CheckedWith F t a t N A
-    checked-tables-with q p N A U =
-        record { checked = checked-tables F t a b isFitting fit d isLong q p; nodes = U .nodes ∙ ap (λ (S : State). nodeTableOf (rowsOf S)) (sym (left-tables F t (sym isFitting ∙ not-false b fit) (sym isLong ∙ not-true d q))); values = U .values; read = λ f l. absurd (true-not-false l (sym isLong ∙ not-true d q)) }
+    isFit : fittingLength (length F) ≡ true
+    isFit = sym isFitting ∙ not-false b fit
 
-    pub checked-read-with : not d ≡ false → (here : Tables) (N A : List ℕ) → FileReadWith F t a here N A → CheckedWith F t a here N A
-    checked-read-with q here N A R =
-        record { checked = checked-read F t a b isFitting fit d isLong q here (R .file); nodes = R .left .kept .nodes ∙ ap (λ (S : State). nodeTableOf (rowsOf S)) (sym (left-read F t (sym isFitting ∙ not-false b fit) (sym isLong ∙ not-false d q))); values = R .left .kept .values; read = λ f l. R .left }
+    pub checked-tables-with : not d ≡ true → answerGiven a ≡ untouchedNumbers 2 → CheckedWith F t w a t w
+    checked-tables-with q p =
+        let s : longEnough (lengthsOf t) ≡ false = sym isLong ∙ not-true d q in
+        record { checked = checked-tables F t a b isFitting fit d isLong q p; nodes = rw (isFit, s) refl; origins = rw (isFit, s) refl; nodeRoom = nodes; originRoom = origins; values = values; read = λ f l. absurd (true-not-false l s) }
+
+    pub checked-read-with : not d ≡ false → (here : Tables) (N O A : List ℕ) → FileReadWith F t a here N O A → CheckedWith F t w a here (workspaceWith N O A)
+    checked-read-with q here N O A R =
+        let s : longEnough (lengthsOf t) ≡ true = sym isLong ∙ not-false d q in
+        record {
+          checked = checked-read F t a b isFitting fit d isLong q here (R .file);
+          nodes = rw (isFit, s) (R .left .kept .nodes);
+          origins = rw (isFit, s) (R .left .kept .origins);
+          nodeRoom = nodes-room (R .left .kept) (R .left .few);
+          originRoom = origins-room (R .left .kept) (R .left .few);
+          values = R .left .kept .values;
+          read = λ f l. R .left;
+        }
+
+-- A table cleared, whatever it held.
+all-cleared : (n : ℕ) (T : List ℕ) → length T ≡ n → clearedPart 0 n T ≡ replicate n 0
+all-cleared n T l =
+    let e : n - 0 ≡ n = omega arith in
+    let h : length T ≤ n = omega (arith, l) in
+    let d : drop n T ≡ [] = drop-of-length-le T h in
+    ap₂ (λ (k : ℕ) (x : List ℕ). take 0 T ++ (replicate k 0 ++ x)) e d ∙ append-nil (replicate n 0)
+
+pub table-cleared : (T T′ : List ℕ) → length T ≡ 32768 → T′ ≡ clearedPart 0 32768 T → T′ ≡ clearTable
+unfolding clearTable
+table-cleared T T′ l q = q ∙ all-cleared 32768 T l
+
+-- A cleared table has no row and no clause.
+pub cleared-nodes : clearTable ≡ nodeTableOf []
+unfolding clearTable
+cleared-nodes = refl
+
+pub cleared-origins : clearTable ≡ originTableOf []
+unfolding clearTable
+cleared-origins = refl

@@ -14,13 +14,13 @@ use Rattle.inference.specs.Stepping.{BeforeStep, StepRead}
 use Rattle.verdict.specs.Tables.{Tables}
 use Rattle.entry.proofs.Declaring.{symbol-read, variable-read, application-read, input-read}
 use Rattle.fields.proofs.FieldLaws.{kind-other}
-use Rattle.entry.proofs.Kept.{few-records, few-symbols, few-rows, few-clauses, nodes-length}
+use Rattle.entry.proofs.Kept.{few-records, few-symbols, few-rows, few-clauses, nodes-length, origins-length}
 use Rattle.verdict.proofs.Resolution.{at-kind}
 use Rattle.entry.specs.declared.entry.Counts.{Counts}
 use Rattle.entry.specs.declared.entry.Entered.{Entered}
 use Rattle.entry.specs.declared.entry.Entered.the-variants.{Refused}
 
-module _ {F : List ℕ} {k : ℕ} {n : Counts} {here : Tables} {N A : List ℕ} (R : Reading F k n here N A) where
+module _ {F : List ℕ} {k : ℕ} {n : Counts} {here : Tables} {N O A : List ℕ} (R : Reading F k n here N O A) where
   abbrev S : State
   S = R .state
 
@@ -28,46 +28,50 @@ module _ {F : List ℕ} {k : ℕ} {n : Counts} {here : Tables} {N A : List ℕ} 
   t = R .tablesBefore
 
   below : k < 4096
-  below = few-records F t k S n here N A (R .kept) (R .inside)
+  below = few-records F t k S n here N O A (R .kept) (R .inside)
 
   pub symbols-few : n .symbols < 4096
-  symbols-few = omega (arith, ap (λ (c : Counts). c .symbols) (R .kept .counts), few-symbols F t k S n here N A (R .kept) (R .inside), below)
+  symbols-few = omega (arith, ap (λ (c : Counts). c .symbols) (R .kept .counts), few-symbols F t k S n here N O A (R .kept) (R .inside), below)
 
   pub rows-few : (n .rows < 4096) × (length N ≡ 32768)
-  rows-few = (omega (arith, ap (λ (c : Counts). c .rows) (R .kept .counts), few-rows F t k S n here N A (R .kept) (R .inside), below), nodes-length F t k S n here N A (R .kept) (R .inside))
+  rows-few = (omega (arith, ap (λ (c : Counts). c .rows) (R .kept .counts), few-rows F t k S n here N O A (R .kept) (R .inside), below), nodes-length F t k S n here N O A (R .kept) (R .inside))
 
-  pub clauses-few : (n .clauses < 4096) × (length N ≡ 32768)
-  clauses-few = (omega (arith, ap (λ (c : Counts). c .clauses) (R .kept .counts), few-clauses F t k S n here N A (R .kept) (R .inside), below), nodes-length F t k S n here N A (R .kept) (R .inside))
+  pub clauses-few : (n .clauses < 4096) × ((length N ≡ 32768) × (length O ≡ 32768))
+  clauses-few =
+      (omega (arith, ap (λ (c : Counts). c .clauses) (R .kept .counts), few-clauses F t k S n here N O A (R .kept) (R .inside), below), (nodes-length F t k S n here N O A (R .kept) (R .inside), origins-length F t k S n here N O A (R .kept) (R .inside)))
 
-module _ {F : List ℕ} {k : ℕ} {n : Counts} {s r C B N A : List ℕ} (R : Reading F k n (tablesWith s r C B) N A) where
-  pub before-step : BeforeStep F k n C B N A
+module _ {F : List ℕ} {k : ℕ} {n : Counts} {s r C B N O A : List ℕ} (R : Reading F k n (tablesWith s r C B) N O A) where
+  pub before-step : BeforeStep F k n C B N O A
   before-step = record { inside = R .inside; tablesBefore = R .tablesBefore; state = R .state; symbols = s; rows = r; kept = R .kept }
 
   module _ (P : List ℕ) (p : P ≡ recordPart F k) (m : ℕ) (q : m ≡ kindOf P) where
     pub tag-is : m ≡ kindOf (recordPart F k)
     tag-is = q ∙ ap kindOf p
 
-    pub step-asked : (j : ℕ) → m ≡ j → BeforeStep F k n C B N A × (kindOf (recordPart F k) ≡ j)
+    pub step-asked : (j : ℕ) → m ≡ j → BeforeStep F k n C B N O A × (kindOf (recordPart F k) ≡ j)
     step-asked j z = (before-step, sym tag-is ∙ z)
+
+    pub input-asked : m ≡ 4 → kindOf (recordPart F k) ≡ 4
+    input-asked z = sym tag-is ∙ z
 
     kind-is : (j : ℕ) → m ≡ j → kindOfRecord (decoded (recordPart F k)) ≡ kindNumbered j
     kind-is j z = ap kindNumbered (sym tag-is ∙ z)
 
-    pub symbol-done : m ≡ 1 → (e : Entered) (s′ : List ℕ) → symbolLeft e s′ ≡ symbolEntered P k n s → RecordRead F k n (tablesWith s r C B) N A e (tablesWith s′ r C B) N A
-    symbol-done z e s′ E = record { next = λ t S K. symbol-read F t k S n (tablesWith s r C B) N A K (R .inside) (kind-is 1 z) e s′ (E ∙ ap (λ (x : List ℕ). symbolEntered x k n s) p) }
+    pub symbol-done : m ≡ 1 → (e : Entered) (s′ : List ℕ) → symbolLeft e s′ ≡ symbolEntered P k n s → RecordRead F k n (tablesWith s r C B) N O A e (tablesWith s′ r C B) N O A
+    symbol-done z e s′ E = record { next = λ t S K. symbol-read F t k S n (tablesWith s r C B) N O A K (R .inside) (kind-is 1 z) e s′ (E ∙ ap (λ (x : List ℕ). symbolEntered x k n s) p) }
 
-    pub variable-done : m ≡ 2 → (e : Entered) (r′ N′ : List ℕ) → rowLeft e r′ N′ ≡ variableEntered P k n r N → RecordRead F k n (tablesWith s r C B) N A e (tablesWith s r′ C B) N′ A
-    variable-done z e r′ N′ E = record { next = λ t S K. variable-read F t k S n (tablesWith s r C B) N A K (R .inside) (kind-is 2 z) e r′ N′ (E ∙ ap (λ (x : List ℕ). variableEntered x k n r N) p) }
+    pub variable-done : m ≡ 2 → (e : Entered) (r′ N′ : List ℕ) → rowLeft e r′ N′ ≡ variableEntered P k n r N → RecordRead F k n (tablesWith s r C B) N O A e (tablesWith s r′ C B) N′ O A
+    variable-done z e r′ N′ E = record { next = λ t S K. variable-read F t k S n (tablesWith s r C B) N O A K (R .inside) (kind-is 2 z) e r′ N′ (E ∙ ap (λ (x : List ℕ). variableEntered x k n r N) p) }
 
-    pub application-done : m ≡ 3 → (e : Entered) (r′ N′ : List ℕ) → rowLeft e r′ N′ ≡ applicationEntered F P k n s r N → RecordRead F k n (tablesWith s r C B) N A e (tablesWith s r′ C B) N′ A
-    application-done z e r′ N′ E = record { next = λ t S K. application-read F t k S n (tablesWith s r C B) N A K (R .inside) (kind-is 3 z) e r′ N′ (E ∙ ap (λ (x : List ℕ). applicationEntered F x k n s r N) p) }
+    pub application-done : m ≡ 3 → (e : Entered) (r′ N′ : List ℕ) → rowLeft e r′ N′ ≡ applicationEntered F P k n s r N → RecordRead F k n (tablesWith s r C B) N O A e (tablesWith s r′ C B) N′ O A
+    application-done z e r′ N′ E = record { next = λ t S K. application-read F t k S n (tablesWith s r C B) N O A K (R .inside) (kind-is 3 z) e r′ N′ (E ∙ ap (λ (x : List ℕ). applicationEntered F x k n s r N) p) }
 
-    pub input-done : m ≡ 4 → (e : Entered) (C′ : List ℕ) → inputLeft e C′ ≡ inputEntered P k n C N → RecordRead F k n (tablesWith s r C B) N A e (tablesWith s r C′ B) N A
-    input-done z e C′ E = record { next = λ t S K. input-read F t k S n (tablesWith s r C B) N A K (R .inside) (kind-is 4 z) e C′ (E ∙ ap (λ (x : List ℕ). inputEntered x k n C N) p) }
+    pub input-done : m ≡ 4 → (e : Entered) (C′ O′ : List ℕ) → inputLeft e C′ O′ ≡ inputEntered (recordPart F k) k n C N O → RecordRead F k n (tablesWith s r C B) N O A e (tablesWith s r C′ B) N O′ A
+    input-done z e C′ O′ E = record { next = λ t S K. input-read F t k S n (tablesWith s r C B) N O A K (R .inside) (kind-is 4 z) e C′ O′ E }
 
-    pub step-done : (C′ B′ A′ : List ℕ) (e : Entered) → ((E : BeforeStep F k n C B N A) → StepRead F k n C B N A E C′ B′ A′ e) → RecordRead F k n (tablesWith s r C B) N A e (tablesWith s r C′ B′) N A′
-    step-done C′ B′ A′ e f = record { next = λ t S K. f (record { inside = R .inside; tablesBefore = t; state = S; symbols = s; rows = r; kept = K }) .next }
+    pub step-done : (C′ B′ O′ A′ : List ℕ) (e : Entered) → ((E : BeforeStep F k n C B N O A) → StepRead F k n C B N O A E C′ B′ O′ A′ e) → RecordRead F k n (tablesWith s r C B) N O A e (tablesWith s r C′ B′) N O′ A′
+    step-done C′ B′ O′ A′ e f = record { next = λ t S K. f (record { inside = R .inside; tablesBefore = t; state = S; symbols = s; rows = r; kept = K }) .next }
 
-    pub other-done : ¬ (m ≡ 1) → ¬ (m ≡ 2) → ¬ (m ≡ 3) → ¬ (m ≡ 4) → ¬ (m ≡ 5) → ¬ (m ≡ 6) → RecordRead F k n (tablesWith s r C B) N A (Refused 3) (tablesWith s r C B) N A
+    pub other-done : ¬ (m ≡ 1) → ¬ (m ≡ 2) → ¬ (m ≡ 3) → ¬ (m ≡ 4) → ¬ (m ≡ 5) → ¬ (m ≡ 6) → RecordRead F k n (tablesWith s r C B) N O A (Refused 3) (tablesWith s r C B) N O A
     unfolding require
-    other-done a b c d e f = record { next = λ t S K. (badKind, at-kind S k (decoded (recordPart F k)) otherKind (ap kindNumbered (sym tag-is) ∙ kind-other m a b c d e f), refl, K .tables, K .nodes, K .values) }
+    other-done a b c d e f = record { next = λ t S K. (badKind, at-kind S k (decoded (recordPart F k)) otherKind (ap kindNumbered (sym tag-is) ∙ kind-other m a b c d e f), refl, K .tables, K .nodes, K .origins, K .values) }

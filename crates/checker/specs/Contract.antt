@@ -1,6 +1,6 @@
 -- The contract of the check: what `check` promises of every file and every four tables, with no condition on the call.
 use mathlib.Core.Path.{_≡_}
-use mathlib.Core.Bool.{true}
+use mathlib.Core.Bool.{true, _&&_}
 use mathlib.Core.Option.{some}
 use mathlib.Core.List.{List}
 use Prim.Native.Nat.{ℕ, _+_, _*_}
@@ -8,10 +8,11 @@ use lib.ListN.{length, getD}
 use Rattle.record.specs.Record.{pick}
 use Rattle.unification.specs.Row.{Variable}
 use Rattle.derivation.specs.Derivation.{Derivation, maximumIndex}
+use Rattle.derivation.specs.Stored.{originTableOf}
 use Rattle.verdict.specs.Demands.{Demand1, Demand2, Demand3}
 use Rattle.answer.specs.Given.{answerGiven}
 use Rattle.entry.specs.Progress.{nodeTableOf, ReadTo}
-use Rattle.verdict.specs.State.{State, start, rowsOf, clauseOf}
+use Rattle.verdict.specs.State.{State, start, rowsOf, derivations, clauseOf}
 use Rattle.verdict.specs.Step.{stateOf}
 use Rattle.verdict.specs.Tables.{Tables, lengthsOf, tablesAfter}
 use Rattle.verdict.specs.Verdict.{check, answerNumbers, Lengths, longEnough, fittingLength, ending}
@@ -36,11 +37,23 @@ pub record Checked (file : List ℕ) (before : Tables) (a : Answer) (after : Tab
 abbrev pub stateLeft : List ℕ → Lengths → State
 stateLeft file lengths = pick (fittingLength (length file)) (pick (longEnough lengths) (stateOf (ending file)) start) start
 
--- The same promise with a node table and an array of values that the caller lends: the node table then has the rows of that state. What the
--- array holds is left to the program.
-pub record CheckedWith (file : List ℕ) (before : Tables) (a : Answer) (after : Tables) (N A : List ℕ) : Type 0 where
+-- A node table, a table of origins and an array of values that the caller lends, whatever they hold.
+pub record Workspace : Type 0 where
+  pub nodes : List ℕ
+  pub origins : List ℕ
+  pub values : List ℕ
+
+abbrev pub workspaceWith : List ℕ → List ℕ → List ℕ → Workspace
+workspaceWith N O A = record { nodes = N; origins = O; values = A }
+
+-- The same promise with a workspace that the caller lends. Where records were read, the node table and the table of origins then have the
+-- rows and the clauses of the state left; for reasons 1 and 2 they are untouched. What the array holds is left to the program.
+pub record CheckedWith (file : List ℕ) (before : Tables) (lent : Workspace) (a : Answer) (after : Tables) (left : Workspace) : Type 0 where
   pub checked : Checked file before a after
-  pub nodes : N ≡ nodeTableOf (rowsOf (stateLeft file (lengthsOf before)))
-  pub values : length A ≡ 524416
+  pub nodes : left .nodes ≡ pick (fittingLength (length file) && longEnough (lengthsOf before)) (nodeTableOf (rowsOf (stateOf (ending file)))) (lent .nodes)
+  pub origins : left .origins ≡ pick (fittingLength (length file) && longEnough (lengthsOf before)) (originTableOf (derivations (stateOf (ending file)))) (lent .origins)
+  pub nodeRoom : length (left .nodes) ≡ 32768
+  pub originRoom : length (left .origins) ≡ 32768
+  pub values : length (left .values) ≡ 524416
   -- Where records were read, what the program keeps of them: the readout goes on from there.
-  pub read : fittingLength (length file) ≡ true → longEnough (lengthsOf before) ≡ true → ReadTo file before (stateOf (ending file)) after N A
+  pub read : fittingLength (length file) ≡ true → longEnough (lengthsOf before) ≡ true → ReadTo file before (stateOf (ending file)) after (left .nodes) (left .origins) (left .values)

@@ -2,6 +2,7 @@
 // what is demanded of it. In specs/, `Contract` has what `check` promises, and `Reader` says how this program goes about it. Single
 // records are read by the crates entry, resolution and factoring.
 pub mod reader;
+mod workspace;
 
 use answer::Answer;
 use answer::ended_answer;
@@ -10,11 +11,14 @@ use answer::lengths::long_enough;
 use answer::untouched;
 use reader::read_records;
 use tables::clear;
-ghost use Rattle.checker.specs.Contract.{Checked, CheckedWith};
-ghost use Rattle.checker.specs.Reader.{Readable, FileRead, Unwritten, ReadableWith, FileReadWith};
+use workspace::clear_table;
+use workspace::whole_table;
+use workspace::whole_values;
+ghost use Rattle.checker.specs.Contract.{Checked, CheckedWith, workspaceWith};
+ghost use Rattle.checker.specs.Reader.{Readable, FileRead, ReadableWith, FileReadWith};
 ghost use Rattle.entry.specs.Progress.{tablesWith};
 
-// The named parts cleared, and all records read. The rows go to the node table as well.
+// The named parts cleared, and all records read. The rows go to the node table as well, and the clauses to the table of origins.
 fn read_tables(
     file: &[u8],
     symbols: &mut [u16],
@@ -22,20 +26,30 @@ fn read_tables(
     clauses: &mut [u16],
     bindings: &mut [u16],
     nodes: &mut [u16; 32768],
+    origins: &mut [u16; 32768],
     values: &mut [u16; 524416],
 ) -> Answer
-    requires { ⌜ ReadableWith (now file) (tablesWith (now symbols) (now rows) (now clauses) (now bindings)) (now nodes) (now values) ⌝ }
-    ensures { λ a. ⌜ FileReadWith (now (file .entry)) (tablesWith (now (symbols .entry)) (now (rows .entry)) (now (clauses .entry)) (now (bindings .entry))) a (tablesWith (now (symbols .exit)) (now (rows .exit)) (now (clauses .exit)) (now (bindings .exit))) (now (nodes .exit)) (now (values .exit)) ⌝ }
+    requires { ⌜ ReadableWith (now file) (tablesWith (now symbols) (now rows) (now clauses) (now bindings)) (now nodes) (now origins) (now values) ⌝ }
+    ensures { λ a. ⌜ FileReadWith (now (file .entry)) (tablesWith (now (symbols .entry)) (now (rows .entry)) (now (clauses .entry)) (now (bindings .entry))) a (tablesWith (now (symbols .exit)) (now (rows .exit)) (now (clauses .exit)) (now (bindings .exit))) (now (nodes .exit)) (now (origins .exit)) (now (values .exit)) ⌝ }
 {
     clear(symbols, 0, 4096);
     clear(rows, 0, 4096);
     clear(clauses, 0, 20480);
     clear(bindings, 0, 32768);
-    let e = read_records(file, symbols, rows, clauses, bindings, nodes, values);
+    let e = read_records(
+        file,
+        symbols,
+        rows,
+        clauses,
+        bindings,
+        nodes,
+        origins,
+        values,
+    );
     ended_answer(e, clauses)
 }
 
-// The same with a node table and an array of its own.
+// The same with a workspace of its own.
 fn read_file(
     file: &[u8],
     symbols: &mut [u16],
@@ -47,6 +61,7 @@ fn read_file(
     ensures { λ a. ⌜ FileRead (now (file .entry)) (tablesWith (now (symbols .entry)) (now (rows .entry)) (now (clauses .entry)) (now (bindings .entry))) a (tablesWith (now (symbols .exit)) (now (rows .exit)) (now (clauses .exit)) (now (bindings .exit))) ⌝ }
 {
     let mut nodes = [0u16; 32768];
+    let mut origins = [0u16; 32768];
     let mut values = [0u16; 524416];
     read_tables(
         file,
@@ -55,6 +70,7 @@ fn read_file(
         clauses,
         bindings,
         &mut nodes,
+        &mut origins,
         &mut values,
     )
 }
@@ -78,7 +94,8 @@ pub fn check(
     read_file(file, symbols, rows, clauses, bindings)
 }
 
-// The same check with a node table, still empty, and an array of values that the caller lends: the readout goes on with them.
+// The same check for services, with a workspace that the caller lends and keeps between files, whatever it holds: the tables in it are
+// cleared here, and a step clears what it needs of the array. The readout goes on with what it then holds.
 pub fn check_with(
     file: &[u8],
     symbols: &mut [u16],
@@ -86,16 +103,30 @@ pub fn check_with(
     clauses: &mut [u16],
     bindings: &mut [u16],
     nodes: &mut [u16; 32768],
+    origins: &mut [u16; 32768],
     values: &mut [u16; 524416],
 ) -> Answer
-    requires { ⌜ Unwritten (now nodes) (now values) ⌝ }
-    ensures { λ a. ⌜ CheckedWith (now (file .entry)) (tablesWith (now (symbols .entry)) (now (rows .entry)) (now (clauses .entry)) (now (bindings .entry))) a (tablesWith (now (symbols .exit)) (now (rows .exit)) (now (clauses .exit)) (now (bindings .exit))) (now (nodes .exit)) (now (values .exit)) ⌝ }
+    ensures { λ a. ⌜ CheckedWith (now (file .entry)) (tablesWith (now (symbols .entry)) (now (rows .entry)) (now (clauses .entry)) (now (bindings .entry))) (workspaceWith (now (nodes .entry)) (now (origins .entry)) (now (values .entry))) a (tablesWith (now (symbols .exit)) (now (rows .exit)) (now (clauses .exit)) (now (bindings .exit))) (workspaceWith (now (nodes .exit)) (now (origins .exit)) (now (values .exit))) ⌝ }
 {
+    whole_table(nodes);
+    whole_table(origins);
+    whole_values(values);
     if !fitting_length(file.len()) {
         return untouched(1);
     }
     if !long_enough(symbols.len(), rows.len(), clauses.len(), bindings.len()) {
         return untouched(2);
     }
-    read_tables(file, symbols, rows, clauses, bindings, nodes, values)
+    clear_table(nodes);
+    clear_table(origins);
+    read_tables(
+        file,
+        symbols,
+        rows,
+        clauses,
+        bindings,
+        nodes,
+        origins,
+        values,
+    )
 }

@@ -23,10 +23,11 @@ pub fn read_record(
     clauses: &mut [u16],
     bindings: &mut [u16],
     nodes: &mut [u16; 32768],
+    origins: &mut [u16; 32768],
     values: &mut [u16; 524416],
 ) -> Entered
-    requires { ⌜ Reading (now file) k counts (tablesWith (now symbols) (now rows) (now clauses) (now bindings)) (now nodes) (now values) ⌝ }
-    ensures { λ e. ⌜ RecordRead (now (file .entry)) k counts (tablesWith (now (symbols .entry)) (now (rows .entry)) (now (clauses .entry)) (now (bindings .entry))) (now (nodes .entry)) (now (values .entry)) e (tablesWith (now (symbols .exit)) (now (rows .exit)) (now (clauses .exit)) (now (bindings .exit))) (now (nodes .exit)) (now (values .exit)) ⌝ }
+    requires { ⌜ Reading (now file) k counts (tablesWith (now symbols) (now rows) (now clauses) (now bindings)) (now nodes) (now origins) (now values) ⌝ }
+    ensures { λ e. ⌜ RecordRead (now (file .entry)) k counts (tablesWith (now (symbols .entry)) (now (rows .entry)) (now (clauses .entry)) (now (bindings .entry))) (now (nodes .entry)) (now (origins .entry)) (now (values .entry)) e (tablesWith (now (symbols .exit)) (now (rows .exit)) (now (clauses .exit)) (now (bindings .exit))) (now (nodes .exit)) (now (origins .exit)) (now (values .exit)) ⌝ }
 {
     let part = record_part(file, k as usize);
     let tag = kind(part);
@@ -34,9 +35,9 @@ pub fn read_record(
         1 => symbol_record(part, k, counts, symbols),
         2 => variable_record(part, k, counts, rows, nodes),
         3 => application_record(file, part, k, counts, symbols, rows, nodes),
-        4 => input_record(part, k, counts, clauses, nodes),
-        5 => resolve_record(file, k, counts, clauses, bindings, nodes, values),
-        6 => factor_record(file, k, counts, clauses, bindings, nodes, values),
+        4 => input_record(file, k, counts, clauses, nodes, origins),
+        5 => resolve_record(file, k, counts, clauses, bindings, nodes, origins, values),
+        6 => factor_record(file, k, counts, clauses, bindings, nodes, origins, values),
         _ => Entered::Refused(3),
     }
 }
@@ -49,10 +50,11 @@ pub fn read_records(
     clauses: &mut [u16],
     bindings: &mut [u16],
     nodes: &mut [u16; 32768],
+    origins: &mut [u16; 32768],
     values: &mut [u16; 524416],
 ) -> Ended
-    requires { ⌜ Begun (now file) (tablesWith (now symbols) (now rows) (now clauses) (now bindings)) (now nodes) (now values) ⌝ }
-    ensures { λ e. ⌜ RecordsRead (now (file .entry)) (tablesWith (now (symbols .entry)) (now (rows .entry)) (now (clauses .entry)) (now (bindings .entry))) (now (nodes .entry)) (now (values .entry)) e (tablesWith (now (symbols .exit)) (now (rows .exit)) (now (clauses .exit)) (now (bindings .exit))) (now (nodes .exit)) (now (values .exit)) ⌝ }
+    requires { ⌜ Begun (now file) (tablesWith (now symbols) (now rows) (now clauses) (now bindings)) (now nodes) (now origins) (now values) ⌝ }
+    ensures { λ e. ⌜ RecordsRead (now (file .entry)) (tablesWith (now (symbols .entry)) (now (rows .entry)) (now (clauses .entry)) (now (bindings .entry))) (now (nodes .entry)) (now (origins .entry)) (now (values .entry)) e (tablesWith (now (symbols .exit)) (now (rows .exit)) (now (clauses .exit)) (now (bindings .exit))) (now (nodes .exit)) (now (origins .exit)) (now (values .exit)) ⌝ }
 {
     let mut counts = Counts {
         symbols: 0,
@@ -71,6 +73,7 @@ pub fn read_records(
             clauses,
             bindings,
             nodes,
+            origins,
             values,
         ) {
             Entered::Stands(n) => {

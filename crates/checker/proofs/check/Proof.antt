@@ -2,6 +2,12 @@ use Rattle.checker.proofs.CheckedLaws.{checked-length, checked-tables, 
 use borrow.Author.Needs.{needs}
 use Rattle.checker.proofs.check.Statement.{statement}
 use Rattle.checker.proofs.check.Tie as tie
+use Rattle.checker.proofs.check.Reads as reads
+use Rattle.checker.proofs.check.Lts as lts
+use Rattle.answer.proofs.lengths.fitting_length.Reads as fitting-length-reads
+use Rattle.answer.proofs.lengths.long_enough.Reads as long-enough-reads
+use Rattle.answer.proofs.untouched.Reads as untouched-reads
+use Rattle.checker.proofs.read_file.Reads as read-file-reads
 
 fitting-length-requires : tie.Need-fitting-length-requires
 fitting-length-requires c κs = search needs

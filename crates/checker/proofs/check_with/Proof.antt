@@ -1,8 +1,27 @@
 -- Each way out is one law of `CheckedLaws`.
-use Rattle.checker.proofs.CheckedLaws.{checked-length-with, checked-tables-with, readable, checked-read-with}
+use mathlib.Core.Path.{_∙_}
+use Rattle.checker.proofs.CheckedLaws.{checked-length-with, checked-tables-with, readable, checked-read-with, cleared-nodes, cleared-origins}
 use borrow.Author.Needs.{needs}
 use Rattle.checker.proofs.check_with.Statement.{statement}
 use Rattle.checker.proofs.check_with.Tie as tie
+use Rattle.checker.proofs.check_with.Reads as reads
+use Rattle.checker.proofs.check_with.Lts as lts
+use Rattle.answer.proofs.lengths.fitting_length.Reads as fitting-length-reads
+use Rattle.answer.proofs.lengths.long_enough.Reads as long-enough-reads
+use Rattle.answer.proofs.untouched.Reads as untouched-reads
+use Rattle.checker.proofs.read_tables.Reads as read-tables-reads
+use Rattle.checker.proofs.workspace.clear_table.Reads as clear-table-reads
+use Rattle.checker.proofs.workspace.whole_table.Reads as whole-table-reads
+use Rattle.checker.proofs.workspace.whole_values.Reads as whole-values-reads
+
+whole-table-requires : tie.Need-whole-table-requires
+whole-table-requires c κs = search needs
+
+whole-table-requires-2 : tie.Need-whole-table-requires-2
+whole-table-requires-2 c κs = search needs
+
+whole-values-requires : tie.Need-whole-values-requires
+whole-values-requires c κs = search needs
 
 fitting-length-requires : tie.Need-fitting-length-requires
 fitting-length-requires c κs = search needs
@@ -12,7 +31,7 @@ untouched-requires c κs = search needs
 
 returns : tie.Need-returns
 returns c =
-    checked-length-with _ _ _ _ (c .before .before .fitting-length .ensures) (c .before .if1 .taken) (c .untouched .ensures) _ _ (c .before .before .before .before .before .before .before .before .pre)
+    checked-length-with _ _ _ _ _ (c .before .before .fitting-length .ensures) (c .before .before .before .before .before .before .before .whole-table .ensures) (c .before .before .before .before .before .whole-table2 .ensures) (c .before .before .before .whole-values .ensures) (c .before .if1 .taken) (c .untouched .ensures)
 
 long-enough-requires : tie.Need-long-enough-requires
 long-enough-requires c κs = search needs
@@ -22,11 +41,17 @@ untouched-requires-2 c κs = search needs
 
 returns-2 : tie.Need-returns-2
 returns-2 c =
-    checked-tables-with _ _ _ _ (c .before .before .before .before .fitting-length .ensures) (c .before .before .before .if1 .left) _ (c .before .before .long-enough .ensures) (c .before .if2 .taken) (c .untouched2 .ensures) _ _ (c .before .before .before .before .before .before .before .before .before .before .pre)
+    checked-tables-with _ _ _ _ _ (c .before .before .before .before .fitting-length .ensures) (c .before .before .before .before .before .before .before .before .before .whole-table .ensures) (c .before .before .before .before .before .before .before .whole-table2 .ensures) (c .before .before .before .before .before .whole-values .ensures) (c .before .before .before .if1 .left) _ (c .before .before .long-enough .ensures) (c .before .if2 .taken) (c .untouched2 .ensures)
+
+clear-table-requires : tie.Need-clear-table-requires
+clear-table-requires c κs = search needs
+
+clear-table-requires-2 : tie.Need-clear-table-requires-2
+clear-table-requires-2 c κs = search needs
 
 read-tables-requires : tie.Need-read-tables-requires
 read-tables-requires c κs =
-    record { readable = readable _ _ _ (c .before .before .before .before .before .before .before .before .before .fitting-length .ensures) (c .before .before .before .before .before .before .before .before .if1 .left) _ (c .before .before .before .before .before .before .before .long-enough .ensures) (c .before .before .before .before .before .before .if2 .left); empty = c .before .before .before .before .before .before .before .before .before .before .before .before .before .before .before .pre }
+    record { readable = readable _ _ _ (c .before .before .before .before .before .before .before .before .before .before .before .before .before .before .fitting-length .ensures) (c .before .before .before .before .before .before .before .before .before .before .before .before .before .if1 .left) _ (c .before .before .before .before .before .before .before .before .before .before .before .before .long-enough .ensures) (c .before .before .before .before .before .before .before .before .before .before .before .if2 .left); empty = record { nodes = c .before .before .before .before .before .before .before .before .before .clear-table .ensures ∙ cleared-nodes; origins = c .before .before .before .before .before .before .before .clear-table2 .ensures ∙ cleared-origins; values = c .before .before .before .before .before .before .before .before .before .before .before .before .before .before .before .whole-values .ensures } }
 
 same-length : tie.Need-same-length
 same-length c = search needs
@@ -42,18 +67,23 @@ same-length-4 c = search needs
 
 returns-3 : tie.Need-returns-3
 returns-3 c =
-    checked-read-with _ _ _ _ (c .before .before .before .before .before .before .before .before .before .before .before .before .before .before .before .before .before .before .fitting-length .ensures) (c .before .before .before .before .before .before .before .before .before .before .before .before .before .before .before .before .before .if1 .left) _ (c .before .before .before .before .before .before .before .before .before .before .before .before .before .before .before .before .long-enough .ensures) (c .before .before .before .before .before .before .before .before .before .before .before .before .before .before .before .if2 .left) _ _ _ (c .before .before .before .before .before .before .before .before .read-tables .ensures)
+    checked-read-with _ _ _ _ _ (c .before .before .before .before .before .before .before .before .before .before .before .before .before .before .before .before .before .before .before .before .before .before .before .fitting-length .ensures) (c .before .before .before .before .before .before .before .before .before .before .before .before .before .before .before .before .before .before .before .before .before .before .before .before .before .before .before .before .whole-table .ensures) (c .before .before .before .before .before .before .before .before .before .before .before .before .before .before .before .before .before .before .before .before .before .before .before .before .before .before .whole-table2 .ensures) (c .before .before .before .before .before .before .before .before .before .before .before .before .before .before .before .before .before .before .before .before .before .before .before .before .whole-values .ensures) (c .before .before .before .before .before .before .before .before .before .before .before .before .before .before .before .before .before .before .before .before .before .before .if1 .left) _ (c .before .before .before .before .before .before .before .before .before .before .before .before .before .before .before .before .before .before .before .before .before .long-enough .ensures) (c .before .before .before .before .before .before .before .before .before .before .before .before .before .before .before .before .before .before .before .before .if2 .left) _ _ _ _ (c .before .before .before .before .before .before .before .before .read-tables .ensures)
 
 pub check-with-spec : {M : Type 1} → statement M
 check-with-spec =
     tie.close
     (tie.spec
+    whole-table-requires
+    whole-table-requires-2
+    whole-values-requires
     fitting-length-requires
     untouched-requires
     returns
     long-enough-requires
     untouched-requires-2
     returns-2
+    clear-table-requires
+    clear-table-requires-2
     read-tables-requires
     same-length
     same-length-2

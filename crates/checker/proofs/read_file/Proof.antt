@@ -5,10 +5,13 @@ use lib.ListN.{length-replicate}
 use borrow.Author.Needs.{needs}
 use Rattle.checker.proofs.read_file.Statement.{statement}
 use Rattle.checker.proofs.read_file.Tie as tie
+use Rattle.checker.proofs.read_file.Reads as reads
+use Rattle.checker.proofs.read_file.Lts as lts
+use Rattle.checker.proofs.read_tables.Reads as read-tables-reads
 
 read-tables-requires : tie.Need-read-tables-requires
 read-tables-requires c κs =
-    record { readable = c .before .before .before .before .before .before .before .before .before .before .before .pre; empty = record { nodes = refl; values = length-replicate {A = ℕ} 524416 0 } }
+    record { readable = c .before .before .before .before .before .before .before .before .before .before .before .before .pre; empty = record { nodes = refl; origins = refl; values = length-replicate {A = ℕ} 524416 0 } }
 
 same-length : tie.Need-same-length
 same-length c = search needs

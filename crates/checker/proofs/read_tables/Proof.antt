@@ -4,6 +4,11 @@ use Rattle.checker.proofs.CheckLaws.{table-sizes, begun, file-read-with
 use borrow.Author.Needs.{needs}
 use Rattle.checker.proofs.read_tables.Statement.{statement}
 use Rattle.checker.proofs.read_tables.Tie as tie
+use Rattle.checker.proofs.read_tables.Reads as reads
+use Rattle.checker.proofs.read_tables.Lts as lts
+use Rattle.answer.proofs.ended_answer.Reads as ended-answer-reads
+use Rattle.checker.proofs.reader.read_records.Reads as read-records-reads
+use Rattle.tables.proofs.clear.Reads as clear-reads
 
 clear-requires : tie.Need-clear-requires
 clear-requires c κs =
@@ -23,14 +28,14 @@ clear-requires-4 c κs =
 
 read-records-requires : tie.Need-read-records-requires
 read-records-requires c κs =
-    begun (c .before .before .before .before .before .before .before .before .before .before .before .before .before .before .before .before .before .before .before .before .before .before .before .before .before .before .before .pre .readable) (c .before .before .before .before .before .before .before .before .before .before .before .before .before .before .before .before .before .before .before .before .clear .ensures) (c .before .before .before .before .before .before .before .before .before .before .before .before .before .before .before .before .clear2 .ensures) (c .before .before .before .before .before .before .before .before .before .before .before .before .clear3 .ensures) (c .before .before .before .before .before .before .before .before .clear4 .ensures) (c .before .before .before .before .before .before .before .before .before .before .before .before .before .before .before .before .before .before .before .before .before .before .before .before .before .before .before .pre .empty .values) _ (c .before .before .before .before .before .before .before .before .before .before .before .before .before .before .before .before .before .before .before .before .before .before .before .before .before .before .before .pre .empty .nodes)
+    begun (c .before .before .before .before .before .before .before .before .before .before .before .before .before .before .before .before .before .before .before .before .before .before .before .before .before .before .before .before .pre .readable) (c .before .before .before .before .before .before .before .before .before .before .before .before .before .before .before .before .before .before .before .before .before .clear .ensures) (c .before .before .before .before .before .before .before .before .before .before .before .before .before .before .before .before .before .clear2 .ensures) (c .before .before .before .before .before .before .before .before .before .before .before .before .before .clear3 .ensures) (c .before .before .before .before .before .before .before .before .before .clear4 .ensures) (c .before .before .before .before .before .before .before .before .before .before .before .before .before .before .before .before .before .before .before .before .before .before .before .before .before .before .before .before .pre .empty .values) _ _ (c .before .before .before .before .before .before .before .before .before .before .before .before .before .before .before .before .before .before .before .before .before .before .before .before .before .before .before .before .pre .empty .nodes) (c .before .before .before .before .before .before .before .before .before .before .before .before .before .before .before .before .before .before .before .before .before .before .before .before .before .before .before .before .pre .empty .origins)
 
 ended-answer-requires : tie.Need-ended-answer-requires
 ended-answer-requires c κs = search needs
 
 same-length : tie.Need-same-length
 same-length c =
-    let a = c .before .before .before .before .before .before .before .before .before .before .before .before .before .before .before .before .before .before .before .before .before .before .before .before .before .before .before .before .before .before .symbols .given in let b = c .before .before .before .before .before .before .before .before .before .symbols2 .given in omega (arith, a, b)
+    let a = c .before .before .before .before .before .before .before .before .before .before .before .before .before .before .before .before .before .before .before .before .before .before .before .before .before .before .before .before .before .before .before .symbols .given in let b = c .before .before .before .before .before .before .before .before .before .symbols2 .given in omega (arith, a, b)
 
 same-length-2 : tie.Need-same-length-2
 same-length-2 c = search needs
@@ -44,7 +49,7 @@ same-length-4 c = search needs
 returns : tie.Need-returns
 unfolding read-records-requires begun
 returns c =
-    file-read-with _ _ _ _ _ _ _ (c .before .before .before .before .before .before .before .before .before .before .read-records .ensures .read (read-records-requires (c .before .before .before .before .before .before .before .before .before .before .before) (c .before .before .before .before .before .before .before .before .before .before .read-records .lifetimes))) (c .ended-answer .ensures)
+    file-read-with _ _ _ _ _ _ _ _ (c .before .before .before .before .before .before .before .before .before .before .read-records .ensures .read (read-records-requires (c .before .before .before .before .before .before .before .before .before .before .before) (c .before .before .before .before .before .before .before .before .before .before .read-records .lifetimes))) (c .ended-answer .ensures)
 
 pub read-tables-spec : {M : Type 1} → statement M
 read-tables-spec =

@@ -1,7 +1,17 @@
-use Rattle.checker.proofs.RecordLaws.{symbols-few, rows-few, clauses-few, step-asked, symbol-done, variable-done, application-done, input-done, step-done, other-done}
+use Rattle.checker.proofs.RecordLaws.{symbols-few, rows-few, clauses-few, input-asked, step-asked, symbol-done, variable-done, application-done, input-done, step-done, other-done}
 use borrow.Author.Needs.{needs}
 use Rattle.checker.proofs.reader.read_record.Statement.{statement}
 use Rattle.checker.proofs.reader.read_record.Tie as tie
+use Rattle.checker.proofs.reader.read_record.Reads as reads
+use Rattle.checker.proofs.reader.read_record.Lts as lts
+use Rattle.entry.proofs.entry.application_record.Reads as application-record-reads
+use Rattle.entry.proofs.entry.input_record.Reads as input-record-reads
+use Rattle.entry.proofs.entry.symbol_record.Reads as symbol-record-reads
+use Rattle.entry.proofs.entry.variable_record.Reads as variable-record-reads
+use Rattle.factoring.proofs.factor_record.Reads as factor-record-reads
+use Rattle.record.proofs.kind.Reads as kind-reads
+use Rattle.record.proofs.record_part.Reads as record-part-reads
+use Rattle.resolution.proofs.resolve_record.Reads as resolve-record-reads
 
 record-part-requires : tie.Need-record-part-requires
 record-part-requires c κs = search needs
@@ -23,15 +33,15 @@ application-record-requires c κs =
 
 input-record-requires : tie.Need-input-record-requires
 input-record-requires c κs =
-    clauses-few (c .before .before .before .before .before .before .before .before .before .before .pre)
+    (input-asked (c .before .before .before .before .before .before .before .before .before .before .before .pre) _ (c .before .before .before .before .before .record-part .ensures) _ (c .before .before .before .before .kind .ensures) (c .before .before .before .match .keys4), clauses-few (c .before .before .before .before .before .before .before .before .before .before .before .pre))
 
 resolve-record-requires : tie.Need-resolve-record-requires
 resolve-record-requires c κs =
-    step-asked (c .before .before .before .before .before .before .before .before .before .before .before .before .pre) _ (c .before .before .before .before .before .before .record-part .ensures) _ (c .before .before .before .before .before .kind .ensures) 5 (c .before .before .before .before .match .keys5)
+    step-asked (c .before .before .before .before .before .before .before .before .before .before .before .before .before .pre) _ (c .before .before .before .before .before .before .before .record-part .ensures) _ (c .before .before .before .before .before .before .kind .ensures) 5 (c .before .before .before .before .before .match .keys5)
 
 factor-record-requires : tie.Need-factor-record-requires
 factor-record-requires c κs =
-    step-asked (c .before .before .before .before .before .before .before .before .before .before .before .before .pre) _ (c .before .before .before .before .before .before .record-part .ensures) _ (c .before .before .before .before .before .kind .ensures) 6 (c .before .before .before .before .match .keys6)
+    step-asked (c .before .before .before .before .before .before .before .before .before .before .before .before .before .pre) _ (c .before .before .before .before .before .before .before .record-part .ensures) _ (c .before .before .before .before .before .before .kind .ensures) 6 (c .before .before .before .before .before .match .keys6)
 
 same-length : tie.Need-same-length
 same-length c = search needs
@@ -62,7 +72,7 @@ same-length-5 c = search needs
 
 returns-4 : tie.Need-returns-4
 returns-4 c =
-    input-done (c .before .before .before .before .before .before .before .before .before .before .before .before .before .pre) _ (c .before .before .before .before .before .before .before .record-part .ensures) _ (c .before .before .before .before .before .before .kind .ensures) (c .before .before .before .before .before .match .keys4) _ _ (c .before .before .input-record .ensures)
+    input-done (c .before .before .before .before .before .before .before .before .before .before .before .before .before .before .pre) _ (c .before .before .before .before .before .before .before .before .record-part .ensures) _ (c .before .before .before .before .before .before .before .kind .ensures) (c .before .before .before .before .before .before .match .keys4) _ _ _ (c .before .before .input-record .ensures .0)
 
 same-length-6 : tie.Need-same-length-6
 same-length-6 c = search needs
@@ -72,7 +82,7 @@ same-length-7 c = search needs
 
 returns-5 : tie.Need-returns-5
 returns-5 c =
-    step-done (c .before .before .before .before .before .before .before .before .before .before .before .before .before .before .before .before .before .pre) _ (c .before .before .before .before .before .before .before .before .before .before .before .record-part .ensures) _ (c .before .before .before .before .before .before .before .before .before .before .kind .ensures) _ _ _ _ (c .before .before .before .before .resolve-record .ensures)
+    step-done (c .before .before .before .before .before .before .before .before .before .before .before .before .before .before .before .before .before .before .pre) _ (c .before .before .before .before .before .before .before .before .before .before .before .before .record-part .ensures) _ (c .before .before .before .before .before .before .before .before .before .before .before .kind .ensures) _ _ _ _ _ (c .before .before .before .before .resolve-record .ensures)
 
 same-length-8 : tie.Need-same-length-8
 same-length-8 c = search needs
@@ -82,7 +92,7 @@ same-length-9 c = search needs
 
 returns-6 : tie.Need-returns-6
 returns-6 c =
-    step-done (c .before .before .before .before .before .before .before .before .before .before .before .before .before .before .before .before .before .pre) _ (c .before .before .before .before .before .before .before .before .before .before .before .record-part .ensures) _ (c .before .before .before .before .before .before .before .before .before .before .kind .ensures) _ _ _ _ (c .before .before .before .before .factor-record .ensures)
+    step-done (c .before .before .before .before .before .before .before .before .before .before .before .before .before .before .before .before .before .before .pre) _ (c .before .before .before .before .before .before .before .before .before .before .before .before .record-part .ensures) _ (c .before .before .before .before .before .before .before .before .before .before .before .kind .ensures) _ _ _ _ _ (c .before .before .before .before .factor-record .ensures)
 
 returns-7 : tie.Need-returns-7
 returns-7 c =

@@ -9,19 +9,22 @@ use Rattle.checker.proofs.RecordsLaws.{ReadUpTo, read-none, read-asked,
 use borrow.Author.Needs.{needs}
 use Rattle.checker.proofs.reader.read_records.Statement.{statement}
 use Rattle.checker.proofs.reader.read_records.Tie as tie
+use Rattle.checker.proofs.reader.read_records.Reads as reads
+use Rattle.checker.proofs.reader.read_records.Lts as lts
+use Rattle.checker.proofs.reader.read_record.Reads as read-record-reads
 
 abbrev Inv-loop : tie.InvT-loop
-Inv-loop file symbols₀ rows₀ clauses₀ bindings₀ nodes₀ values₀ counts₀ k₀ symbols rows clauses bindings nodes values counts k =
+Inv-loop file symbols₀ rows₀ clauses₀ bindings₀ nodes₀ origins₀ values₀ counts₀ k₀ symbols rows clauses bindings nodes origins values counts k =
     (length symbols ≡ length symbols₀) × (length rows ≡ length rows₀) × (length clauses ≡ length clauses₀) × (length bindings ≡ length bindings₀)
-    × ((G : Begun file (tablesWith symbols₀ rows₀ clauses₀ bindings₀) nodes₀ values₀) → ReadUpTo file (G .tablesBefore) k counts (tablesWith symbols rows clauses bindings) nodes values)
+    × ((G : Begun file (tablesWith symbols₀ rows₀ clauses₀ bindings₀) nodes₀ origins₀ values₀) → ReadUpTo file (G .tablesBefore) k counts (tablesWith symbols rows clauses bindings) nodes origins values)
 
 abbrev μ-loop : tie.MeasureT-loop
-μ-loop file symbols₀ rows₀ clauses₀ bindings₀ nodes₀ values₀ counts₀ k₀ symbols rows clauses bindings nodes values counts k =
+μ-loop file symbols₀ rows₀ clauses₀ bindings₀ nodes₀ origins₀ values₀ counts₀ k₀ symbols rows clauses bindings nodes origins values counts k =
     recordCount file - k
 
 loop-holds : tie.Need-loop-holds Inv-loop μ-loop
 loop-holds c =
-    (refl, refl, refl, refl, λ G. read-none _ _ _ _ G)
+    (refl, refl, refl, refl, λ G. read-none _ _ _ _ _ G)
 
 cast-loop : tie.Need-cast-loop Inv-loop μ-loop
 cast-loop c =
@@ -29,21 +32,21 @@ cast-loop c =
 
 read-record-requires : tie.Need-read-record-requires Inv-loop μ-loop
 read-record-requires c κs =
-    read-asked (c .before .before .before .before .before .before .before .loop .inv .4 (c .before .before .before .before .before .before .before .before .before .before .before .before .before .pre)) (c .before .before .before .before .before .before .loop-test .taken)
+    read-asked (c .before .before .before .before .before .before .before .before .loop .inv .4 (c .before .before .before .before .before .before .before .before .before .before .before .before .before .before .pre)) (c .before .before .before .before .before .before .before .loop-test .taken)
 
 enum-known-n : tie.Need-enum-known-n Inv-loop μ-loop
 enum-known-n c = search needs
 
 add-k : tie.Need-add-k Inv-loop μ-loop
 add-k c =
-    let z = read-few (c .before .before .before .before .before .before .before .before .before .before .before .before .before .before .before .before .before .before .before .loop .inv .4 (c .before .before .before .before .before .before .before .before .before .before .before .before .before .before .before .before .before .before .before .before .before .before .before .before .before .pre)) in omega arith
+    let z = read-few (c .before .before .before .before .before .before .before .before .before .before .before .before .before .before .before .before .before .before .before .before .loop .inv .4 (c .before .before .before .before .before .before .before .before .before .before .before .before .before .before .before .before .before .before .before .before .before .before .before .before .before .before .pre)) in omega arith
 
 loop-less : tie.Need-loop-less Inv-loop μ-loop
 loop-less c = search needs
 
 loop-again : tie.Need-loop-again Inv-loop μ-loop
 loop-again c =
-    (search needs, search needs, search needs, search needs, λ G. read-more (c .before .before .before .before .before .before .before .before .before .before .before .before .before .before .before .before .before .before .before .loop .inv .4 G) (c .before .before .before .before .before .before .before .before .before .before .before .before .before .before .before .before .before .before .loop-test .taken) _ _ _ _ (c .before .before .before .before .before .before .before .before .before .before .before .read-record .ensures) _ (c .before .n .given .1))
+    (search needs, search needs, search needs, search needs, λ G. read-more (c .before .before .before .before .before .before .before .before .before .before .before .before .before .before .before .before .before .before .before .before .loop .inv .4 G) (c .before .before .before .before .before .before .before .before .before .before .before .before .before .before .before .before .before .before .before .loop-test .taken) _ _ _ _ _ (c .before .before .before .before .before .before .before .before .before .before .before .read-record .ensures) _ (c .before .n .given .1))
 
 enum-known-q : tie.Need-enum-known-q Inv-loop μ-loop
 enum-known-q c = search needs
@@ -62,7 +65,7 @@ same-length-4 c = search needs
 
 returns : tie.Need-returns Inv-loop μ-loop
 returns c =
-    record { read = λ G. read-refused (c .before .before .before .before .before .before .before .before .before .before .before .before .before .before .before .before .before .before .before .loop .inv .4 G) (c .before .before .before .before .before .before .before .before .before .before .before .before .before .before .before .before .before .before .loop-test .taken) _ _ _ _ (c .before .before .before .before .before .before .before .before .before .before .before .read-record .ensures) _ (c .before .q .given .1) }
+    record { read = λ G. read-refused (c .before .before .before .before .before .before .before .before .before .before .before .before .before .before .before .before .before .before .before .before .loop .inv .4 G) (c .before .before .before .before .before .before .before .before .before .before .before .before .before .before .before .before .before .before .before .loop-test .taken) _ _ _ _ _ (c .before .before .before .before .before .before .before .before .before .before .before .read-record .ensures) _ (c .before .q .given .1) }
 
 same-length-5 : tie.Need-same-length-5 Inv-loop μ-loop
 same-length-5 c = search needs
