@@ -13,7 +13,7 @@ use Rattle.unification.specs.Row.{Row, Expression, Variable, argumentTerms, row
 use Rattle.unification.specs.Term.{Term, Terms, applyAll, occurrences, allOccurrences}
 use Rattle.unification.specs.Values.{InStep, Models}
 use Rattle.derivation.specs.Written.{WritesOut}
-use Rattle.terms.specs.Text.{termText, argumentsText, literalText}
+use Rattle.verdict.specs.Text.{termText, argumentsText, literalText}
 use Rattle.terms.specs.declared.term.Written.{Written}
 use Rattle.terms.specs.declared.term.Written.the-variants.{Done, TooMany}
 

@@ -9,8 +9,9 @@ use Rattle.record.specs.Record.{records}
 use Rattle.unification.specs.Row.{Variable}
 use Rattle.unification.specs.Unification.{mostWork, mostBindings, mostLinks, run}
 use Rattle.unification.proofs.Tests.{true-not-false}
-use Rattle.verdict.specs.Cases.{CasesHold, LengthsHold, EdgesHold}
+use Rattle.verdict.specs.Cases.{CasesHold, LengthsHold, EdgesHold, ReadoutsHold, TildeHolds, DigitsHold}
 use Rattle.verdict.specs.Demands.{DueAt, ofLength, ofTables, ofRecord}
+use Rattle.verdict.specs.Readout.{readoutLines}
 use Rattle.verdict.specs.Refusal.{Reason, badLength, reasonNumber, mostLiterals, mostIndex}
 use Rattle.verdict.specs.State.{start, held}
 use Rattle.verdict.specs.Step.{require, addClause}
@@ -46,3 +47,13 @@ lengths-hold = record {
   fifteen = λ file lengths l. bad-length file lengths (rw l refl);
   tooLong = λ file lengths l. bad-length file lengths (rw l refl);
 }
+
+pub readouts-hold : ReadoutsHold
+unfolding readoutLines ending records held require addClause run mostWork mostBindings mostLinks mostLiterals mostIndex
+readouts-hold = refl
+
+pub tilde-holds : TildeHolds
+tilde-holds = refl
+
+pub digits-hold : DigitsHold
+digits-hold = refl

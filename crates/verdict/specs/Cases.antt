@@ -1,17 +1,22 @@
 -- Document 01, "Case sheet": the cases marked for proof, as files of bytes with what the check makes of them.
 use mathlib.Core.Path.{_≡_}
+use mathlib.Core.Bool.{true, false}
 use mathlib.Core.Option.{Option, none, some}
 use mathlib.Core.List.{List, [], _∷_, _++_, map}
 use Prim.Native.Nat.{ℕ, zero, suc, _-_, _/_, _%_}
-use lib.Dec.{T}
+use lib.Dec.{T, eqb}
 use lib.ListN.{length, replicate}
 use Rattle.record.specs.Record.{pick, Record, records, otherKind, Kind, symbolKind, variableKind, applicationKind, inputKind, resolveKind, factorKind}
+use Rattle.unification.specs.Row.{variable, Variable}
+use Rattle.unification.specs.Term.{Term, var, app, nil, cons}
 use Rattle.unification.specs.Unification.{unify, mostWork, Outcome, unified, failed}
 use Rattle.derivation.specs.Derivation.{Literal, Derivation}
+use Rattle.verdict.specs.Readout.{readoutLines}
 use Rattle.verdict.specs.Refusal.{badLength, kindOfRecord, leftOf, rightOf, deletedOf}
 use Rattle.verdict.specs.State.{State, start, derivations}
 use Rattle.verdict.specs.Step.{stands, refused, step, unifyResolve, unifyFactor, stateOf}
 use Rattle.verdict.specs.Tables.{Tables, lengthsOf, symbolCells, rowCells, clauseCells, bindingCells}
+use Rattle.verdict.specs.Text.{decimal, literalText}
 use Rattle.verdict.specs.Verdict.{refusal, check, answerNumbers, answerOf, Lengths, named, fittingLength, ending}
 
 -- A record's sixteen bytes, fields that are not written being zero.
@@ -242,3 +247,46 @@ abbrev pub EdgesHold : Type 0
 EdgesHold =
     map (λ file. answerNumbers (check file named)) (indexEdge ∷ literalEdge ∷ workEdge ∷ [])
     ≡ (2 ∷ 9 ∷ 15 ∷ 1 ∷ 1 ∷ 13 ∷ 0 ∷ []) ∷ (2 ∷ 9 ∷ 29 ∷ 1 ∷ 1 ∷ 27 ∷ 0 ∷ []) ∷ (2 ∷ 12 ∷ 24 ∷ 3 ∷ 16 ∷ 5 ∷ 0 ∷ []) ∷ []
+
+-- The readouts of cases A and F.
+--   accepted 4
+--   0 1 +s0(s2)
+--   1 1 -s0(v0.1) +s0(s1(v0.1))
+--   2 1 -s0(s1(s2))
+--   3 2 +s0(s1(s2))
+--   4 3
+abbrev pub readoutA : List (List ℕ)
+readoutA =
+    (97 ∷ 99 ∷ 99 ∷ 101 ∷ 112 ∷ 116 ∷ 101 ∷ 100 ∷ 32 ∷ 52 ∷ 10 ∷ [])
+    ∷ (48 ∷ 32 ∷ 49 ∷ 32 ∷ 43 ∷ 115 ∷ 48 ∷ 40 ∷ 115 ∷ 50 ∷ 41 ∷ 10 ∷ [])
+    ∷ (49 ∷ 32 ∷ 49 ∷ 32 ∷ 45 ∷ 115 ∷ 48 ∷ 40 ∷ 118 ∷ 48 ∷ 46 ∷ 49 ∷ 41 ∷ 32 ∷ 43 ∷ 115 ∷ 48 ∷ 40 ∷ 115 ∷ 49 ∷ 40 ∷ 118 ∷ 48 ∷ 46 ∷ 49 ∷ 41 ∷ 41 ∷ 10 ∷ [])
+    ∷ (50 ∷ 32 ∷ 49 ∷ 32 ∷ 45 ∷ 115 ∷ 48 ∷ 40 ∷ 115 ∷ 49 ∷ 40 ∷ 115 ∷ 50 ∷ 41 ∷ 41 ∷ 10 ∷ [])
+    ∷ (51 ∷ 32 ∷ 50 ∷ 32 ∷ 43 ∷ 115 ∷ 48 ∷ 40 ∷ 115 ∷ 49 ∷ 40 ∷ 115 ∷ 50 ∷ 41 ∷ 41 ∷ 10 ∷ [])
+    ∷ (52 ∷ 32 ∷ 51 ∷ 10 ∷ [])
+    ∷ []
+
+--   open
+--   0 1 +s0(v0.1,v1.1) +s0(v1.1,v0.1)
+--   1 1 +s0(v1.1,v1.1)
+abbrev pub readoutF : List (List ℕ)
+readoutF =
+    (111 ∷ 112 ∷ 101 ∷ 110 ∷ 10 ∷ [])
+    ∷ (48 ∷ 32 ∷ 49 ∷ 32 ∷ 43 ∷ 115 ∷ 48 ∷ 40 ∷ 118 ∷ 48 ∷ 46 ∷ 49 ∷ 44 ∷ 118 ∷ 49 ∷ 46 ∷ 49 ∷ 41 ∷ 32 ∷ 43 ∷ 115 ∷ 48 ∷ 40 ∷ 118 ∷ 49 ∷ 46 ∷ 49 ∷ 44 ∷ 118 ∷ 48 ∷ 46 ∷ 49 ∷ 41 ∷ 10 ∷ [])
+    ∷ (49 ∷ 32 ∷ 49 ∷ 32 ∷ 43 ∷ 115 ∷ 48 ∷ 40 ∷ 118 ∷ 49 ∷ 46 ∷ 49 ∷ 44 ∷ 118 ∷ 49 ∷ 46 ∷ 49 ∷ 41 ∷ 10 ∷ [])
+    ∷ []
+
+abbrev pub ReadoutsHold : Type 0
+ReadoutsHold = map (λ file. readoutLines file named) (caseA .file ∷ caseF .file ∷ []) ≡ readoutA ∷ readoutF ∷ []
+
+-- A term of 64 occurrences is written out, and one of 65 is `~`.
+abbrev pub nested : ℕ → Term Variable
+nested zero = var (0, 1)
+nested (suc n) = app 0 (cons (nested n) nil)
+
+abbrev pub TildeHolds : Type 0
+TildeHolds =
+    map (λ n. eqb (length (literalText (λ r. variable 0) (true, nested n))) 2) (63 ∷ 64 ∷ []) ≡ false ∷ true ∷ []
+
+-- Digits stand in their order, the highest first.
+abbrev pub DigitsHold : Type 0
+DigitsHold = map decimal (0 ∷ 10 ∷ 65535 ∷ []) ≡ (48 ∷ []) ∷ (49 ∷ 48 ∷ []) ∷ (54 ∷ 53 ∷ 53 ∷ 51 ∷ 53 ∷ []) ∷ []
