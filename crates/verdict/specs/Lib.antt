@@ -7,3 +7,4 @@ pub mod Text
 pub mod Readout
 pub mod Demands
 pub mod Cases
+pub mod Edges
