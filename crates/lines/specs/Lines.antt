@@ -1,5 +1,5 @@
--- The contracts of the functions that write the lines of the readout. What the lines are is in `Readout`; this file only says how the
--- parts of the program fit together.
+-- The contracts of the functions that write the lines of the readout. What the lines are stands in `Readout` of the crate verdict; this
+-- file only says how the parts of the program fit together.
 use mathlib.Core.Path.{_≡_}
 use mathlib.Core.Option.{some}
 use mathlib.Core.List.{List, map}

@@ -5,7 +5,7 @@ use Prim.Native.Nat.{ℕ, zero, suc, _+_, _*_, _/_, _%_, _<_}
 use native.Mathlib.Omega.{arith}
 use lib.ListN.{length, getD, take, drop, take-append-drop, length-append, length-drop, drop-of-length-le, List·getD-eq-default}
 use lib.Seq.{length-take-le, drop-cons, getD-drop, take-at, drop-at}
-use Rattle.record.specs.Bytes.{lowThenHigh, fieldBytes, recordBytes, fileOf, Fits, AllFit, Bytes}
+use Rattle.record.specs.Bytes.{lowThenHigh, fieldBytes, recordBytes, fileBytes, Fits, AllFit, Bytes}
 use Rattle.record.specs.Record.{Record, recordCount, decoded, parts, records}
 use Rattle.record.proofs.Records.{Shaped}
 
@@ -100,22 +100,22 @@ pub fits-shaped : (rs : List Record) → AllFit rs → Shaped rs
 fits-shaped [] f = tt
 fits-shaped (r ∷ rs) f = (f .0 .sevenFields, fits-shaped rs (f .1))
 
-pub file-length : (rs : List Record) → length (fileOf rs) ≡ 16 * length rs
-unfolding fileOf
+pub file-length : (rs : List Record) → length (fileBytes rs) ≡ 16 * length rs
+unfolding fileBytes
 file-length [] = refl
-file-length (r ∷ rs) = length-append (recordBytes r) (fileOf rs) ∙ omega (arith, record-sixteen r, file-length rs)
+file-length (r ∷ rs) = length-append (recordBytes r) (fileBytes rs) ∙ omega (arith, record-sixteen r, file-length rs)
 
-pub file-joined : (rs ss : List Record) → fileOf (rs ++ ss) ≡ fileOf rs ++ fileOf ss
-unfolding fileOf
+pub file-joined : (rs ss : List Record) → fileBytes (rs ++ ss) ≡ fileBytes rs ++ fileBytes ss
+unfolding fileBytes
 file-joined [] ss = refl
-file-joined (r ∷ rs) ss = rw (file-joined rs ss) (sym (append-assoc (recordBytes r) (fileOf rs) (fileOf ss)))
+file-joined (r ∷ rs) ss = rw (file-joined rs ss) (sym (append-assoc (recordBytes r) (fileBytes rs) (fileBytes ss)))
 
 -- Its parts are the records' bytes, one after another.
-file-parts : (rs : List Record) → parts (length rs) (fileOf rs) ≡ map recordBytes rs
-unfolding fileOf
+file-parts : (rs : List Record) → parts (length rs) (fileBytes rs) ≡ map recordBytes rs
+unfolding fileBytes
 file-parts [] = refl
 file-parts (r ∷ rs) =
-    rw (take-at (recordBytes r) (fileOf rs) 16 (record-sixteen r), drop-at (recordBytes r) (fileOf rs) 16 (record-sixteen r))
+    rw (take-at (recordBytes r) (fileBytes rs) 16 (record-sixteen r), drop-at (recordBytes r) (fileBytes rs) 16 (record-sixteen r))
     (ap (λ (k : List (List ℕ)). recordBytes r ∷ k) (file-parts rs))
 
 all-decoded : (rs : List Record) → Shaped rs → map decoded (map recordBytes rs) ≡ rs
@@ -123,16 +123,16 @@ all-decoded [] s = refl
 all-decoded (r ∷ rs) s = λ i. record-decoded r (s .0) i ∷ all-decoded rs (s .1) i
 
 -- Its records are those that it was made of.
-pub file-records : (rs : List Record) → Shaped rs → records (fileOf rs) ≡ rs
+pub file-records : (rs : List Record) → Shaped rs → records (fileBytes rs) ≡ rs
 unfolding records
 file-records rs s =
-    let n : length (fileOf rs) / 16 ≡ length rs = omega (arith, file-length rs) in
+    let n : length (fileBytes rs) / 16 ≡ length rs = omega (arith, file-length rs) in
     rw n (ap (map decoded) (file-parts rs) ∙ all-decoded rs s)
 
-pub file-bytes : (rs : List Record) → AllFit rs → Bytes (fileOf rs)
-unfolding fileOf
+pub file-bytes : (rs : List Record) → AllFit rs → Bytes (fileBytes rs)
+unfolding fileBytes
 file-bytes [] f = no-elements 256 (omega arith) .at
-file-bytes (r ∷ rs) f = both (recordBytes r) (fileOf rs) (record-bytes r (f .0)) (file-bytes rs (f .1)) .at
+file-bytes (r ∷ rs) f = both (recordBytes r) (fileBytes rs) (record-bytes r (f .0)) (file-bytes rs (f .1)) .at
 
 -- A part of bytes has bytes.
 taken-bytes : (n : ℕ) (bytes : List ℕ) → Bytes bytes → Bytes (take n bytes)
@@ -149,8 +149,8 @@ no-bytes [] l = refl
 no-bytes (x ∷ xs) l = absurd (omega arith)
 
 -- A file of n whole records is made of its own records.
-parts-rewritten : (n : ℕ) (file : List ℕ) → length file ≡ 16 * n → Bytes file → fileOf (map decoded (parts n file)) ≡ file
-unfolding fileOf
+parts-rewritten : (n : ℕ) (file : List ℕ) → length file ≡ 16 * n → Bytes file → fileBytes (map decoded (parts n file)) ≡ file
+unfolding fileBytes
 parts-rewritten zero file l b = no-bytes file l
 parts-rewritten (suc n) file l b =
     ap₂ _++_
@@ -158,7 +158,7 @@ parts-rewritten (suc n) file l b =
     (parts-rewritten n (drop 16 file) (length-drop 16 file ∙ omega arith) (dropped-bytes 16 file b))
     ∙ take-append-drop 16 file
 
-pub file-rewritten : (file : List ℕ) → length file % 16 ≡ 0 → Bytes file → fileOf (records file) ≡ file
+pub file-rewritten : (file : List ℕ) → length file % 16 ≡ 0 → Bytes file → fileBytes (records file) ≡ file
 unfolding records
 file-rewritten file l b = parts-rewritten (length file / 16) file (omega arith) b
 

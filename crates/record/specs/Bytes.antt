@@ -25,9 +25,9 @@ unfoldable pub recordBytes : Record → List ℕ
 recordBytes r = r .kind ∷ r .count ∷ fieldBytes (r .fields)
 
 -- The file that consists of these records, in order and without a header.
-unfoldable pub fileOf : List Record → List ℕ
-fileOf [] = []
-fileOf (r ∷ rs) = recordBytes r ++ fileOf rs
+unfoldable pub fileBytes : List Record → List ℕ
+fileBytes [] = []
+fileBytes (r ∷ rs) = recordBytes r ++ fileBytes rs
 
 -- A record that sixteen bytes can hold: byte 0 and byte 1 are bytes, and there are seven fields of 16 bits.
 pub record Fits (r : Record) : Type 0 where

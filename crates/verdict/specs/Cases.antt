@@ -10,7 +10,7 @@ use Prim.Native.String as text
 use Prim.Native.String.{String}
 use lib.Dec.{eqb}
 use lib.ListN.{length, replicate}
-use Rattle.record.specs.Bytes.{fileOf}
+use Rattle.record.specs.Bytes.{fileBytes}
 use Rattle.record.specs.Record.{pick, Record, records}
 use Rattle.unification.specs.Unification.{mostWork, Outcome, unified, failed}
 use Rattle.derivation.specs.Derivation.{Literal, Derivation}
@@ -19,7 +19,7 @@ use Rattle.verdict.specs.Refusal.{badLength, leftOf, rightOf, deletedOf}
 use Rattle.verdict.specs.State.{State, start}
 use Rattle.verdict.specs.Step.{stands, refused, step, unifyResolve, unifyFactor}
 use Rattle.verdict.specs.Tables.{Tables, lengthsOf, tablesAfter}
-use Rattle.verdict.specs.Verdict.{refusal, check, answerNumbers, answerOf, Lengths, fittingLength}
+use Rattle.verdict.specs.Verdict.{refusal, check, answerNumbers, Lengths, fittingLength}
 
 -- ── How a case is written ──
 
@@ -118,7 +118,7 @@ caseOf file = record {
 -- A: two resolutions to the empty clause, each with work 3.
 abbrev pub caseA : Case
 caseA = record {
-  file = fileOf
+  file = fileBytes
       (symbolOf 1 ∷ symbolOf 1 ∷ symbolOf 0
       ∷ applicationRow 2 [] ∷ applicationRow 0 (0 ∷ []) ∷ variableRow 0 ∷ applicationRow 1 (2 ∷ [])
       ∷ applicationRow 0 (2 ∷ []) ∷ applicationRow 0 (3 ∷ []) ∷ applicationRow 1 (0 ∷ []) ∷ applicationRow 0 (6 ∷ [])
@@ -186,7 +186,7 @@ caseTooLong = record {
 -- D: +s0(v0,v0) with -s0(v1,s1(v1)): the variable occurs in its own value. A binding made before that is not left behind.
 abbrev pub caseD : Case
 caseD = record {
-  file = fileOf
+  file = fileBytes
       (symbolOf 2 ∷ symbolOf 1
       ∷ variableRow 0 ∷ variableRow 1 ∷ applicationRow 0 (0 ∷ 0 ∷ []) ∷ applicationRow 1 (1 ∷ []) ∷ applicationRow 0 (1 ∷ 3 ∷ [])
       ∷ inputClause (5 ∷ []) ∷ inputClause (8 ∷ []) ∷ resolveStep 0 1 1 1 ∷ []);
@@ -199,7 +199,7 @@ caseD = record {
 -- E: s2 against another constant.
 abbrev pub caseE : Case
 caseE = record {
-  file = fileOf
+  file = fileBytes
       (symbolOf 1 ∷ symbolOf 1 ∷ symbolOf 0 ∷ symbolOf 0
       ∷ applicationRow 2 [] ∷ applicationRow 3 [] ∷ applicationRow 0 (0 ∷ []) ∷ applicationRow 0 (1 ∷ [])
       ∷ inputClause (5 ∷ []) ∷ inputClause (6 ∷ []) ∷ resolveStep 0 1 1 1 ∷ []);
@@ -212,7 +212,7 @@ caseE = record {
 -- F: +s0(v0,v1) +s0(v1,v0), keep 1, delete 2: stands with work 4, since the right side is followed before the occurrence test.
 abbrev pub caseF : Case
 caseF = record {
-  file = fileOf
+  file = fileBytes
       (symbolOf 2 ∷ variableRow 0 ∷ variableRow 1 ∷ applicationRow 0 (0 ∷ 1 ∷ []) ∷ applicationRow 0 (1 ∷ 0 ∷ [])
       ∷ inputClause (5 ∷ 7 ∷ []) ∷ factorStep 0 1 2 ∷ []);
   answer = 0 ∷ 0 ∷ 0 ∷ 1 ∷ 4 ∷ 2 ∷ 1 ∷ [];
@@ -224,7 +224,7 @@ caseF = record {
 -- G: one input clause without literals is accepted, with maximum index 1; with a bad record after it the file is refused.
 abbrev pub caseG : Case
 caseG = record {
-  file = fileOf (inputClause [] ∷ []);
+  file = fileBytes (inputClause [] ∷ []);
   answer = 1 ∷ 0 ∷ 0 ∷ 0 ∷ 0 ∷ 1 ∷ 0 ∷ [];
   tables = holding [] [] (0 ∷ 0 ∷ 1 ∷ 0 ∷ 0 ∷ []) [];
   work = [];
@@ -233,7 +233,7 @@ caseG = record {
 
 abbrev pub caseGBad : Case
 caseGBad = record {
-  file = fileOf (inputClause [] ∷ recordOf 7 0 [] ∷ []);
+  file = fileBytes (inputClause [] ∷ recordOf 7 0 [] ∷ []);
   answer = 2 ∷ 3 ∷ 1 ∷ 0 ∷ 0 ∷ 1 ∷ 0 ∷ [];
   tables = holding [] [] (0 ∷ 0 ∷ 1 ∷ 0 ∷ 0 ∷ []) [];
   work = [];
@@ -243,7 +243,7 @@ caseGBad = record {
 -- H: a step that names literal 0.
 abbrev pub caseH : Case
 caseH = record {
-  file = fileOf (symbolOf 0 ∷ applicationRow 0 [] ∷ inputClause (1 ∷ []) ∷ inputClause (0 ∷ []) ∷ resolveStep 0 0 1 1 ∷ []);
+  file = fileBytes (symbolOf 0 ∷ applicationRow 0 [] ∷ inputClause (1 ∷ []) ∷ inputClause (0 ∷ []) ∷ resolveStep 0 0 1 1 ∷ []);
   answer = 2 ∷ 5 ∷ 4 ∷ 1 ∷ 1 ∷ 2 ∷ 0 ∷ [];
   tables = holding (0 ∷ []) (1 ∷ []) (2 ∷ 1 ∷ 1 ∷ 0 ∷ 0 ∷ 3 ∷ 1 ∷ 1 ∷ 0 ∷ 0 ∷ []) [];
   work = [];
@@ -253,7 +253,7 @@ caseH = record {
 -- I: a literal on a variable row.
 abbrev pub caseI : Case
 caseI = record {
-  file = fileOf (variableRow 0 ∷ inputClause (1 ∷ []) ∷ []);
+  file = fileBytes (variableRow 0 ∷ inputClause (1 ∷ []) ∷ []);
   answer = 2 ∷ 7 ∷ 1 ∷ 0 ∷ 1 ∷ 0 ∷ 0 ∷ [];
   tables = holding [] (0 ∷ []) [] [];
   work = [];
@@ -263,7 +263,7 @@ caseI = record {
 -- J: v0 declared twice.
 abbrev pub caseJ : Case
 caseJ = record {
-  file = fileOf (variableRow 0 ∷ variableRow 0 ∷ []);
+  file = fileBytes (variableRow 0 ∷ variableRow 0 ∷ []);
   answer = 2 ∷ 6 ∷ 1 ∷ 0 ∷ 1 ∷ 0 ∷ 0 ∷ [];
   tables = holding [] (0 ∷ []) [] [];
   work = [];
@@ -273,7 +273,7 @@ caseJ = record {
 -- K: -s0 +s0, 2 resolved with 1 on itself, and so on: twelve steps reach index 4,096, the thirteenth gives 9.
 abbrev pub caseK : Case
 caseK = record {
-  file = fileOf (symbolOf 0 ∷ applicationRow 0 [] ∷ inputClause (0 ∷ 1 ∷ []) ∷ map (λ n. resolveStep n 2 n 1) (numbersFrom 0 13));
+  file = fileBytes (symbolOf 0 ∷ applicationRow 0 [] ∷ inputClause (0 ∷ 1 ∷ []) ∷ map (λ n. resolveStep n 2 n 1) (numbersFrom 0 13));
   answer = 2 ∷ 9 ∷ 15 ∷ 1 ∷ 1 ∷ 13 ∷ 0 ∷ [];
   tables = holding
       (0 ∷ [])
@@ -298,9 +298,12 @@ cases =
 abbrev pub CasesHold : Type 0
 CasesHold = map (λ c. caseOf (c .file)) cases ≡ cases
 
--- The lengths of B and C for every file and every tables: one of 65,536 bytes is never refused with 1, and those of 15 and of 65,552
--- bytes always are.
+-- The lengths of C for every file and whatever tables: one of 65,536 bytes is never refused with 1, and those of 15 and of 65,552 bytes
+-- always are.
+abbrev pub refusedForLength : List ℕ
+refusedForLength = 2 ∷ 1 ∷ 0 ∷ 0 ∷ 0 ∷ 0 ∷ 0 ∷ []
+
 pub record LengthsHold : Type 0 where
   pub longest : (file : List ℕ) (tables : Tables) (k : ℕ) → length file ≡ 65536 → ¬ (check file (lengthsOf tables) .verdict ≡ refusal badLength k)
-  pub fifteen : (file : List ℕ) (lengths : Lengths) → length file ≡ 15 → check file lengths ≡ answerOf (refusal badLength 0) start
-  pub tooLong : (file : List ℕ) (lengths : Lengths) → length file ≡ 65552 → check file lengths ≡ answerOf (refusal badLength 0) start
+  pub fifteen : (file : List ℕ) (lengths : Lengths) → length file ≡ 15 → answerNumbers (check file lengths) ≡ refusedForLength
+  pub tooLong : (file : List ℕ) (lengths : Lengths) → length file ≡ 65552 → answerNumbers (check file lengths) ≡ refusedForLength

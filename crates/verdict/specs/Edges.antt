@@ -5,7 +5,7 @@ use mathlib.Core.Bool.{true}
 use mathlib.Core.List.{List, [], _∷_, _++_, map}
 use Prim.Native.Nat.{ℕ, zero, suc}
 use lib.ListN.{replicate}
-use Rattle.record.specs.Bytes.{fileOf}
+use Rattle.record.specs.Bytes.{fileBytes}
 use Rattle.record.specs.Record.{Record}
 use Rattle.unification.specs.Row.{variable, Row, Variable}
 use Rattle.unification.specs.Term.{Term, var, app, nil, cons}
@@ -20,7 +20,7 @@ abbrev pub Answered : Type 0
 Answered = List Record × List ℕ
 
 abbrev pub answerTo : List Record → List ℕ
-answerTo rs = answerNumbers (check (fileOf rs) named)
+answerTo rs = answerNumbers (check (fileBytes rs) named)
 
 -- Reason 4, "byte 1 or variable number out of its range": arity 6 and 7, variable 63 and 64, 6 and 7 arguments, 7 and 8 literals, and
 -- a byte 1 of kinds 2, 5 and 6, which is to be 0. With 0 there the two steps are refused with 5: they name nothing.
