@@ -3,11 +3,11 @@
 use mathlib.Core.Path.{_≡_}
 use mathlib.Core.Option.{none, some}
 use mathlib.Core.List.{List, [], _∷_, map}
-use Prim.Native.Nat.{ℕ, zero, suc}
+use Prim.Native.Nat.{ℕ, zero, suc, _-_}
 use Rattle.unification.specs.Environment.{Binding, Environment, extend}
 use Rattle.unification.specs.Row.{variable, Row, application, Expression, Variable, rowAt, termAt, writtenOut}
 use Rattle.unification.specs.Term.{Term, var, app, nil, cons}
-use Rattle.unification.specs.Unification.{unify, occurs, overwork, full, unified, failed}
+use Rattle.unification.specs.Unification.{unify, mostWork, occurs, overwork, full, unified, failed}
 
 abbrev pub noBindings : Environment
 noBindings x = none
@@ -64,7 +64,7 @@ values ρ = map (writtenOut (termAt exampleRows) (valueOf 9 ρ)) expressions
 
 pub record CaseL : Type 0 where
   pub before : values (extend noBindings printed) ≡ P (x 3) (f (x 4) (x 3)) ∷ P (g (x 7)) (f (x 7) (g (y 5))) ∷ []
-  pub unifies : unify (rowAt exampleRows) 6 (extend noBindings printed) (3, 2) (5, 7) ≡ unified added 16374
+  pub unifies : unify (rowAt exampleRows) 6 (extend noBindings printed) (3, 2) (5, 7) ≡ unified added (mostWork - 10)
   pub after : values (extend (extend noBindings printed) added) ≡ P (g (y 5)) (f (y 5) (g (y 5))) ∷ P (g (y 5)) (f (y 5) (g (y 5))) ∷ []
   pub afterInPrint : values (extend (extend noBindings printed) addedInPrint) ≡ P (g (y 5)) (f (y 5) (g (y 5))) ∷ P (g (y 5)) (f (y 5) (g (y 5))) ∷ []
 
@@ -85,15 +85,15 @@ treeRows =
     application 2 (14 ∷ []) ∷ application 2 (13 ∷ []) ∷ doubled 12 ∷ doubled 11 ∷ doubled 10 ∷ doubled 9 ∷ doubled 8 ∷ doubled 7 ∷ doubled 6 ∷ doubled 5 ∷ doubled 4
     ∷ doubled 3 ∷ doubled 2 ∷ doubled 1 ∷ doubled 0 ∷ application 0 [] ∷ []
 
--- Each with what unification gives: new bindings and the work left of 16,384, or why it fails.
+-- Each with what unification gives: new bindings and the work that is left, or why it fails.
 pub record UnificationsHold : Type 0 where
   -- F: one binding, work 4; the right side is followed before the occurrence test. D: the variable occurs.
-  pub caseF : unify (rowAt pairRows) 0 noBindings (2, 1) (3, 1) ≡ unified (((0, 1), (1, 1)) ∷ []) 16380
+  pub caseF : unify (rowAt pairRows) 0 noBindings (2, 1) (3, 1) ≡ unified (((0, 1), (1, 1)) ∷ []) (mostWork - 4)
   pub caseD : unify (rowAt pairRows) 0 noBindings (4, 1) (6, 2) ≡ failed occurs
   -- One number at two indices is two variables: v0 at 1 is bound to v0 at 2.
-  pub twoVariables : unify (rowAt pairRows) 0 noBindings (0, 1) (0, 2) ≡ unified (((0, 1), (0, 2)) ∷ []) 16382
+  pub twoVariables : unify (rowAt pairRows) 0 noBindings (0, 1) (0, 2) ≡ unified (((0, 1), (0, 2)) ∷ []) (mostWork - 2)
   -- The last binding that there is room for, and the first that there is not.
-  pub lastBinding : unify (rowAt pairRows) 8191 noBindings (0, 1) (1, 1) ≡ unified (((0, 1), (1, 1)) ∷ []) 16382
+  pub lastBinding : unify (rowAt pairRows) 8191 noBindings (0, 1) (1, 1) ≡ unified (((0, 1), (1, 1)) ∷ []) (mostWork - 2)
   pub noFurtherBinding : unify (rowAt pairRows) 8192 noBindings (0, 1) (1, 1) ≡ failed full
   -- All work is used up, and one pair more is too much.
   pub lastWork : unify (rowAt treeRows) 0 noBindings (14, 1) (14, 2) ≡ unified [] 0
