@@ -62,11 +62,15 @@ valueOf (suc n) ρ v = elim (ρ v) [ none ↦ var v | some e ↦ writtenOut (ter
 abbrev pub values : Environment → List (Term Variable)
 values ρ = map (writtenOut (termAt exampleRows) (valueOf 9 ρ)) expressions
 
+-- The value that both expressions have in the end.
+abbrev pub common : Term Variable
+common = P (g (y 5)) (f (y 5) (g (y 5)))
+
 pub record CaseL : Type 0 where
   pub before : values (extend noBindings printed) ≡ P (x 3) (f (x 4) (x 3)) ∷ P (g (x 7)) (f (x 7) (g (y 5))) ∷ []
   pub unifies : unify (rowAt exampleRows) 6 (extend noBindings printed) (3, 2) (5, 7) ≡ unified added (mostWork - 10)
-  pub after : values (extend (extend noBindings printed) added) ≡ P (g (y 5)) (f (y 5) (g (y 5))) ∷ P (g (y 5)) (f (y 5) (g (y 5))) ∷ []
-  pub afterInPrint : values (extend (extend noBindings printed) addedInPrint) ≡ P (g (y 5)) (f (y 5) (g (y 5))) ∷ P (g (y 5)) (f (y 5) (g (y 5))) ∷ []
+  pub after : values (extend (extend noBindings printed) added) ≡ common ∷ common ∷ []
+  pub afterInPrint : values (extend (extend noBindings printed) addedInPrint) ≡ common ∷ common ∷ []
 
 -- ── Cases D and F, and the limits ──
 
