@@ -35,8 +35,8 @@ use Rattle.entry.proofs.Kept.{fitting-records}
 use Rattle.inference.proofs.KeptClauses as kept
 use Rattle.lines.specs.Lines.{AllWritable, WritesNumbered, WritesLiterals, LineReady, LineWritten}
 use Rattle.lines.specs.Literals.{listed, Collectable, Collected}
-use Rattle.lines.specs.Readout.{clauseLine}
-use Rattle.terms.specs.Text.{decimal, literalText, literalsText}
+use Rattle.verdict.specs.Readout.{clauseLine}
+use Rattle.verdict.specs.Text.{decimal, literalText, literalsText}
 use Rattle.terms.specs.Writing.{Wrote, Sized, WritesLiteral}
 use Rattle.terms.proofs.Decimals.{decimal-length}
 use Rattle.terms.proofs.LiteralTexts.{literals-text-short}

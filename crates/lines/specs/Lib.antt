@@ -1,3 +1,2 @@
-pub mod Readout
 pub mod Literals
 pub mod Lines

@@ -1,5 +1,5 @@
--- The contracts of the functions that write the lines of the readout. What the lines are is in `Readout`; this file only says how the
--- parts of the program fit together.
+-- The contracts of the functions that write the lines of the readout. What the lines are stands in `Readout` of the crate verdict; this
+-- file only says how the parts of the program fit together.
 use mathlib.Core.Path.{_≡_}
 use mathlib.Core.Option.{some}
 use mathlib.Core.List.{List, map}
@@ -16,8 +16,8 @@ use Rattle.derivation.specs.Written.{writtenLiteral, WritesOut}
 use Rattle.verdict.specs.State.{State, clauseOf}
 use Rattle.verdict.specs.Tables.{Tables}
 use Rattle.entry.specs.Progress.{ReadTo, tablesWith}
-use Rattle.lines.specs.Readout.{clauseLine}
-use Rattle.terms.specs.Text.{literalsText}
+use Rattle.verdict.specs.Readout.{clauseLine}
+use Rattle.verdict.specs.Text.{literalsText}
 use Rattle.terms.specs.Writing.{Wrote, Sized, LiteralWritten, WritesLiteral}
 
 -- Every literal of a list can be written out, as `Writable` has it for one expression.

@@ -9,7 +9,7 @@ use Rattle.verdict.specs.Tables.{lengthsOf}
 use Rattle.verdict.specs.Verdict.{Lengths}
 use Rattle.answer.specs.declared.Answer.{Answer}
 use Rattle.readout.specs.Pieces.{progress, pieceBytes, Pieces, lastPiece, piece}
-use Rattle.lines.specs.Readout.{readout}
+use Rattle.verdict.specs.Readout.{readout}
 use Rattle.readout.specs.Units.{AfterCheck, PieceAt, PieceOf, restGiven}
 use Rattle.readout.specs.declared.piece.Piece.{Piece}
 use Rattle.readout.specs.declared.piece.Rest.{Rest}

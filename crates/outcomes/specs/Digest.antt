@@ -6,7 +6,7 @@ use lib.ListN.{length}
 use Rattle.verdict.specs.Tables.{lengthsOf}
 use Rattle.verdict.specs.Verdict.{Lengths}
 use Rattle.answer.specs.declared.Answer.{Answer}
-use Rattle.lines.specs.Readout.{readout}
+use Rattle.verdict.specs.Readout.{readout}
 use Rattle.readout.specs.Units.{AfterCheck}
 use Rattle.hash.specs.Hash.{start, hashBytes}
 use Rattle.outcomes.specs.declared.digest.Digest.{Digest}

@@ -1,5 +1,4 @@
 pub mod VerdictTexts
-pub mod CasesProved
 pub mod PieceLaws
 pub mod UnitLaws
 pub mod UnitWriting

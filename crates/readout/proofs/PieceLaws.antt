@@ -9,7 +9,7 @@ use lib.ListN.{length, drop, length-append}
 use borrow.Author.Tests.{eqb-true, eqb-false, leb-true, leb-false}
 use Rattle.record.specs.Record.{pick}
 use Rattle.verdict.specs.Verdict.{Lengths}
-use Rattle.lines.specs.Readout.{readoutLines, joinedLines, readout}
+use Rattle.verdict.specs.Readout.{readoutLines, joinedLines, readout}
 use Rattle.readout.specs.Pieces.{units, fitting, Progress, complete, goOnWith, tooShortFor, afterPiece, unitsFrom, pieceLines, pieceBytes, progress, Pieces, lastPiece, piece, PiecesHold}
 
 units-joined : (ls : List (List ℕ)) → joinedLines (units ls) ≡ joinedLines ls

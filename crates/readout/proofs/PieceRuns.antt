@@ -12,7 +12,7 @@ use borrow.Author.Tests.{le-leb, lt-leb, eq-eqb, ne-eqb}
 use Rattle.record.specs.Record.{pick}
 use Rattle.verdict.specs.Verdict.{Lengths}
 use Rattle.readout.specs.Pieces.{units, fitting, goOnWith, tooShortFor, afterPiece, unitsFrom, pieceLines}
-use Rattle.lines.specs.Readout.{readoutLines, joinedLines}
+use Rattle.verdict.specs.Readout.{readoutLines, joinedLines}
 use Rattle.readout.specs.Units.{unitAt, restGiven, stoppedAt, PieceAt}
 use Rattle.readout.specs.declared.piece.Piece.{Piece}
 use Rattle.readout.specs.declared.piece.Rest.the-variants.{Complete}

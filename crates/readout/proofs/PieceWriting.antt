@@ -21,8 +21,8 @@ use Rattle.entry.specs.Progress.{tablesWith}
 use Rattle.answer.specs.declared.Answer.{Answer}
 use Rattle.readout.specs.Contract.{PieceWritten}
 use Rattle.readout.specs.Pieces.{units, PiecesHold}
-use Rattle.lines.specs.Readout.{verdictLine, clauseLine, clauseLines, readoutLines}
-use Rattle.terms.specs.Text.{decimal}
+use Rattle.verdict.specs.Readout.{verdictLine, clauseLine, clauseLines, readoutLines}
+use Rattle.verdict.specs.Text.{decimal}
 use Rattle.readout.specs.Units.{unitsWithin, unitAt, restGiven, stoppedAt, AfterCheck, UnitWritten, PieceOf}
 use Rattle.terms.specs.Writing.{Wrote}
 use Rattle.readout.specs.declared.piece.Piece.{Piece}

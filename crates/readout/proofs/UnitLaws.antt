@@ -23,7 +23,7 @@ use Rattle.answer.specs.declared.Answer.{Answer}
 use Rattle.answer.specs.declared.Verdict as given
 use Rattle.answer.specs.declared.Verdict.the-variants as given-variants
 use Rattle.readout.specs.Pieces.{units}
-use Rattle.lines.specs.Readout.{verdictLine, clauseLine, clauseLines, linesOf, readoutLines}
+use Rattle.verdict.specs.Readout.{verdictLine, clauseLine, clauseLines, linesOf, readoutLines}
 use Rattle.readout.specs.Units.{unitsWithin, unitAt}
 
 -- The lines of the clauses, by number.

@@ -19,7 +19,7 @@ use Rattle.answer.specs.declared.Answer.{Answer}
 use Rattle.inference.proofs.KeptClauses.{nodes-room}
 use Rattle.lines.specs.Lines.{LineReady, LineWritten}
 use Rattle.readout.specs.Heading.{VerdictWritten}
-use Rattle.lines.specs.Readout.{verdictLine, clauseLine}
+use Rattle.verdict.specs.Readout.{verdictLine, clauseLine}
 use Rattle.readout.specs.Units.{unitsWithin, unitAt, AfterCheck, UnitReady, UnitWritten}
 use Rattle.terms.specs.Writing.{Wrote, Sized}
 use Rattle.lines.proofs.LineTexts.{ClauseThere, clause-there, read-again}

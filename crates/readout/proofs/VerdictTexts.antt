@@ -12,7 +12,7 @@ use Rattle.answer.specs.declared.Answer as given-answer
 use Rattle.answer.specs.declared.Verdict as given
 use Rattle.answer.specs.declared.Verdict.the-variants.{Open, Accepted, Refused}
 use Rattle.readout.specs.Heading.{givenText, VerdictWritten}
-use Rattle.lines.specs.Readout.{verdictText}
+use Rattle.verdict.specs.Readout.{verdictText}
 use Rattle.terms.specs.Writing.{Wrote}
 use Rattle.terms.proofs.Positions.{wrote-then}
 

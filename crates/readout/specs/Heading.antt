@@ -1,4 +1,4 @@
--- The contracts of the functions that write the first line. What the line is stands in `Readout` of the crate lines.
+-- The contracts of the functions that write the first line. What the line is stands in `Readout` of the crate verdict.
 use mathlib.Core.Path.{_≡_}
 use mathlib.Core.List.{List}
 use Prim.Native.Nat.{ℕ}
@@ -7,7 +7,7 @@ use Rattle.verdict.specs.Verdict.{Verdict, verdictNumbers}
 use Rattle.answer.specs.Given.{verdictGiven}
 use Rattle.answer.specs.declared.Verdict as given
 use Rattle.answer.specs.declared.Verdict.the-variants as given-variants
-use Rattle.lines.specs.Readout.{acceptedText, openText, refusedText, verdictLine}
+use Rattle.verdict.specs.Readout.{acceptedText, openText, refusedText, verdictLine}
 use Rattle.terms.specs.Writing.{Wrote}
 
 -- The words of a verdict as the program gives it.

@@ -1,4 +1,3 @@
-pub mod Cases
 pub mod Heading
 pub mod Pieces
 pub mod Units

@@ -6,7 +6,7 @@ use lib.Dec.{eqb, leb}
 use lib.ListN.{length, drop}
 use Rattle.record.specs.Record.{pick}
 use Rattle.verdict.specs.Verdict.{Lengths}
-use Rattle.lines.specs.Readout.{readoutLines, joinedLines, readout}
+use Rattle.verdict.specs.Readout.{readoutLines, joinedLines, readout}
 
 -- A piece is made of whole lines. The first line goes with that of clause 0, so that every piece begins with a clause; without clauses it
 -- stands alone.

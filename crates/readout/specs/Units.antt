@@ -11,7 +11,7 @@ use Rattle.verdict.specs.Verdict.{Lengths}
 use Rattle.checker.specs.Contract.{CheckedWith}
 use Rattle.entry.specs.Progress.{tablesWith}
 use Rattle.answer.specs.declared.Answer.{Answer}
-use Rattle.lines.specs.Readout.{readoutLines}
+use Rattle.verdict.specs.Readout.{readoutLines}
 use Rattle.readout.specs.Pieces.{units, Progress, complete, goOnWith, tooShortFor, pieceBytes, progress}
 use Rattle.terms.specs.Writing.{Wrote, Sized}
 use Rattle.readout.specs.declared.piece.Piece.{Piece}

@@ -6,7 +6,7 @@ use terms::text::put_word;
 ghost use mathlib.Core.Path.{_≡_};
 ghost use lib.ListN.{length};
 ghost use Rattle.readout.specs.Heading.{givenText, VerdictWritten};
-ghost use Rattle.lines.specs.Readout.{acceptedText, refusedText};
+ghost use Rattle.verdict.specs.Readout.{acceptedText, refusedText};
 ghost use Rattle.terms.specs.Writing.{Wrote};
 
 // The number of a refusal's reason.

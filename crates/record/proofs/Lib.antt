@@ -1,2 +1,3 @@
 -- What crates above cite of the definitions.
 pub mod Records
+pub mod Bytes

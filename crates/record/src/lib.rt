@@ -5,7 +5,7 @@ ghost use lib.ListN.{getD};
 ghost use Rattle.record.specs.Record.{recordPart, kindOf, countOf, fieldOf, fieldsOf};
 ghost use Rattle.record.specs.Reader.{clauseLiterals};
 
-// An input clause as it is read out: how many literals it has, and seven numbers, zero past the last literal.
+// An input clause as it is read out: byte 1, which is how many literals it has, and fields a to g as the file has them.
 pub struct ClauseLiterals {
     pub count: u8,
     pub numbers: [u16; 7],

@@ -13,7 +13,7 @@ use Rattle.unification.specs.Row.{Row, Variable, argumentTerms, writtenOut}
 use Rattle.unification.specs.Term.{Term, Terms, cons, applyAll, occurrences, allOccurrences}
 use Rattle.unification.specs.Values.{Models}
 use Rattle.following.proofs.Occurrence.{arg-good, args-eq}
-use Rattle.terms.specs.Text.{termText, argumentsText, furtherText}
+use Rattle.verdict.specs.Text.{termText, argumentsText, furtherText}
 use Rattle.terms.specs.Writing.{Wrote, markBefore, closingText, Writable, WritesTerm, argumentsOut, WritesArguments}
 use Rattle.terms.specs.declared.term.Written.the-variants.{Done, TooMany}
 use Rattle.terms.proofs.Positions.{kept-then, wrote-nothing, wrote-then}

@@ -8,7 +8,7 @@ use lib.Dec.{ltb}
 use lib.ListN.{length}
 use borrow.Author.Tests.{ne-eqb, ltb-true, ltb-false}
 use Rattle.record.specs.Record.{pick}
-use Rattle.terms.specs.Text.{digits, decimal}
+use Rattle.verdict.specs.Text.{digits, decimal}
 use Rattle.terms.specs.Writing.{Wrote, digitText}
 use Rattle.terms.proofs.Positions.{wrote-nothing, wrote-then}
 

@@ -11,7 +11,7 @@ use Rattle.record.specs.Record.{pick}
 use Rattle.unification.specs.Row.{Row, Expression, Variable, writtenOut}
 use Rattle.unification.specs.Term.{Term, Terms, var, app, nil, cons, occurrences, allOccurrences}
 use Rattle.derivation.specs.Written.{Clause}
-use Rattle.terms.specs.Text.{decimal, variableNumber, signText, termText, argumentsText, furtherText, literalText, literalsText}
+use Rattle.verdict.specs.Text.{decimal, variableNumber, signText, termText, argumentsText, furtherText, literalText, literalsText}
 use Rattle.terms.specs.Writing.{Wrote, Writing, WritesTerm, WritesLiteral}
 use Rattle.terms.specs.declared.term.Written.{Written}
 use Rattle.terms.specs.declared.term.Written.the-variants.{Done, TooMany}

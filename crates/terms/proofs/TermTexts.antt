@@ -15,7 +15,7 @@ use Rattle.following.proofs.Halving.{walked-app}
 use Rattle.unification.proofs.Meaning.{writtenView, expressionOf, Ended, written-follow, follow-ends}
 use Rattle.following.specs.declared.follow.Followed.{Followed}
 use Rattle.following.specs.declared.follow.Followed.the-variants.{Variable, Application}
-use Rattle.terms.specs.Text.{decimal, variableNumber, termText, argumentsText}
+use Rattle.verdict.specs.Text.{decimal, variableNumber, termText, argumentsText}
 use Rattle.terms.specs.Writing.{Wrote, Writable, Came, Writing, WritesTerm, argumentsOut, WritesArguments, LeavesLess, LeavesNoMore}
 use Rattle.terms.specs.declared.term.Written.{Written}
 use Rattle.terms.specs.declared.term.Written.the-variants.{Done, TooMany}

@@ -1,5 +1,5 @@
--- The contracts of the functions that write text into the buffer. What the crate promises its callers is in `Readout`; this file
--- only says how the parts of the program fit together.
+-- The contracts of the functions that write text into the buffer. What a text is stands in `Text` of the crate verdict; this file only
+-- says how the parts of the program fit together.
 use mathlib.Core.Path.{_≡_}
 use mathlib.Core.Bool.{Bool, false}
 use mathlib.Core.List.{List, [], _∷_, _++_}
@@ -13,7 +13,7 @@ use Rattle.unification.specs.Row.{Row, Expression, Variable, argumentTerms, row
 use Rattle.unification.specs.Term.{Term, Terms, applyAll, occurrences, allOccurrences}
 use Rattle.unification.specs.Values.{InStep, Models}
 use Rattle.derivation.specs.Written.{WritesOut}
-use Rattle.terms.specs.Text.{termText, argumentsText, literalText}
+use Rattle.verdict.specs.Text.{termText, argumentsText, literalText}
 use Rattle.terms.specs.declared.term.Written.{Written}
 use Rattle.terms.specs.declared.term.Written.the-variants.{Done, TooMany}
 

@@ -1,4 +1,5 @@
-// The text of terms and literals. `Text` in specs/ has what it is; `Writing` says how the parts of this program go about it.
+// The text of terms and literals. `Text` of the crate verdict has what it is; `Writing` in specs/ says how the parts of this program
+// go about it.
 pub mod literal;
 pub mod term;
 pub mod text;

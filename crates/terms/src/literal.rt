@@ -3,7 +3,7 @@ use super::term::Written;
 use super::term::write_term;
 use super::text::put_byte;
 ghost use mathlib.Core.Path.{_≡_};
-ghost use Rattle.terms.specs.Text.{signText};
+ghost use Rattle.verdict.specs.Text.{signText};
 ghost use Rattle.terms.specs.Writing.{Sized, WritesLiteral};
 
 // The sign of a literal.

@@ -4,7 +4,7 @@ ghost use mathlib.Core.Path.{_≡_};
 ghost use mathlib.Core.List.{[], _∷_, _++_};
 ghost use Prim.Native.Nat.{_+_, _<_};
 ghost use lib.ListN.{length};
-ghost use Rattle.terms.specs.Text.{decimal};
+ghost use Rattle.verdict.specs.Text.{decimal};
 ghost use Rattle.terms.specs.Writing.{Wrote, digitText};
 
 // One byte.

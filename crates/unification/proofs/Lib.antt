@@ -13,6 +13,6 @@ pub mod Chains
 pub mod Stability
 pub mod Failures
 pub mod Room
-pub mod Edges
+pub mod CasesProved
 pub mod NewBindings
 pub mod Limits

@@ -8,3 +8,4 @@ pub mod Unifier
 pub mod Nodes
 pub mod Values
 pub mod Bindings
+pub mod Cases

@@ -1,34 +1,44 @@
--- The case sheet's marked cases, the lengths and the edges of the limits, by computing.
+-- The case sheet and the edges of the limits, by computing; and the lengths, for every file.
 use mathlib.Core.Path.{_≡_, refl, ap}
 use mathlib.Core.Bool.{false}
 use mathlib.Core.List.{List}
 use Prim.Native.Nat.{ℕ}
 use native.Mathlib.Omega.{arith}
 use lib.ListN.{length}
+use Rattle.record.specs.Bytes.{recordBytes, fileBytes}
 use Rattle.record.specs.Record.{records}
 use Rattle.unification.specs.Row.{Variable}
 use Rattle.unification.specs.Unification.{mostWork, mostBindings, mostLinks, run}
 use Rattle.unification.proofs.Tests.{true-not-false}
-use Rattle.verdict.specs.Cases.{CasesHold, LengthsHold, EdgesHold}
+use Rattle.verdict.specs.Cases.{CasesHold, refusedForLength, LengthsHold}
 use Rattle.verdict.specs.Demands.{DueAt, ofLength, ofTables, ofRecord}
+use Rattle.verdict.specs.Edges.{EdgesHold, ShortTablesHold, TextsHold}
+use Rattle.verdict.specs.Readout.{readoutLines}
 use Rattle.verdict.specs.Refusal.{Reason, badLength, reasonNumber, mostLiterals, mostIndex}
-use Rattle.verdict.specs.State.{start, held}
+use Rattle.verdict.specs.State.{held}
 use Rattle.verdict.specs.Step.{require, addClause}
-use Rattle.verdict.specs.Tables.{Tables}
-use Rattle.verdict.specs.Verdict.{refusal, check, answerOf, Lengths, fittingLength, ending}
+use Rattle.verdict.specs.Tables.{Tables, tablesAfter}
+use Rattle.verdict.specs.Verdict.{check, answerNumbers, Lengths, fittingLength, ending}
 use Rattle.verdict.proofs.Demanded.{demand2}
 use Rattle.verdict.proofs.Refusals.{due-stated}
 
 pub cases-hold : CasesHold
-unfolding check ending records held require addClause run mostWork mostBindings mostLinks mostLiterals mostIndex
+unfolding fileBytes recordBytes records check tablesAfter readoutLines ending held require addClause run mostWork mostBindings mostLinks mostLiterals mostIndex
 cases-hold = refl
 
 pub edges-hold : EdgesHold
-unfolding check ending records held require addClause run mostWork mostBindings mostLinks mostLiterals mostIndex
+unfolding fileBytes recordBytes records check ending held require addClause run mostWork mostBindings mostLinks mostLiterals mostIndex
 edges-hold = refl
 
-bad-length : (file : List ℕ) (lengths : Lengths) → fittingLength (length file) ≡ false → check file lengths ≡ answerOf (refusal badLength 0) start
-unfolding check
+pub short-tables-hold : ShortTablesHold
+unfolding check tablesAfter held
+short-tables-hold = record { answers = refl; untouched = refl }
+
+pub texts-hold : TextsHold
+texts-hold = record { digits = refl; occurrences64 = refl; occurrences65 = refl }
+
+bad-length : (file : List ℕ) (lengths : Lengths) → fittingLength (length file) ≡ false → answerNumbers (check file lengths) ≡ refusedForLength
+unfolding check held
 bad-length file lengths f = rw f
 
 -- Reason 1 is given only for the length.

@@ -1,46 +1,91 @@
--- Document 01, "Case sheet": the cases marked for proof, as files of bytes with what the check makes of them.
+-- Document 01, "Case sheet": one table of cases. Each case has a file, and what the definitions make of it: the answer, every cell of
+-- the four tables, the work of each step that stands, and the readout. They are proved together, by computing: all 61,440 cells of the
+-- named parts and a cell past each are compared, with no law in between. Case L, which is no file, is in the crate unification.
 use mathlib.Core.Path.{_≡_}
 use mathlib.Core.Option.{Option, none, some}
 use mathlib.Core.List.{List, [], _∷_, _++_, map}
-use Prim.Native.Nat.{ℕ, zero, suc, _-_, _/_, _%_}
-use lib.Dec.{T}
+use Prim.Native.Char.{code}
+use Prim.Native.Nat.{ℕ, zero, suc, _-_}
+use Prim.Native.String as text
+use Prim.Native.String.{String}
+use lib.Dec.{eqb}
 use lib.ListN.{length, replicate}
-use Rattle.record.specs.Record.{pick, Record, records, otherKind, Kind, symbolKind, variableKind, applicationKind, inputKind, resolveKind, factorKind}
-use Rattle.unification.specs.Unification.{unify, mostWork, Outcome, unified, failed}
+use Rattle.record.specs.Bytes.{fileBytes}
+use Rattle.record.specs.Record.{pick, Record, records}
+use Rattle.unification.specs.Unification.{mostWork, Outcome, unified, failed}
 use Rattle.derivation.specs.Derivation.{Literal, Derivation}
-use Rattle.verdict.specs.Refusal.{badLength, kindOfRecord, leftOf, rightOf, deletedOf}
-use Rattle.verdict.specs.State.{State, start, derivations}
-use Rattle.verdict.specs.Step.{stands, refused, step, unifyResolve, unifyFactor, stateOf}
-use Rattle.verdict.specs.Tables.{Tables, lengthsOf, symbolCells, rowCells, clauseCells, bindingCells}
-use Rattle.verdict.specs.Verdict.{refusal, check, answerNumbers, answerOf, Lengths, named, fittingLength, ending}
+use Rattle.verdict.specs.Readout.{readout}
+use Rattle.verdict.specs.Refusal.{badLength, leftOf, rightOf, deletedOf}
+use Rattle.verdict.specs.State.{State, start}
+use Rattle.verdict.specs.Step.{stands, refused, step, unifyResolve, unifyFactor}
+use Rattle.verdict.specs.Tables.{Tables, lengthsOf, tablesAfter}
+use Rattle.verdict.specs.Verdict.{refusal, check, answerNumbers, Lengths, fittingLength}
 
--- A record's sixteen bytes, fields that are not written being zero.
-abbrev pub lowHigh : ℕ → List ℕ → List ℕ
-lowHigh n bytes = n % 256 ∷ n / 256 ∷ bytes
+-- ── How a case is written ──
 
-abbrev pub fieldBytes : ℕ → List ℕ → List ℕ
-fieldBytes zero fields = []
-fieldBytes (suc n) [] = 0 ∷ 0 ∷ fieldBytes n []
-fieldBytes (suc n) (f ∷ fields) = lowHigh f (fieldBytes n fields)
+-- Records: kind, byte 1, fields; a field that is not written is zero. Then one for each kind.
+abbrev pub recordOf : ℕ → ℕ → List ℕ → Record
+recordOf kind count fields = record { kind = kind; count = count; fields = fields }
 
-abbrev pub recordBytes : ℕ × ℕ × List ℕ → List ℕ
-recordBytes r = r .0 ∷ r .1 ∷ fieldBytes 7 (r .2)
+abbrev pub symbolOf : ℕ → Record
+symbolOf arity = recordOf 1 arity []
 
-abbrev pub fileOf : List (ℕ × ℕ × List ℕ) → List ℕ
-fileOf [] = []
-fileOf (r ∷ rs) = recordBytes r ++ fileOf rs
+abbrev pub variableRow : ℕ → Record
+variableRow v = recordOf 2 0 (v ∷ [])
 
--- A file with the numbers of the answer, the cells that the check fills, and the work of each step that stands.
+abbrev pub applicationRow : ℕ → List ℕ → Record
+applicationRow s rows = recordOf 3 (length rows) (s ∷ rows)
+
+abbrev pub inputClause : List ℕ → Record
+inputClause numbers = recordOf 4 (length numbers) numbers
+
+abbrev pub resolveStep : ℕ → ℕ → ℕ → ℕ → Record
+resolveStep a b c d = recordOf 5 0 (a ∷ b ∷ c ∷ d ∷ [])
+
+abbrev pub factorStep : ℕ → ℕ → ℕ → Record
+factorStep a b c = recordOf 6 0 (a ∷ b ∷ c ∷ [])
+
+-- The numbers k, k + 1, and so on, n of them.
+abbrev pub numbersFrom : ℕ → ℕ → List ℕ
+numbersFrom k zero = []
+numbersFrom k (suc n) = k ∷ numbersFrom (suc k) n
+
+-- The bytes of a text, and of lines that each end in a line feed.
+abbrev pub textBytes : String → List ℕ
+textBytes text.[] = []
+textBytes (text._∷_ c cs) = code c ∷ textBytes cs
+
+abbrev pub lines : List String → List ℕ
+lines [] = []
+lines (l ∷ ls) = textBytes l ++ (10 ∷ lines ls)
+
+-- The tables that are lent: one cell longer than they must be, and 9 in every cell.
+abbrev pub nines : Tables
+nines = record { symbols = replicate 4097 9; rows = replicate 4097 9; clauses = replicate 20481 9; bindings = replicate 32769 9 }
+
+-- These tables with the cells given at the start of their named parts, zero in the rest of them, and 9 in the cell past them.
+abbrev pub startingWith : ℕ → List ℕ → List ℕ
+startingWith n cells = cells ++ (replicate (n - length cells) 0 ++ (9 ∷ []))
+
+abbrev pub holding : List ℕ → List ℕ → List ℕ → List ℕ → Tables
+holding symbols rows clauses bindings = record {
+  symbols = startingWith 4096 symbols;
+  rows = startingWith 4096 rows;
+  clauses = startingWith 20480 clauses;
+  bindings = startingWith 32768 bindings;
+}
+
 pub record Case : Type 0 where
   pub file : List ℕ
+  -- 0 open, 1 accepted, 2 refused; clause or reason; record; counts of symbols, rows, clauses, bindings.
   pub answer : List ℕ
-  pub symbols : List ℕ
-  pub rows : List ℕ
-  pub clauses : List ℕ
-  pub bindings : List ℕ
+  pub tables : Tables
   pub work : List ℕ
+  pub readout : List ℕ
 
--- What the definitions make of a file. Work is what a step's unification has used up.
+-- ── What the definitions make of a file ──
+
+-- The work of each step that stands: what its unification has used up.
 abbrev pub workOf : Outcome → List ℕ
 workOf (unified bs left) = (mostWork - left) ∷ []
 workOf (failed f) = []
@@ -50,195 +95,215 @@ workOn unify none y = []
 workOn unify (some x) none = []
 workOn unify (some x) (some y) = workOf (unify x y)
 
-abbrev pub stepWork : State → Kind → Record → List ℕ
-stepWork S symbolKind r = []
-stepWork S variableKind r = []
-stepWork S applicationKind r = []
-stepWork S inputKind r = []
-stepWork S resolveKind r = workOn (unifyResolve S) (leftOf S r) (rightOf S r)
-stepWork S factorKind r = workOn (unifyFactor S) (leftOf S r) (deletedOf S r)
-stepWork S otherKind r = []
+abbrev pub stepWork : State → Record → List ℕ
+stepWork S r =
+    pick (eqb (r .kind) 5) (workOn (unifyResolve S) (leftOf S r) (rightOf S r))
+    (pick (eqb (r .kind) 6) (workOn (unifyFactor S) (leftOf S r) (deletedOf S r)) [])
 
 abbrev pub works : State → ℕ → List Record → List ℕ
 works S k [] = []
-works S k (r ∷ rs) = elim (step S k r) [ stands T ↦ stepWork S (kindOfRecord r) r ++ works T (suc k) rs | refused reason ↦ [] ]
-
-abbrev pub cellsOf : State → List ℕ → List ℕ → List ℕ → Case
-cellsOf S file answer work = record
-    { file = file; answer = answer; symbols = symbolCells S; rows = rowCells S; clauses = clauseCells (S .clauses); bindings = bindingCells (derivations S); work = work }
+works S k (r ∷ rs) = elim (step S k r) [ stands T ↦ stepWork S r ++ works T (suc k) rs | refused reason ↦ [] ]
 
 abbrev pub caseOf : List ℕ → Case
-caseOf file =
-    pick (fittingLength (length file))
-    (cellsOf (stateOf (ending file)) file (answerNumbers (check file named)) (works start 0 (records file)))
-    (cellsOf start file (answerNumbers (check file named)) [])
+caseOf file = record {
+  file = file;
+  answer = answerNumbers (check file (lengthsOf nines));
+  tables = tablesAfter file nines;
+  work = pick (fittingLength (length file)) (works start 0 (records file)) [];
+  readout = readout file (lengthsOf nines);
+}
+
+-- ── The cases ──
 
 -- A: two resolutions to the empty clause, each with work 3.
 abbrev pub caseA : Case
 caseA = record {
-  file = fileOf
-      ((1, 1, []) ∷ (1, 1, []) ∷ (1, 0, [])
-      ∷ (3, 0, 2 ∷ []) ∷ (3, 1, 0 ∷ 0 ∷ []) ∷ (2, 0, 0 ∷ []) ∷ (3, 1, 1 ∷ 2 ∷ []) ∷ (3, 1, 0 ∷ 2 ∷ []) ∷ (3, 1, 0 ∷ 3 ∷ []) ∷ (3, 1, 1 ∷ 0 ∷ []) ∷ (3, 1, 0 ∷ 6 ∷ [])
-      ∷ (4, 1, 3 ∷ []) ∷ (4, 2, 8 ∷ 11 ∷ []) ∷ (4, 1, 14 ∷ [])
-      ∷ (5, 0, 0 ∷ 1 ∷ 1 ∷ 1 ∷ []) ∷ (5, 0, 3 ∷ 1 ∷ 2 ∷ 1 ∷ []) ∷ []);
+  file = fileBytes
+      (symbolOf 1 ∷ symbolOf 1 ∷ symbolOf 0
+      ∷ applicationRow 2 [] ∷ applicationRow 0 (0 ∷ []) ∷ variableRow 0 ∷ applicationRow 1 (2 ∷ [])
+      ∷ applicationRow 0 (2 ∷ []) ∷ applicationRow 0 (3 ∷ []) ∷ applicationRow 1 (0 ∷ []) ∷ applicationRow 0 (6 ∷ [])
+      ∷ inputClause (3 ∷ []) ∷ inputClause (8 ∷ 11 ∷ []) ∷ inputClause (14 ∷ [])
+      ∷ resolveStep 0 1 1 1 ∷ resolveStep 3 1 2 1 ∷ []);
   answer = 1 ∷ 4 ∷ 0 ∷ 3 ∷ 8 ∷ 5 ∷ 1 ∷ [];
-  symbols = 0 ∷ 1 ∷ 2 ∷ [];
-  rows = 3 ∷ 4 ∷ 5 ∷ 6 ∷ 7 ∷ 8 ∷ 9 ∷ 10 ∷ [];
-  clauses = 11 ∷ 1 ∷ 1 ∷ 0 ∷ 0 ∷ 12 ∷ 2 ∷ 1 ∷ 0 ∷ 0 ∷ 13 ∷ 1 ∷ 1 ∷ 0 ∷ 0 ∷ 14 ∷ 1 ∷ 2 ∷ 0 ∷ 1 ∷ 15 ∷ 0 ∷ 3 ∷ 1 ∷ 0 ∷ [];
-  bindings = 2 ∷ 2 ∷ 0 ∷ 1 ∷ [];
+  tables = holding
+      (0 ∷ 1 ∷ 2 ∷ [])
+      (3 ∷ 4 ∷ 5 ∷ 6 ∷ 7 ∷ 8 ∷ 9 ∷ 10 ∷ [])
+      (11 ∷ 1 ∷ 1 ∷ 0 ∷ 0
+      ∷ 12 ∷ 2 ∷ 1 ∷ 0 ∷ 0
+      ∷ 13 ∷ 1 ∷ 1 ∷ 0 ∷ 0
+      ∷ 14 ∷ 1 ∷ 2 ∷ 0 ∷ 1
+      ∷ 15 ∷ 0 ∷ 3 ∷ 1 ∷ 0 ∷ [])
+      (2 ∷ 2 ∷ 0 ∷ 1 ∷ []);
   work = 3 ∷ 3 ∷ [];
+  readout = lines
+      ("accepted 4"
+      ∷ "0 1 +s0(s2)"
+      ∷ "1 1 -s0(v0.1) +s0(s1(v0.1))"
+      ∷ "2 1 -s0(s1(s2))"
+      ∷ "3 2 +s0(s1(s2))"
+      ∷ "4 3" ∷ []);
 }
 
 -- B: the empty file is open.
 abbrev pub caseB : Case
-caseB = record { file = []; answer = 0 ∷ 0 ∷ 0 ∷ 0 ∷ 0 ∷ 0 ∷ 0 ∷ []; symbols = []; rows = []; clauses = []; bindings = []; work = [] }
+caseB = record {
+  file = [];
+  answer = 0 ∷ 0 ∷ 0 ∷ 0 ∷ 0 ∷ 0 ∷ 0 ∷ [];
+  tables = holding [] [] [] [];
+  work = [];
+  readout = lines ("open" ∷ []);
+}
 
--- C: fifteen bytes.
+-- C: fifteen bytes are refused with 1, and the tables are untouched.
 abbrev pub caseC : Case
-caseC = record { file = replicate 15 0; answer = 2 ∷ 1 ∷ 0 ∷ 0 ∷ 0 ∷ 0 ∷ 0 ∷ []; symbols = []; rows = []; clauses = []; bindings = []; work = [] }
+caseC = record {
+  file = replicate 15 0;
+  answer = 2 ∷ 1 ∷ 0 ∷ 0 ∷ 0 ∷ 0 ∷ 0 ∷ [];
+  tables = nines;
+  work = [];
+  readout = lines ("refused 1 at 0" ∷ []);
+}
+
+-- 65,536 bytes pass the length test: the first record, of kind 0, is refused with 3. 65,552 bytes give 1.
+abbrev pub caseLongest : Case
+caseLongest = record {
+  file = replicate 65536 0;
+  answer = 2 ∷ 3 ∷ 0 ∷ 0 ∷ 0 ∷ 0 ∷ 0 ∷ [];
+  tables = holding [] [] [] [];
+  work = [];
+  readout = lines ("refused 3 at 0" ∷ []);
+}
+
+abbrev pub caseTooLong : Case
+caseTooLong = record {
+  file = replicate 65552 0;
+  answer = 2 ∷ 1 ∷ 0 ∷ 0 ∷ 0 ∷ 0 ∷ 0 ∷ [];
+  tables = nines;
+  work = [];
+  readout = lines ("refused 1 at 0" ∷ []);
+}
 
 -- D: +s0(v0,v0) with -s0(v1,s1(v1)): the variable occurs in its own value. A binding made before that is not left behind.
 abbrev pub caseD : Case
 caseD = record {
-  file = fileOf
-      ((1, 2, []) ∷ (1, 1, [])
-      ∷ (2, 0, 0 ∷ []) ∷ (2, 0, 1 ∷ []) ∷ (3, 2, 0 ∷ 0 ∷ 0 ∷ []) ∷ (3, 1, 1 ∷ 1 ∷ []) ∷ (3, 2, 0 ∷ 1 ∷ 3 ∷ [])
-      ∷ (4, 1, 5 ∷ []) ∷ (4, 1, 8 ∷ []) ∷ (5, 0, 0 ∷ 1 ∷ 1 ∷ 1 ∷ []) ∷ []);
+  file = fileBytes
+      (symbolOf 2 ∷ symbolOf 1
+      ∷ variableRow 0 ∷ variableRow 1 ∷ applicationRow 0 (0 ∷ 0 ∷ []) ∷ applicationRow 1 (1 ∷ []) ∷ applicationRow 0 (1 ∷ 3 ∷ [])
+      ∷ inputClause (5 ∷ []) ∷ inputClause (8 ∷ []) ∷ resolveStep 0 1 1 1 ∷ []);
   answer = 2 ∷ 11 ∷ 9 ∷ 2 ∷ 5 ∷ 2 ∷ 0 ∷ [];
-  symbols = 0 ∷ 1 ∷ [];
-  rows = 2 ∷ 3 ∷ 4 ∷ 5 ∷ 6 ∷ [];
-  clauses = 7 ∷ 1 ∷ 1 ∷ 0 ∷ 0 ∷ 8 ∷ 1 ∷ 1 ∷ 0 ∷ 0 ∷ [];
-  bindings = [];
+  tables = holding (0 ∷ 1 ∷ []) (2 ∷ 3 ∷ 4 ∷ 5 ∷ 6 ∷ []) (7 ∷ 1 ∷ 1 ∷ 0 ∷ 0 ∷ 8 ∷ 1 ∷ 1 ∷ 0 ∷ 0 ∷ []) [];
   work = [];
+  readout = lines ("refused 11 at 9" ∷ "0 1 +s0(v0.1,v0.1)" ∷ "1 1 -s0(v1.1,s1(v1.1))" ∷ []);
 }
 
 -- E: s2 against another constant.
 abbrev pub caseE : Case
 caseE = record {
-  file = fileOf
-      ((1, 1, []) ∷ (1, 1, []) ∷ (1, 0, []) ∷ (1, 0, [])
-      ∷ (3, 0, 2 ∷ []) ∷ (3, 0, 3 ∷ []) ∷ (3, 1, 0 ∷ 0 ∷ []) ∷ (3, 1, 0 ∷ 1 ∷ [])
-      ∷ (4, 1, 5 ∷ []) ∷ (4, 1, 6 ∷ []) ∷ (5, 0, 0 ∷ 1 ∷ 1 ∷ 1 ∷ []) ∷ []);
+  file = fileBytes
+      (symbolOf 1 ∷ symbolOf 1 ∷ symbolOf 0 ∷ symbolOf 0
+      ∷ applicationRow 2 [] ∷ applicationRow 3 [] ∷ applicationRow 0 (0 ∷ []) ∷ applicationRow 0 (1 ∷ [])
+      ∷ inputClause (5 ∷ []) ∷ inputClause (6 ∷ []) ∷ resolveStep 0 1 1 1 ∷ []);
   answer = 2 ∷ 10 ∷ 10 ∷ 4 ∷ 4 ∷ 2 ∷ 0 ∷ [];
-  symbols = 0 ∷ 1 ∷ 2 ∷ 3 ∷ [];
-  rows = 4 ∷ 5 ∷ 6 ∷ 7 ∷ [];
-  clauses = 8 ∷ 1 ∷ 1 ∷ 0 ∷ 0 ∷ 9 ∷ 1 ∷ 1 ∷ 0 ∷ 0 ∷ [];
-  bindings = [];
+  tables = holding (0 ∷ 1 ∷ 2 ∷ 3 ∷ []) (4 ∷ 5 ∷ 6 ∷ 7 ∷ []) (8 ∷ 1 ∷ 1 ∷ 0 ∷ 0 ∷ 9 ∷ 1 ∷ 1 ∷ 0 ∷ 0 ∷ []) [];
   work = [];
+  readout = lines ("refused 10 at 10" ∷ "0 1 +s0(s2)" ∷ "1 1 -s0(s3)" ∷ []);
 }
 
 -- F: +s0(v0,v1) +s0(v1,v0), keep 1, delete 2: stands with work 4, since the right side is followed before the occurrence test.
 abbrev pub caseF : Case
 caseF = record {
-  file = fileOf
-      ((1, 2, []) ∷ (2, 0, 0 ∷ []) ∷ (2, 0, 1 ∷ []) ∷ (3, 2, 0 ∷ 0 ∷ 1 ∷ []) ∷ (3, 2, 0 ∷ 1 ∷ 0 ∷ [])
-      ∷ (4, 2, 5 ∷ 7 ∷ []) ∷ (6, 0, 0 ∷ 1 ∷ 2 ∷ []) ∷ []);
+  file = fileBytes
+      (symbolOf 2 ∷ variableRow 0 ∷ variableRow 1 ∷ applicationRow 0 (0 ∷ 1 ∷ []) ∷ applicationRow 0 (1 ∷ 0 ∷ [])
+      ∷ inputClause (5 ∷ 7 ∷ []) ∷ factorStep 0 1 2 ∷ []);
   answer = 0 ∷ 0 ∷ 0 ∷ 1 ∷ 4 ∷ 2 ∷ 1 ∷ [];
-  symbols = 0 ∷ [];
-  rows = 1 ∷ 2 ∷ 3 ∷ 4 ∷ [];
-  clauses = 5 ∷ 2 ∷ 1 ∷ 0 ∷ 0 ∷ 6 ∷ 1 ∷ 1 ∷ 0 ∷ 1 ∷ [];
-  bindings = 0 ∷ 1 ∷ 1 ∷ 1 ∷ [];
+  tables = holding (0 ∷ []) (1 ∷ 2 ∷ 3 ∷ 4 ∷ []) (5 ∷ 2 ∷ 1 ∷ 0 ∷ 0 ∷ 6 ∷ 1 ∷ 1 ∷ 0 ∷ 1 ∷ []) (0 ∷ 1 ∷ 1 ∷ 1 ∷ []);
   work = 4 ∷ [];
+  readout = lines ("open" ∷ "0 1 +s0(v0.1,v1.1) +s0(v1.1,v0.1)" ∷ "1 1 +s0(v1.1,v1.1)" ∷ []);
 }
 
 -- G: one input clause without literals is accepted, with maximum index 1; with a bad record after it the file is refused.
 abbrev pub caseG : Case
 caseG = record {
-  file = fileOf ((4, 0, []) ∷ []);
+  file = fileBytes (inputClause [] ∷ []);
   answer = 1 ∷ 0 ∷ 0 ∷ 0 ∷ 0 ∷ 1 ∷ 0 ∷ [];
-  symbols = [];
-  rows = [];
-  clauses = 0 ∷ 0 ∷ 1 ∷ 0 ∷ 0 ∷ [];
-  bindings = [];
+  tables = holding [] [] (0 ∷ 0 ∷ 1 ∷ 0 ∷ 0 ∷ []) [];
   work = [];
+  readout = lines ("accepted 0" ∷ "0 1" ∷ []);
 }
 
 abbrev pub caseGBad : Case
 caseGBad = record {
-  file = fileOf ((4, 0, []) ∷ (7, 0, []) ∷ []);
+  file = fileBytes (inputClause [] ∷ recordOf 7 0 [] ∷ []);
   answer = 2 ∷ 3 ∷ 1 ∷ 0 ∷ 0 ∷ 1 ∷ 0 ∷ [];
-  symbols = [];
-  rows = [];
-  clauses = 0 ∷ 0 ∷ 1 ∷ 0 ∷ 0 ∷ [];
-  bindings = [];
+  tables = holding [] [] (0 ∷ 0 ∷ 1 ∷ 0 ∷ 0 ∷ []) [];
   work = [];
+  readout = lines ("refused 3 at 1" ∷ "0 1" ∷ []);
 }
 
 -- H: a step that names literal 0.
 abbrev pub caseH : Case
 caseH = record {
-  file = fileOf ((1, 0, []) ∷ (3, 0, 0 ∷ []) ∷ (4, 1, 1 ∷ []) ∷ (4, 1, 0 ∷ []) ∷ (5, 0, 0 ∷ 0 ∷ 1 ∷ 1 ∷ []) ∷ []);
+  file = fileBytes (symbolOf 0 ∷ applicationRow 0 [] ∷ inputClause (1 ∷ []) ∷ inputClause (0 ∷ []) ∷ resolveStep 0 0 1 1 ∷ []);
   answer = 2 ∷ 5 ∷ 4 ∷ 1 ∷ 1 ∷ 2 ∷ 0 ∷ [];
-  symbols = 0 ∷ [];
-  rows = 1 ∷ [];
-  clauses = 2 ∷ 1 ∷ 1 ∷ 0 ∷ 0 ∷ 3 ∷ 1 ∷ 1 ∷ 0 ∷ 0 ∷ [];
-  bindings = [];
+  tables = holding (0 ∷ []) (1 ∷ []) (2 ∷ 1 ∷ 1 ∷ 0 ∷ 0 ∷ 3 ∷ 1 ∷ 1 ∷ 0 ∷ 0 ∷ []) [];
   work = [];
+  readout = lines ("refused 5 at 4" ∷ "0 1 +s0" ∷ "1 1 -s0" ∷ []);
 }
 
 -- I: a literal on a variable row.
 abbrev pub caseI : Case
 caseI = record {
-  file = fileOf ((2, 0, 0 ∷ []) ∷ (4, 1, 1 ∷ []) ∷ []);
+  file = fileBytes (variableRow 0 ∷ inputClause (1 ∷ []) ∷ []);
   answer = 2 ∷ 7 ∷ 1 ∷ 0 ∷ 1 ∷ 0 ∷ 0 ∷ [];
-  symbols = [];
-  rows = 0 ∷ [];
-  clauses = [];
-  bindings = [];
+  tables = holding [] (0 ∷ []) [] [];
   work = [];
+  readout = lines ("refused 7 at 1" ∷ []);
 }
 
 -- J: v0 declared twice.
 abbrev pub caseJ : Case
 caseJ = record {
-  file = fileOf ((2, 0, 0 ∷ []) ∷ (2, 0, 0 ∷ []) ∷ []);
+  file = fileBytes (variableRow 0 ∷ variableRow 0 ∷ []);
   answer = 2 ∷ 6 ∷ 1 ∷ 0 ∷ 1 ∷ 0 ∷ 0 ∷ [];
-  symbols = [];
-  rows = 0 ∷ [];
-  clauses = [];
-  bindings = [];
+  tables = holding [] (0 ∷ []) [] [];
   work = [];
+  readout = lines ("refused 6 at 1" ∷ []);
+}
+
+-- K: -s0 +s0, 2 resolved with 1 on itself, and so on: twelve steps reach index 4,096, the thirteenth gives 9.
+abbrev pub caseK : Case
+caseK = record {
+  file = fileBytes (symbolOf 0 ∷ applicationRow 0 [] ∷ inputClause (0 ∷ 1 ∷ []) ∷ map (λ n. resolveStep n 2 n 1) (numbersFrom 0 13));
+  answer = 2 ∷ 9 ∷ 15 ∷ 1 ∷ 1 ∷ 13 ∷ 0 ∷ [];
+  tables = holding
+      (0 ∷ [])
+      (1 ∷ [])
+      (2 ∷ 2 ∷ 1 ∷ 0 ∷ 0 ∷ 3 ∷ 2 ∷ 2 ∷ 0 ∷ 0 ∷ 4 ∷ 2 ∷ 4 ∷ 0 ∷ 0 ∷ 5 ∷ 2 ∷ 8 ∷ 0 ∷ 0
+      ∷ 6 ∷ 2 ∷ 16 ∷ 0 ∷ 0 ∷ 7 ∷ 2 ∷ 32 ∷ 0 ∷ 0 ∷ 8 ∷ 2 ∷ 64 ∷ 0 ∷ 0 ∷ 9 ∷ 2 ∷ 128 ∷ 0 ∷ 0
+      ∷ 10 ∷ 2 ∷ 256 ∷ 0 ∷ 0 ∷ 11 ∷ 2 ∷ 512 ∷ 0 ∷ 0 ∷ 12 ∷ 2 ∷ 1024 ∷ 0 ∷ 0 ∷ 13 ∷ 2 ∷ 2048 ∷ 0 ∷ 0
+      ∷ 14 ∷ 2 ∷ 4096 ∷ 0 ∷ 0 ∷ [])
+      [];
+  work = replicate 12 1;
+  readout = lines
+      ("refused 9 at 15"
+      ∷ "0 1 -s0 +s0" ∷ "1 2 -s0 +s0" ∷ "2 4 -s0 +s0" ∷ "3 8 -s0 +s0" ∷ "4 16 -s0 +s0" ∷ "5 32 -s0 +s0" ∷ "6 64 -s0 +s0"
+      ∷ "7 128 -s0 +s0" ∷ "8 256 -s0 +s0" ∷ "9 512 -s0 +s0" ∷ "10 1024 -s0 +s0" ∷ "11 2048 -s0 +s0" ∷ "12 4096 -s0 +s0" ∷ []);
 }
 
 abbrev pub cases : List Case
-cases = caseA ∷ caseB ∷ caseC ∷ caseD ∷ caseE ∷ caseF ∷ caseG ∷ caseGBad ∷ caseH ∷ caseI ∷ caseJ ∷ []
+cases =
+    caseA ∷ caseB ∷ caseC ∷ caseLongest ∷ caseTooLong ∷ caseD ∷ caseE ∷ caseF ∷ caseG ∷ caseGBad ∷ caseH ∷ caseI ∷ caseJ ∷ caseK ∷ []
 
--- The marked cases: the definitions give what is written.
+-- The definitions give what is written.
 abbrev pub CasesHold : Type 0
 CasesHold = map (λ c. caseOf (c .file)) cases ≡ cases
 
--- B and C, by length: a file of 65,536 bytes passes the length test, and those of 15 and of 65,552 bytes are refused with 1.
+-- The lengths of C for every file and whatever tables: one of 65,536 bytes is never refused with 1, and those of 15 and of 65,552 bytes
+-- always are.
+abbrev pub refusedForLength : List ℕ
+refusedForLength = 2 ∷ 1 ∷ 0 ∷ 0 ∷ 0 ∷ 0 ∷ 0 ∷ []
+
 pub record LengthsHold : Type 0 where
   pub longest : (file : List ℕ) (tables : Tables) (k : ℕ) → length file ≡ 65536 → ¬ (check file (lengthsOf tables) .verdict ≡ refusal badLength k)
-  pub fifteen : (file : List ℕ) (lengths : Lengths) → length file ≡ 15 → check file lengths ≡ answerOf (refusal badLength 0) start
-  pub tooLong : (file : List ℕ) (lengths : Lengths) → length file ≡ 65552 → check file lengths ≡ answerOf (refusal badLength 0) start
-
--- The limits at their edges, each in one file: what is at the limit stands, and the last record, one past it, is refused.
-abbrev pub repeated : ℕ → (ℕ → ℕ × ℕ × List ℕ) → ℕ → List (ℕ × ℕ × List ℕ) → List (ℕ × ℕ × List ℕ)
-repeated zero f k rest = rest
-repeated (suc n) f k rest = f k ∷ repeated n f (suc k) rest
-
--- Maximum index: twelve doublings of -s0 +s0 reach 4,096; one more use makes 4,097. This is case K with a smaller last step.
-abbrev pub indexEdge : List ℕ
-indexEdge = fileOf
-    ((1, 0, []) ∷ (3, 0, 0 ∷ []) ∷ (4, 2, 0 ∷ 1 ∷ [])
-    ∷ repeated 12 (λ n. (5, 0, n ∷ 2 ∷ n ∷ 1 ∷ [])) 0 ((5, 0, 12 ∷ 2 ∷ 0 ∷ 1 ∷ []) ∷ []))
-
--- Literals: twenty-four resolutions of seven literals reach 127, and one of three reaches 128; one more makes 129.
-abbrev pub literalEdge : List ℕ
-literalEdge = fileOf
-    ((1, 0, []) ∷ (3, 0, 0 ∷ []) ∷ (4, 3, 0 ∷ 1 ∷ 1 ∷ []) ∷ (4, 7, 0 ∷ 1 ∷ 1 ∷ 1 ∷ 1 ∷ 1 ∷ 1 ∷ [])
-    ∷ repeated 24 (λ n. (5, 0, n ∷ 2 ∷ 1 ∷ 1 ∷ [])) 1 ((5, 0, 25 ∷ 2 ∷ 0 ∷ 1 ∷ []) ∷ (5, 0, 26 ∷ 2 ∷ 0 ∷ 1 ∷ []) ∷ []))
-
--- Work: an atom of 16,384 symbols against itself at another index takes as many pairs; one symbol more is one pair more.
-abbrev pub workEdge : List ℕ
-workEdge = fileOf
-    ((1, 2, []) ∷ (1, 0, []) ∷ (1, 1, []) ∷ (3, 0, 1 ∷ [])
-    ∷ repeated 13 (λ n. (3, 2, 0 ∷ n ∷ n ∷ [])) 0
-    ((3, 1, 2 ∷ 13 ∷ []) ∷ (3, 1, 2 ∷ 14 ∷ []) ∷ (4, 1, 29 ∷ []) ∷ (4, 1, 28 ∷ []) ∷ (4, 1, 31 ∷ []) ∷ (4, 1, 30 ∷ [])
-    ∷ (5, 0, 0 ∷ 1 ∷ 1 ∷ 1 ∷ []) ∷ (5, 0, 2 ∷ 1 ∷ 3 ∷ 1 ∷ []) ∷ []))
-
-abbrev pub EdgesHold : Type 0
-EdgesHold =
-    map (λ file. answerNumbers (check file named)) (indexEdge ∷ literalEdge ∷ workEdge ∷ [])
-    ≡ (2 ∷ 9 ∷ 15 ∷ 1 ∷ 1 ∷ 13 ∷ 0 ∷ []) ∷ (2 ∷ 9 ∷ 29 ∷ 1 ∷ 1 ∷ 27 ∷ 0 ∷ []) ∷ (2 ∷ 12 ∷ 24 ∷ 3 ∷ 16 ∷ 5 ∷ 0 ∷ []) ∷ []
+  pub fifteen : (file : List ℕ) (lengths : Lengths) → length file ≡ 15 → answerNumbers (check file lengths) ≡ refusedForLength
+  pub tooLong : (file : List ℕ) (lengths : Lengths) → length file ≡ 65552 → answerNumbers (check file lengths) ≡ refusedForLength

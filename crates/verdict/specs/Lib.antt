@@ -3,5 +3,8 @@ pub mod Refusal
 pub mod Step
 pub mod Verdict
 pub mod Tables
+pub mod Text
+pub mod Readout
 pub mod Demands
 pub mod Cases
+pub mod Edges

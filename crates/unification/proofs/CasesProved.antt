@@ -1,0 +1,20 @@
+-- Case L, cases D and F, and the limits on work and bindings, by computing.
+use mathlib.Core.Path.{refl}
+use Rattle.unification.specs.Cases.{CaseL, UnificationsHold}
+use Rattle.unification.specs.Unification.{mostWork, mostBindings, mostLinks, run}
+
+pub case-l : CaseL
+unfolding run mostWork mostLinks mostBindings
+case-l = record { before = refl; unifies = refl; after = refl; afterInPrint = refl }
+
+pub unifications-hold : UnificationsHold
+unfolding run mostWork mostLinks mostBindings
+unifications-hold = record {
+  caseF = refl;
+  caseD = refl;
+  twoVariables = refl;
+  lastBinding = refl;
+  noFurtherBinding = refl;
+  lastWork = refl;
+  noFurtherWork = refl;
+}

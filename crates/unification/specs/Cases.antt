@@ -1,0 +1,104 @@
+-- Document 01, "Case sheet": case L, the example of document 000, section 4, given to the definition of unification; cases D and F as
+-- unification sees them; and the edges of the limits on work and bindings.
+use mathlib.Core.Path.{_≡_}
+use mathlib.Core.Option.{none, some}
+use mathlib.Core.List.{List, [], _∷_, map}
+use Prim.Native.Nat.{ℕ, zero, suc, _-_}
+use Rattle.unification.specs.Environment.{Binding, Environment, extend}
+use Rattle.unification.specs.Row.{variable, Row, application, Expression, Variable, rowAt, termAt, writtenOut}
+use Rattle.unification.specs.Term.{Term, var, app, nil, cons}
+use Rattle.unification.specs.Unification.{unify, mostWork, occurs, overwork, full, unified, failed}
+
+abbrev pub noBindings : Environment
+noBindings x = none
+
+-- ── Case L ──
+
+-- The symbols P, f, g have the numbers 0, 1, 2, and the variables x, y, z those of their rows. Terms as document 000 writes them:
+abbrev pub x : ℕ → Term Variable
+x index = var (0, index)
+
+abbrev pub y : ℕ → Term Variable
+y index = var (1, index)
+
+abbrev pub P : Term Variable → Term Variable → Term Variable
+P s t = app 0 (cons s (cons t nil))
+
+abbrev pub f : Term Variable → Term Variable → Term Variable
+f s t = app 1 (cons s (cons t nil))
+
+abbrev pub g : Term Variable → Term Variable
+g t = app 2 (cons t nil)
+
+-- Rows 7 to 0, newest first: (g y), (f x y), (P (g x) z), (g x), (P x y), z, y, x.
+abbrev pub exampleRows : List Row
+exampleRows =
+    application 2 (1 ∷ []) ∷ application 1 (0 ∷ 1 ∷ []) ∷ application 0 (4 ∷ 2 ∷ []) ∷ application 2 (0 ∷ []) ∷ application 0 (0 ∷ 1 ∷ [])
+    ∷ variable 2 ∷ variable 1 ∷ variable 0 ∷ []
+
+-- TERM1,2 is (P x y) at index 2, and TERM2,7 is (P (g x) z) at index 7.
+abbrev pub expressions : List Expression
+expressions = (3, 2) ∷ (5, 7) ∷ []
+
+-- BNDEV, the six bindings printed: x,2 to x,3; y,2 to (f x y),4; y,4 to x,3; z,7 to (f x y),8; x,8 to x,7; y,8 to (g y),5.
+abbrev pub printed : List Binding
+printed =
+    ((0, 2), (0, 3)) ∷ ((1, 2), (6, 4)) ∷ ((1, 4), (0, 3)) ∷ ((2, 7), (6, 8)) ∷ ((0, 8), (0, 7)) ∷ ((1, 8), (7, 5)) ∷ []
+
+-- What unification adds here, newest first: x,7 to y,5; x,4 to x,7; x,3 to (g x),7. The paper's own are x,4 to y,5; x,7 to x,4; x,3 to
+-- (g x),7.
+abbrev pub added : List Binding
+added = ((0, 7), (1, 5)) ∷ ((0, 4), (0, 7)) ∷ ((0, 3), (4, 7)) ∷ []
+
+abbrev pub addedInPrint : List Binding
+addedInPrint = ((0, 4), (1, 5)) ∷ ((0, 7), (0, 4)) ∷ ((0, 3), (4, 7)) ∷ []
+
+-- Values as document 000, section 3, has them: a variable that is not bound is its own value, and one that is bound has the value of what
+-- it is bound to. No more than nine bindings are ever met one within another, as there are no more.
+abbrev pub valueOf : ℕ → Environment → Variable → Term Variable
+valueOf zero ρ v = var v
+valueOf (suc n) ρ v = elim (ρ v) [ none ↦ var v | some e ↦ writtenOut (termAt exampleRows) (valueOf n ρ) e ]
+
+abbrev pub values : Environment → List (Term Variable)
+values ρ = map (writtenOut (termAt exampleRows) (valueOf 9 ρ)) expressions
+
+-- The value that both expressions have in the end.
+abbrev pub common : Term Variable
+common = P (g (y 5)) (f (y 5) (g (y 5)))
+
+pub record CaseL : Type 0 where
+  pub before : values (extend noBindings printed) ≡ P (x 3) (f (x 4) (x 3)) ∷ P (g (x 7)) (f (x 7) (g (y 5))) ∷ []
+  pub unifies : unify (rowAt exampleRows) 6 (extend noBindings printed) (3, 2) (5, 7) ≡ unified added (mostWork - 10)
+  pub after : values (extend (extend noBindings printed) added) ≡ common ∷ common ∷ []
+  pub afterInPrint : values (extend (extend noBindings printed) addedInPrint) ≡ common ∷ common ∷ []
+
+-- ── Cases D and F, and the limits ──
+
+-- Rows 6 to 0, newest first: s0(v1,s1(v1)), s1(v1), s0(v0,v0), s0(v1,v0), s0(v0,v1), v1, v0.
+abbrev pub pairRows : List Row
+pairRows =
+    application 0 (1 ∷ 5 ∷ []) ∷ application 1 (1 ∷ []) ∷ application 0 (0 ∷ 0 ∷ []) ∷ application 0 (1 ∷ 0 ∷ []) ∷ application 0 (0 ∷ 1 ∷ [])
+    ∷ variable 1 ∷ variable 0 ∷ []
+
+-- Row 13 is a full tree of 16,383 symbols over a constant; rows 14 and 15 have one and two symbols more.
+abbrev pub doubled : ℕ → Row
+doubled n = application 1 (n ∷ n ∷ [])
+
+abbrev pub treeRows : List Row
+treeRows =
+    application 2 (14 ∷ []) ∷ application 2 (13 ∷ []) ∷ doubled 12 ∷ doubled 11 ∷ doubled 10 ∷ doubled 9 ∷ doubled 8 ∷ doubled 7 ∷ doubled 6 ∷ doubled 5 ∷ doubled 4
+    ∷ doubled 3 ∷ doubled 2 ∷ doubled 1 ∷ doubled 0 ∷ application 0 [] ∷ []
+
+-- Each with what unification gives: new bindings and the work that is left, or why it fails.
+pub record UnificationsHold : Type 0 where
+  -- F: one binding, work 4; the right side is followed before the occurrence test. D: the variable occurs.
+  pub caseF : unify (rowAt pairRows) 0 noBindings (2, 1) (3, 1) ≡ unified (((0, 1), (1, 1)) ∷ []) (mostWork - 4)
+  pub caseD : unify (rowAt pairRows) 0 noBindings (4, 1) (6, 2) ≡ failed occurs
+  -- One number at two indices is two variables: v0 at 1 is bound to v0 at 2.
+  pub twoVariables : unify (rowAt pairRows) 0 noBindings (0, 1) (0, 2) ≡ unified (((0, 1), (0, 2)) ∷ []) (mostWork - 2)
+  -- The last binding that there is room for, and the first that there is not.
+  pub lastBinding : unify (rowAt pairRows) 8191 noBindings (0, 1) (1, 1) ≡ unified (((0, 1), (1, 1)) ∷ []) (mostWork - 2)
+  pub noFurtherBinding : unify (rowAt pairRows) 8192 noBindings (0, 1) (1, 1) ≡ failed full
+  -- All work is used up, and one pair more is too much.
+  pub lastWork : unify (rowAt treeRows) 0 noBindings (14, 1) (14, 2) ≡ unified [] 0
+  pub noFurtherWork : unify (rowAt treeRows) 0 noBindings (15, 1) (15, 2) ≡ failed overwork

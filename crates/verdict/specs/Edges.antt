@@ -1,0 +1,118 @@
+-- Edges of document 01's limits ("The file", "Verdict, tables and refusals", "The readout"): what is at a limit stands, and what is one
+-- past it is refused. The limit of bindings is in the crate unification.
+use mathlib.Core.Path.{_≡_}
+use mathlib.Core.Bool.{true}
+use mathlib.Core.List.{List, [], _∷_, _++_, map}
+use Prim.Native.Nat.{ℕ, zero, suc}
+use lib.ListN.{replicate}
+use Rattle.record.specs.Bytes.{fileBytes}
+use Rattle.record.specs.Record.{Record}
+use Rattle.unification.specs.Row.{variable, Row, Variable}
+use Rattle.unification.specs.Term.{Term, var, app, nil, cons}
+use Rattle.verdict.specs.Cases.{recordOf, symbolOf, variableRow, applicationRow, inputClause, resolveStep, numbersFrom, textBytes}
+use Rattle.verdict.specs.Tables.{Tables, lengthsOf, tablesAfter}
+use Rattle.verdict.specs.Text.{decimal, signText, termText, literalText}
+use Rattle.verdict.specs.Verdict.{check, answerNumbers, named}
+
+-- Records, and the seven numbers of the answer to the file that they make: 0 open, 1 accepted, 2 refused; clause or reason; record; the
+-- counts of symbols, rows, clauses, bindings.
+abbrev pub Answered : Type 0
+Answered = List Record × List ℕ
+
+abbrev pub answerTo : List Record → List ℕ
+answerTo rs = answerNumbers (check (fileBytes rs) named)
+
+-- Reason 4, "byte 1 or variable number out of its range": arity 6 and 7, variable 63 and 64, 6 and 7 arguments, 7 and 8 literals, and
+-- a byte 1 of kinds 2, 5 and 6, which is to be 0. With 0 there the two steps are refused with 5: they name nothing.
+abbrev pub ranges : List Answered
+ranges =
+    (symbolOf 6 ∷ [], 0 ∷ 0 ∷ 0 ∷ 1 ∷ 0 ∷ 0 ∷ 0 ∷ [])
+    ∷ (symbolOf 7 ∷ [], 2 ∷ 4 ∷ 0 ∷ 0 ∷ 0 ∷ 0 ∷ 0 ∷ [])
+    ∷ (variableRow 63 ∷ [], 0 ∷ 0 ∷ 0 ∷ 0 ∷ 1 ∷ 0 ∷ 0 ∷ [])
+    ∷ (variableRow 64 ∷ [], 2 ∷ 4 ∷ 0 ∷ 0 ∷ 0 ∷ 0 ∷ 0 ∷ [])
+    ∷ (symbolOf 6 ∷ variableRow 0 ∷ applicationRow 0 (replicate 6 0) ∷ [], 0 ∷ 0 ∷ 0 ∷ 1 ∷ 2 ∷ 0 ∷ 0 ∷ [])
+    ∷ (symbolOf 6 ∷ variableRow 0 ∷ applicationRow 0 (replicate 7 0) ∷ [], 2 ∷ 4 ∷ 2 ∷ 1 ∷ 1 ∷ 0 ∷ 0 ∷ [])
+    ∷ (symbolOf 0 ∷ applicationRow 0 [] ∷ inputClause (replicate 7 1) ∷ [], 0 ∷ 0 ∷ 0 ∷ 1 ∷ 1 ∷ 1 ∷ 0 ∷ [])
+    ∷ (symbolOf 0 ∷ applicationRow 0 [] ∷ inputClause (replicate 8 1) ∷ [], 2 ∷ 4 ∷ 2 ∷ 1 ∷ 1 ∷ 0 ∷ 0 ∷ [])
+    ∷ (recordOf 2 1 [] ∷ [], 2 ∷ 4 ∷ 0 ∷ 0 ∷ 0 ∷ 0 ∷ 0 ∷ [])
+    ∷ (recordOf 5 0 [] ∷ [], 2 ∷ 5 ∷ 0 ∷ 0 ∷ 0 ∷ 0 ∷ 0 ∷ [])
+    ∷ (recordOf 5 1 [] ∷ [], 2 ∷ 4 ∷ 0 ∷ 0 ∷ 0 ∷ 0 ∷ 0 ∷ [])
+    ∷ (recordOf 6 0 [] ∷ [], 2 ∷ 5 ∷ 0 ∷ 0 ∷ 0 ∷ 0 ∷ 0 ∷ [])
+    ∷ (recordOf 6 1 [] ∷ [], 2 ∷ 4 ∷ 0 ∷ 0 ∷ 0 ∷ 0 ∷ 0 ∷ [])
+    ∷ []
+
+-- Reason 4, "an unused field not zero": of each kind the first unused field and the last, which is g.
+abbrev pub unusedFields : List Answered
+unusedFields =
+    (recordOf 1 6 (1 ∷ []) ∷ [], 2 ∷ 4 ∷ 0 ∷ 0 ∷ 0 ∷ 0 ∷ 0 ∷ [])
+    ∷ (recordOf 1 6 (replicate 6 0 ++ (1 ∷ [])) ∷ [], 2 ∷ 4 ∷ 0 ∷ 0 ∷ 0 ∷ 0 ∷ 0 ∷ [])
+    ∷ (recordOf 2 0 (63 ∷ 1 ∷ []) ∷ [], 2 ∷ 4 ∷ 0 ∷ 0 ∷ 0 ∷ 0 ∷ 0 ∷ [])
+    ∷ (recordOf 2 0 (63 ∷ 0 ∷ 0 ∷ 0 ∷ 0 ∷ 0 ∷ 1 ∷ []) ∷ [], 2 ∷ 4 ∷ 0 ∷ 0 ∷ 0 ∷ 0 ∷ 0 ∷ [])
+    ∷ (symbolOf 1 ∷ variableRow 0 ∷ recordOf 3 1 (0 ∷ 0 ∷ 1 ∷ []) ∷ [], 2 ∷ 4 ∷ 2 ∷ 1 ∷ 1 ∷ 0 ∷ 0 ∷ [])
+    ∷ (symbolOf 5 ∷ variableRow 0 ∷ recordOf 3 5 (0 ∷ 0 ∷ 0 ∷ 0 ∷ 0 ∷ 0 ∷ 1 ∷ []) ∷ [], 2 ∷ 4 ∷ 2 ∷ 1 ∷ 1 ∷ 0 ∷ 0 ∷ [])
+    ∷ (recordOf 4 0 (1 ∷ []) ∷ [], 2 ∷ 4 ∷ 0 ∷ 0 ∷ 0 ∷ 0 ∷ 0 ∷ [])
+    ∷ (symbolOf 0 ∷ applicationRow 0 [] ∷ recordOf 4 6 (replicate 7 1) ∷ [], 2 ∷ 4 ∷ 2 ∷ 1 ∷ 1 ∷ 0 ∷ 0 ∷ [])
+    ∷ (recordOf 5 0 (0 ∷ 0 ∷ 0 ∷ 0 ∷ 1 ∷ []) ∷ [], 2 ∷ 4 ∷ 0 ∷ 0 ∷ 0 ∷ 0 ∷ 0 ∷ [])
+    ∷ (recordOf 5 0 (0 ∷ 0 ∷ 0 ∷ 0 ∷ 0 ∷ 0 ∷ 1 ∷ []) ∷ [], 2 ∷ 4 ∷ 0 ∷ 0 ∷ 0 ∷ 0 ∷ 0 ∷ [])
+    ∷ (recordOf 6 0 (0 ∷ 0 ∷ 0 ∷ 1 ∷ []) ∷ [], 2 ∷ 4 ∷ 0 ∷ 0 ∷ 0 ∷ 0 ∷ 0 ∷ [])
+    ∷ (recordOf 6 0 (0 ∷ 0 ∷ 0 ∷ 0 ∷ 0 ∷ 0 ∷ 1 ∷ []) ∷ [], 2 ∷ 4 ∷ 0 ∷ 0 ∷ 0 ∷ 0 ∷ 0 ∷ [])
+    ∷ []
+
+-- Reason 9, maximum index: twelve doublings of -s0 +s0 reach 4,096; one more use makes 4,097.
+abbrev pub indexEdge : List Record
+indexEdge =
+    symbolOf 0 ∷ applicationRow 0 [] ∷ inputClause (0 ∷ 1 ∷ [])
+    ∷ (map (λ n. resolveStep n 2 n 1) (numbersFrom 0 12) ++ (resolveStep 12 2 0 1 ∷ []))
+
+-- Reason 9, literals: twenty-four resolutions of seven literals reach 127, and one of three reaches 128; one more makes 129.
+abbrev pub literalEdge : List Record
+literalEdge =
+    symbolOf 0 ∷ applicationRow 0 [] ∷ inputClause (0 ∷ 1 ∷ 1 ∷ []) ∷ inputClause (0 ∷ 1 ∷ 1 ∷ 1 ∷ 1 ∷ 1 ∷ 1 ∷ [])
+    ∷ (map (λ n. resolveStep n 2 1 1) (numbersFrom 1 24) ++ (resolveStep 25 2 0 1 ∷ resolveStep 26 2 0 1 ∷ []))
+
+-- Reason 12: an atom of 16,384 symbols against itself at another index takes as many pairs; one symbol more is one pair more.
+abbrev pub workEdge : List Record
+workEdge =
+    symbolOf 2 ∷ symbolOf 0 ∷ symbolOf 1 ∷ applicationRow 1 []
+    ∷ (map (λ n. applicationRow 0 (n ∷ n ∷ [])) (numbersFrom 0 13)
+    ++ (applicationRow 2 (13 ∷ []) ∷ applicationRow 2 (14 ∷ [])
+    ∷ inputClause (29 ∷ []) ∷ inputClause (28 ∷ []) ∷ inputClause (31 ∷ []) ∷ inputClause (30 ∷ [])
+    ∷ resolveStep 0 1 1 1 ∷ resolveStep 2 1 3 1 ∷ []))
+
+abbrev pub limits : List Answered
+limits =
+    (indexEdge, 2 ∷ 9 ∷ 15 ∷ 1 ∷ 1 ∷ 13 ∷ 0 ∷ [])
+    ∷ (literalEdge, 2 ∷ 9 ∷ 29 ∷ 1 ∷ 1 ∷ 27 ∷ 0 ∷ [])
+    ∷ (workEdge, 2 ∷ 12 ∷ 24 ∷ 3 ∷ 16 ∷ 5 ∷ 0 ∷ [])
+    ∷ []
+
+abbrev pub edges : List Answered
+edges = ranges ++ (unusedFields ++ limits)
+
+abbrev pub EdgesHold : Type 0
+EdgesHold = map (λ e. answerTo (e .0)) edges ≡ map (λ e. e .1) edges
+
+-- Reason 2: each table in turn is one cell too short, and all are untouched.
+abbrev pub eights : ℕ → ℕ → ℕ → ℕ → Tables
+eights symbols rows clauses bindings =
+    record { symbols = replicate symbols 8; rows = replicate rows 8; clauses = replicate clauses 8; bindings = replicate bindings 8 }
+
+abbrev pub shortTables : List Tables
+shortTables = eights 4095 4096 20480 32768 ∷ eights 4096 4095 20480 32768 ∷ eights 4096 4096 20479 32768 ∷ eights 4096 4096 20480 32767 ∷ []
+
+pub record ShortTablesHold : Type 0 where
+  pub answers : map (λ t. answerNumbers (check [] (lengthsOf t))) shortTables ≡ replicate 4 (2 ∷ 2 ∷ 0 ∷ 0 ∷ 0 ∷ 0 ∷ 0 ∷ [])
+  pub untouched : map (tablesAfter []) shortTables ≡ shortTables
+
+-- The readout: digits in their order, and a term of 64 occurrences, which is written out, and of 65, which is `~`.
+abbrev pub nested : ℕ → Term Variable
+nested zero = var (0, 1)
+nested (suc n) = app 0 (cons (nested n) nil)
+
+abbrev pub oneVariable : ℕ → Row
+oneVariable r = variable 0
+
+pub record TextsHold : Type 0 where
+  pub digits : map decimal (0 ∷ 9 ∷ 10 ∷ 65535 ∷ []) ≡ map textBytes ("0" ∷ "9" ∷ "10" ∷ "65535" ∷ [])
+  pub occurrences64 : literalText oneVariable (true, nested 63) ≡ signText true ∷ termText oneVariable (nested 63)
+  pub occurrences65 : literalText oneVariable (true, nested 64) ≡ textBytes "+~"
