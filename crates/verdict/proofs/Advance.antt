@@ -12,7 +12,7 @@ use Rattle.record.specs.Record.{Record, records, recordCount, recordPart, count
 use Rattle.record.proofs.Records.{records-length, record-numbered}
 use Rattle.unification.specs.Row.{variable, Row, application}
 use Rattle.unification.proofs.Lists.{Each}
-use Rattle.unification.proofs.Tests.{to-T, both-true, true-not-false}
+use Rattle.unification.proofs.Tests.{to-T, both-true}
 use Rattle.derivation.specs.Derivation.{input, inputLiterals, Derivation, resolve, factor}
 use Rattle.verdict.specs.Refusal.{tests, Reason, kindOfRecord, zeros, argumentRows, leftOf, rightOf, deletedOf, differsFromAll}
 use Rattle.verdict.specs.State.{State, start, withRow, withClause, rowsOf, derivations, nextClause}
@@ -123,7 +123,7 @@ module _ (F : List ℕ) (k : ℕ) (S : State) (H : Standing F k S) (l : k < reco
         let s = named-stands _ (leftOf S rec) (deletedOf S rec) T z in
         let c = clause-added S k (factor (nextClause S) (s .0 .0) (fieldB rec) (fieldC rec)) (unifyFactor S (s .0) (s .1)) T (s .4) in
         clause-more (factor (nextClause S) (s .0 .0) (fieldB rec) (fieldC rec) (c .0)) (c .3)
-    one-more otherKind a z = absurd (true-not-false (a .known) refl)
+    one-more otherKind a z = absurd a
 
     pub advance : Standing F (suc k) T
     advance =

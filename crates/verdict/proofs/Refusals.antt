@@ -45,26 +45,21 @@ by-number q l m f e = try f (ap reasonNumber e)
     try full z = omega arith
     try endless z = omega arith
 
-pub tests-not-unification : (S : State) (kind : Kind) (r : Record) → Each (λ (t : Bool × Reason). NotUnification (t .1)) (tests S kind r)
-tests-not-unification S kind r = (
-  by-number badKind (omega arith) (omega arith),
-  (
-    by-number outOfRange (omega arith) (omega arith),
-    (
-      by-number notThere (omega arith) (omega arith),
-      (
-        by-number repeatedRow (omega arith) (omega arith),
-        (by-number variableLiteral (omega arith) (omega arith), (by-number wrongSigns (omega arith) (omega arith), (by-number tooLarge (omega arith) (omega arith), tt))),
-      ),
-    ),
-  ),
-)
-
 abbrev Stated : Reason → Type 0
 Stated q = (3 ≤ reasonNumber q) × (reasonNumber q ≤ 13)
 
-tests-stated : (S : State) (kind : Kind) (r : Record) → Each (λ (t : Bool × Reason). Stated (t .1)) (tests S kind r)
-tests-stated S kind r = (omega arith, (omega arith, (omega arith, (omega arith, (omega arith, (omega arith, (omega arith, tt)))))))
+-- No test of a record gives a reason of unification; laws on the reasons of a kind's tests go by kind.
+early : (q : Reason) → reasonNumber q < 10 → 3 ≤ reasonNumber q → NotUnification q × Stated q
+early q l m = (by-number q l (omega arith), omega arith)
+
+pub tests-early : (S : State) (kind : Kind) (r : Record) → Each (λ (t : Bool × Reason). NotUnification (t .1) × Stated (t .1)) (tests S kind r)
+tests-early S symbolKind r = (early outOfRange (omega arith) (omega arith), tt)
+tests-early S variableKind r = (early outOfRange (omega arith) (omega arith), (early repeatedRow (omega arith) (omega arith), tt))
+tests-early S applicationKind r = (early outOfRange (omega arith) (omega arith), (early notThere (omega arith) (omega arith), (early repeatedRow (omega arith) (omega arith), tt)))
+tests-early S inputKind r = (early outOfRange (omega arith) (omega arith), (early notThere (omega arith) (omega arith), (early variableLiteral (omega arith) (omega arith), tt)))
+tests-early S resolveKind r = (early outOfRange (omega arith) (omega arith), (early notThere (omega arith) (omega arith), (early wrongSigns (omega arith) (omega arith), (early tooLarge (omega arith) (omega arith), tt))))
+tests-early S factorKind r = (early outOfRange (omega arith) (omega arith), (early notThere (omega arith) (omega arith), (early wrongSigns (omega arith) (omega arith), (early tooLarge (omega arith) (omega arith), tt))))
+tests-early S otherKind r = (early badKind (omega arith) (omega arith), tt)
 
 -- A failure of unification by its own number.
 failing-stated : (row : ℕ → Row) (links : ℕ) (isFull : List Binding → Bool) (ρ : Environment) (n : ℕ) (s : Task) (f : Failure) → Failing row links isFull ρ n s f → Stated (unification f)
@@ -74,14 +69,14 @@ failing-stated row links isFull ρ n s f (workDone a b) = omega arith
 failing-stated row links isFull ρ n s f (bindingsHeld a b c d) = omega arith
 
 pub due-stated : (S : State) (r : Record) (q : Reason) → Due S r q → (3 ≤ reasonNumber q) × (reasonNumber q ≤ 13)
-due-stated S r q (byTest {reason} f) = first-each Stated (tests S (kindOfRecord r) r) reason (tests-stated S (kindOfRecord r) r) f
+due-stated S r q (byTest {reason} f) = first-each (λ (p : Reason). NotUnification p × Stated p) (tests S (kindOfRecord r) r) reason (tests-early S (kindOfRecord r) r) f .1
 due-stated S r q (inResolve {x} {y} {f} a b c d e) = failing-stated (rowOf S) mostLinks (noRoom (held S)) (joined (maximumIndex (x .0)) (lookup (x .0)) (lookup (y .0))) mostWork (unifying [] ((x .1 .1, raise (maximumIndex (x .0)) (y .1 .1)) ∷ [])) f e
 due-stated S r q (inFactor {x} {y} {f} a b c d e) = failing-stated (rowOf S) mostLinks (noRoom (held S)) (lookup (x .0)) mostWork (unifying [] ((x .1 .1, y .1 .1) ∷ [])) f e
 
 stands-refused : {S : State} {q : Reason} → stands S ≡ refused q → ⊥
 stands-refused p = never-both (stands _) refl p
 
--- Which literals a step names whose tests have tests-passed.
+-- Which literals a step names whose tests have passed.
 named-both : (o p : Option (Derivation × Literal)) → (isThere o && isThere p) ≡ true → (x y : Derivation × Literal) × (o ≡ some x) × (p ≡ some y)
 named-both o p q =
     let b = both-true (isThere o) (isThere p) q in
@@ -148,7 +143,7 @@ module _ (S : State) (H : StateOk 4096 S) (k : ℕ) (r : Record) where
   refused-no-unifier Y f z c = try (all-refused (tests S (kindOfRecord r) r) (enter S k (kindOfRecord r) r) (unification f) z)
     where
       try : FirstFailing (tests S (kindOfRecord r) r) (unification f) ⊎ (AllPass (tests S (kindOfRecord r) r) × (enter S k (kindOfRecord r) r ≡ refused (unification f))) → (s t : Term Variable) × StepAtoms S r s t × NoUnifier Y s t
-      try (inl g) = absurd (first-each NotUnification (tests S (kindOfRecord r) r) (unification f) (tests-not-unification S (kindOfRecord r) r) g f refl)
+      try (inl g) = absurd (first-each (λ (p : Reason). NotUnification p × Stated p) (tests S (kindOfRecord r) r) (unification f) (tests-early S (kindOfRecord r) r) g .0 f refl)
       try (inr a) =
           let b = by-unification S k r (kindOfRecord r) (unification f) refl (a .0) (a .1) in
           atoms-apart Y f c (subst (ByUnification S r) (unification-injective (b .1)) (b .2))

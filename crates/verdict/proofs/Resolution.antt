@@ -5,7 +5,6 @@ use mathlib.Core.Bool.{Bool, true, false, not}
 use mathlib.Core.Option.{some}
 use mathlib.Core.List.{List}
 use Prim.Native.Nat.{ℕ}
-use lib.Dec.{T}
 use lib.ListN.{length}
 use Rattle.record.specs.Record.{Record, Kind, resolveKind, factorKind, fieldA, fieldB, fieldC, fieldD}
 use Rattle.unification.specs.Environment.{Binding}
@@ -18,7 +17,7 @@ use Rattle.derivation.specs.Derivation.{literals, Literal, Derivation, resolve,
 use Rattle.derivation.specs.Written.{substitution, renamed}
 use Rattle.derivation.proofs.Resolvents.{no-resolvent, is-resolvent, no-factor, is-factor, standardized-apart}
 use Rattle.verdict.specs.Demands.{atomOf, StepAtoms, ofResolve, ofFactor, ResolventAdded, FactorAdded, StandsOrLimit, itStands, resultTooLarge, workAllDone, bindingsAllHeld}
-use Rattle.verdict.specs.Refusal.{tests, Reason, badKind, outOfRange, notThere, repeatedRow, variableLiteral, wrongSigns, tooLarge, kindOfRecord, knownKind, inRange, leftOf, rightOf, deletedOf, allThere, isNew, onApplications, fittingSigns, withinLimits}
+use Rattle.verdict.specs.Refusal.{tests, Reason, outOfRange, notThere, wrongSigns, tooLarge, kindOfRecord, inRange, leftOf, rightOf, deletedOf, bothThere, fittingSigns, resolventFits, factorFits}
 use Rattle.verdict.specs.State.{State, rowOf, termOf, held, nextClause}
 use Rattle.verdict.specs.Step.{stands, refused, Result, require, requireAll, step, addClause, unifyResolve, unifyFactor, enter}
 use Rattle.verdict.proofs.Inversions.{tests-passed, all-stand, named-stands, literal-named, clause-added}
@@ -117,7 +116,7 @@ module _ (S : State) (H : StateOk 4096 S) (k : ℕ) (r : Record) where
       subst (ChainsAfter 4096 S H (lookup (x .0))) f
       (factor-chains 4096 S H x y (order-of 4096 S H (fieldA r) (x .0) (l .0)) (fieldB r) (fieldC r) (l .1) n)
 
-  -- The seven tests one after the other.
+  -- The tests one after the other.
   require-true : (b : Bool) (q : Reason) (next : Result) → b ≡ true → require b q next ≡ next
   unfolding require
   require-true true q next e = refl
@@ -129,17 +128,14 @@ module _ (S : State) (H : StateOk 4096 S) (k : ℕ) (r : Record) where
   require-false false q next e = refl
 
   -- A step whose tests but the last hold.
-  to-limits : (kind : Kind) → knownKind kind ≡ true → inRange kind r ≡ true → allThere S kind r ≡ true → isNew S kind r ≡ true → onApplications S kind r ≡ true → fittingSigns S kind r ≡ true
-      → requireAll (tests S kind r) (enter S k kind r) ≡ require (withinLimits S kind r) tooLarge (enter S k kind r)
-  to-limits kind a b c d e f =
-      require-true (knownKind kind) badKind _ a ∙ require-true (inRange kind r) outOfRange _ b ∙ require-true (allThere S kind r) notThere _ c
-      ∙ require-true (isNew S kind r) repeatedRow _ d ∙ require-true (onApplications S kind r) variableLiteral _ e ∙ require-true (fittingSigns S kind r) wrongSigns _ f
+  to-limits : (a b c d : Bool) (next : Result) → a ≡ true → b ≡ true → c ≡ true → require a outOfRange (require b notThere (require c wrongSigns (require d tooLarge next))) ≡ require d tooLarge next
+  to-limits a b c d next p q s = require-true a outOfRange _ p ∙ require-true b notThere _ q ∙ require-true c wrongSigns _ s
 
   -- From the outcome of unification to the result of the step.
-  outcome : (kind : Kind) (clause : List Binding → Derivation) (o : Outcome) → step S k r ≡ require (withinLimits S kind r) tooLarge (addClause S k clause o)
+  outcome : (fits : Bool) (clause : List Binding → Derivation) (o : Outcome) → step S k r ≡ require fits tooLarge (addClause S k clause o)
       → ¬ (o ≡ failed clash) → ¬ (o ≡ failed occurs) → ¬ (o ≡ failed endless) → StandsOrLimit S k r
   unfolding addClause
-  outcome kind clause o e c u n = limits (withinLimits S kind r) refl
+  outcome fits clause o e c u n = limits fits refl
     where
       ends : (o : Outcome) → ¬ (o ≡ failed clash) → ¬ (o ≡ failed occurs) → ¬ (o ≡ failed endless) → step S k r ≡ addClause S k clause o → StandsOrLimit S k r
       ends (unified bs m) c u n z = itStands z
@@ -149,20 +145,20 @@ module _ (S : State) (H : StateOk 4096 S) (k : ℕ) (r : Record) where
       ends (failed full) c u n z = bindingsAllHeld z
       ends (failed endless) c u n z = absurd (n refl)
 
-      limits : (b : Bool) → withinLimits S kind r ≡ b → StandsOrLimit S k r
-      limits true q = ends o c u n (e ∙ require-true (withinLimits S kind r) tooLarge (addClause S k clause o) q)
-      limits false q = resultTooLarge (e ∙ require-false (withinLimits S kind r) tooLarge (addClause S k clause o) q)
+      limits : (b : Bool) → fits ≡ b → StandsOrLimit S k r
+      limits true q = ends o c u n (e ∙ require-true fits tooLarge (addClause S k clause o) q)
+      limits false q = resultTooLarge (e ∙ require-false fits tooLarge (addClause S k clause o) q)
 
   pub unifiable-stands : (Y : Type 0) → inRange (kindOfRecord r) r ≡ true → (s t : Term Variable) → StepAtoms S r s t → fittingSigns S (kindOfRecord r) r ≡ true → (τ : Variable → Term Y) → Unifies τ s t → StandsOrLimit S k r
   unifiable-stands Y range s t (ofResolve {x} {y} e p q) signs τ z =
       let f = subst (λ (kind : Kind). fittingSigns S kind r ≡ true) e signs in
       let g = signs-resolve S r x y p q f in
-      outcome resolveKind (resolve (nextClause S) (x .0) (fieldB r) (y .0) (fieldD r)) (unifyResolve S x y)
-      (at-kind S k r resolveKind e ∙ to-limits resolveKind refl (subst (λ (kind : Kind). inRange kind r ≡ true) e range) (rw (p, q)) refl refl f ∙ ap (require (withinLimits S resolveKind r) tooLarge) (enter-resolve S k r x y p q))
+      outcome (resolventFits S r) (resolve (nextClause S) (x .0) (fieldB r) (y .0) (fieldD r)) (unifyResolve S x y)
+      (at-kind S k r resolveKind e ∙ to-limits (inRange resolveKind r) (bothThere (leftOf S r) (rightOf S r)) (fittingSigns S resolveKind r) (resolventFits S r) _ (subst (λ (kind : Kind). inRange kind r ≡ true) e range) (rw (p, q)) f ∙ ap (require (resolventFits S r) tooLarge) (enter-resolve S k r x y p q))
       (λ w. resolve-no-unifier Y x y p q g (inl w) τ z) (λ w. resolve-no-unifier Y x y p q g (inr w) τ z) (resolve-not-endless x y p q)
   unifiable-stands Y range s t (ofFactor {x} {y} e p q) signs τ z =
       let f = subst (λ (kind : Kind). fittingSigns S kind r ≡ true) e signs in
       let g = signs-factor S r x y p q f .0 in
-      outcome factorKind (factor (nextClause S) (x .0) (fieldB r) (fieldC r)) (unifyFactor S x y)
-      (at-kind S k r factorKind e ∙ to-limits factorKind refl (subst (λ (kind : Kind). inRange kind r ≡ true) e range) (rw (p, q)) refl refl f ∙ ap (require (withinLimits S factorKind r) tooLarge) (enter-factor S k r x y p q))
+      outcome (factorFits S r) (factor (nextClause S) (x .0) (fieldB r) (fieldC r)) (unifyFactor S x y)
+      (at-kind S k r factorKind e ∙ to-limits (inRange factorKind r) (bothThere (leftOf S r) (deletedOf S r)) (fittingSigns S factorKind r) (factorFits S r) _ (subst (λ (kind : Kind). inRange kind r ≡ true) e range) (rw (p, q)) f ∙ ap (require (factorFits S r) tooLarge) (enter-factor S k r x y p q))
       (λ w. factor-no-unifier Y x y p q g (inl w) τ z) (λ w. factor-no-unifier Y x y p q g (inr w) τ z) (factor-not-endless x y p q)
