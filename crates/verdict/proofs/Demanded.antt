@@ -7,7 +7,6 @@ use mathlib.Core.List.{List, []}
 use Prim.Native.Nat.{ℕ, _≤_, _<_}
 use native.Mathlib.Nat.{zero-add}
 use native.Mathlib.Omega.{arith}
-use lib.Dec.{T}
 use lib.ListN.{length, take, drop}
 use Rattle.record.specs.Record.{Record, records}
 use Rattle.unification.specs.Unification.{mostLinks}
@@ -24,9 +23,9 @@ use Rattle.verdict.specs.Refusal.{Reason, badLength, shortTable, reasonN
 use Rattle.verdict.specs.State.{State, start, rowsOf, derivations, arityOf, clauseOf, rowOf, termOf, held}
 use Rattle.verdict.specs.Step.{refused, step, read, Ending, allStand, refusedAt, stateOf}
 use Rattle.verdict.specs.Tables.{Tables, lengthsOf, filledTables, tablesAfter}
-use Rattle.verdict.specs.Verdict.{refusal, check, accepted, undecided, Answer, firstEmpty, standing, verdictOf, answerOf, Lengths, longEnough, fittingLength, ending}
+use Rattle.verdict.specs.Verdict.{refusal, check, accepted, undecided, Answer, firstEmpty, standing, everyClause, verdictOf, answerOf, Lengths, longEnough, fittingLength, ending, Stands}
 use Rattle.verdict.proofs.Acceptance.{first-lowest, some-first, index-cell}
-use Rattle.verdict.proofs.Reading.{read-refused, reached-ok, ending-ok, term-of-row, one-arity}
+use Rattle.verdict.proofs.Reading.{read-refused, reached-ok, ending-ok, stands-ok, term-of-row, one-arity}
 use Rattle.verdict.proofs.Refusals.{due-stated, refused-due, refused-no-unifier}
 use Rattle.verdict.proofs.Resolution.{resolvent-added, factor-added, unifiable-stands}
 use Rattle.verdict.proofs.Standing.{below, StateOk, order-of, inputs-of, known-of, held-links}
@@ -88,7 +87,7 @@ module _ (file : List ℕ) (tables : Tables) where
 
   found : (e : Ending) → ending file ≡ e → (q : Reason) (k : ℕ) → verdictOf e ≡ refusal q k → Found q k
   unfolding ending
-  found (allStand S) p q k z = absurd (open-or-accepted (firstEmpty (derivations S)) z)
+  found (allStand S) p q k z = absurd (open-or-accepted (firstEmpty everyClause (derivations S)) z)
     where
       open-or-accepted : (o : Option ℕ) → standing o ≡ refusal q k → ⊥
       open-or-accepted none z = undecided-not-refusal z
@@ -144,33 +143,33 @@ module _ (file : List ℕ) (tables : Tables) where
   stated q k (ofTables f l) = omega arith
   stated q j (ofRecord {reason} {k} {S} {r} R D) = let d = due-stated S r reason D in omega arith
 
-  -- An accepted file: every record stands, and the clause is the lowest empty one.
-  accepted-ends : (n : ℕ) → check file (lengthsOf tables) .verdict ≡ accepted n → (fittingLength (length file) ≡ true) × ((S : State) × (ending file ≡ allStand S) × (firstEmpty (derivations S) ≡ some n))
+  -- An accepted file stands, and the clause is the lowest empty one.
+  accepted-ends : (n : ℕ) → check file (lengthsOf tables) .verdict ≡ accepted n → (longEnough (lengthsOf tables) ≡ true) × ((S : State) × Stands file S × (firstEmpty everyClause (derivations S) ≡ some n))
   accepted-ends n z = try (fittingLength (length file)) refl (longEnough lengths) refl
     where
-      stands-with : (e : Ending) → ending file ≡ e → verdictOf e ≡ accepted n → (S : State) × (ending file ≡ allStand S) × (firstEmpty (derivations S) ≡ some n)
-      stands-with (allStand S) p y = (S, p, which (firstEmpty (derivations S)) y)
+      stands-with : fittingLength (length file) ≡ true → (e : Ending) → ending file ≡ e → verdictOf e ≡ accepted n → (S : State) × Stands file S × (firstEmpty everyClause (derivations S) ≡ some n)
+      stands-with f (allStand S) p y = (S, record { fits = f; reads = p }, which (firstEmpty everyClause (derivations S)) y)
         where
           which : (o : Option ℕ) → standing o ≡ accepted n → o ≡ some n
           which none y = absurd (undecided-not-accepted y)
           which (some m) y = ap some (accepted-injective y)
-      stands-with (refusedAt S q k) p y = absurd (refusal-not-accepted y)
+      stands-with f (refusedAt S q k) p y = absurd (refusal-not-accepted y)
 
-      try : (b : Bool) → fittingLength (length file) ≡ b → (c : Bool) → longEnough (lengthsOf tables) ≡ c → (fittingLength (length file) ≡ true) × ((S : State) × (ending file ≡ allStand S) × (firstEmpty (derivations S) ≡ some n))
+      try : (b : Bool) → fittingLength (length file) ≡ b → (c : Bool) → longEnough (lengthsOf tables) ≡ c → (longEnough (lengthsOf tables) ≡ true) × ((S : State) × Stands file S × (firstEmpty everyClause (derivations S) ≡ some n))
       try false f c l = absurd (refusal-not-accepted (sym (ap (λ (a : Answer). a .verdict) (check-length f)) ∙ z))
       try true f false l = absurd (refusal-not-accepted (sym (ap (λ (a : Answer). a .verdict) (check-tables f l)) ∙ z))
-      try true f true l = (f, stands-with (ending file) refl (sym (ap (λ (a : Answer). a .verdict) (check-reads f l)) ∙ z))
+      try true f true l = (l, stands-with f (ending file) refl (sym (ap (λ (a : Answer). a .verdict) (check-reads f l)) ∙ z))
 
-  lowest-empty : (S : State) (n : ℕ) → firstEmpty (derivations S) ≡ some n → LowestEmpty S n
-  lowest-empty S n q =
-      let L = first-lowest (derivations S) n q in
-      record { clause = L .clause; isClause = L .isClause; empty = L .empty; lowest = L .lowest }
+  lowest-empty : (test : Derivation → Bool) (S : State) (n : ℕ) → firstEmpty test (derivations S) ≡ some n → LowestEmpty test S n
+  lowest-empty test S n q =
+      let L = first-lowest test (derivations S) n q in
+      record { clause = L .clause; isClause = L .isClause; passes = L .passes; empty = L .empty; lowest = L .lowest }
 
-  accepted-if : fittingLength (length file) ≡ true → longEnough (lengthsOf tables) ≡ true → (S : State) → ending file ≡ allStand S → (i : ℕ) (c : Derivation) → clauseOf S i ≡ some c → literals c ≡ []
+  accepted-if : longEnough (lengthsOf tables) ≡ true → (S : State) → Stands file S → (i : ℕ) (c : Derivation) → clauseOf S i ≡ some c → everyClause c ≡ true → literals c ≡ []
       → (n : ℕ) × (check file (lengthsOf tables) .verdict ≡ accepted n)
-  accepted-if f l S e i c p q =
-      let s = some-first (derivations S) i c p q in
-      (s .0, ap (λ (a : Answer). a .verdict) (check-reads f l) ∙ ap verdictOf e ∙ ap standing (s .1))
+  accepted-if l S st i c p t q =
+      let s = some-first everyClause (derivations S) i c p t q in
+      (s .0, ap (λ (a : Answer). a .verdict) (check-reads (st .fits) l) ∙ ap verdictOf (st .reads) ∙ ap standing (s .1))
 
   pub demand2 : (Y : Type 0) → Demand2 Y file tables
   demand2 Y = record {
@@ -186,7 +185,7 @@ module _ (file : List ℕ) (tables : Tables) where
     nothingLost = λ f k S r R range s t A signs τ u. unifiable-stands S (reached-ok file f k S r R) k r Y range s t A signs τ u;
     refusals = λ q k z. due-at q k (refused-by q k z);
     statedNumbers = λ q k z. stated q k (due-at q k (refused-by q k z));
-    acceptedOnly = λ n z. let a = accepted-ends n z .1 in (a .0, a .1, lowest-empty (a .0) n (a .2));
+    acceptedOnly = λ n z. let a = accepted-ends n z .1 in (a .0, a .1, lowest-empty everyClause (a .0) n (a .2));
     acceptedIf = accepted-if;
   }
 
@@ -198,9 +197,9 @@ module _ (file : List ℕ) (tables : Tables) where
         short-le (λ r. r < length (rowsOf (stateOf (ending file)))) (rowOf (stateOf (ending file))) (held (stateOf (ending file))) mostLinks (lookup c) (held-links 4096 (stateOf (ending file)) H) (O .chains) e l;
   }
 
-  refutation : (S : State) → StateOk 4096 S → (n : ℕ) → firstEmpty (derivations S) ≡ some n → Refutation S n
-  refutation S H n q =
-      let L = lowest-empty S n q in
+  refutation : (test : Derivation → Bool) (S : State) → StateOk 4096 S → (n : ℕ) → firstEmpty test (derivations S) ≡ some n → Refutation test S n
+  refutation test S H n q =
+      let L = lowest-empty test S n q in
       let c = L .clause in
       let O = order-of 4096 S H n c (L .isClause) in
       let law = term-of-row S H in
@@ -220,6 +219,6 @@ module _ (file : List ℕ) (tables : Tables) where
   pub demand3 : Demand3 file tables
   demand3 = record {
     refuted = λ n z.
-        let a = accepted-ends n z in
-        refutation (stateOf (ending file)) (ending-ok file (a .0)) n (ap (λ (e : Ending). firstEmpty (derivations (stateOf e))) (a .1 .1) ∙ a .1 .2);
+        let a = accepted-ends n z .1 in
+        (a .0, a .1, refutation everyClause (a .0) (stands-ok file (a .0) (a .1)) n (a .2));
   }

@@ -16,7 +16,7 @@ use Rattle.verdict.specs.Demands.{Reached}
 use Rattle.verdict.specs.Refusal.{Reason}
 use Rattle.verdict.specs.State.{arities, State, start, rowsOf, arityOf, rowOf, termOf}
 use Rattle.verdict.specs.Step.{stands, refused, Result, step, read, allStand, refusedAt, stateOf}
-use Rattle.verdict.specs.Verdict.{fittingLength, ending}
+use Rattle.verdict.specs.Verdict.{fittingLength, ending, Stands}
 use Rattle.verdict.proofs.Inversions.{entry-none}
 use Rattle.verdict.proofs.Standing.{StateOk, held-start}
 use Rattle.verdict.proofs.Steps.{step-ok}
@@ -109,6 +109,9 @@ module _ (file : List ℕ) (fit : fittingLength (length file) ≡ true) where
   pub ending-ok : StateOk 4096 (stateOf (ending file))
   unfolding ending
   ending-ok = state-more (0 + length (records file)) 4096 (stateOf (ending file)) (omega (arith, few-records)) (read-ok 0 start 0 (records file) (records-shaped file) start-ok)
+
+pub stands-ok : (file : List ℕ) (S : State) → Stands file S → StateOk 4096 S
+stands-ok file S st = subst (StateOk 4096) (ap stateOf (st .reads)) (ending-ok file (st .fits))
 
 -- A state in order: its terms, and one number of arguments for each symbol.
 module _ (S : State) (H : StateOk 4096 S) where

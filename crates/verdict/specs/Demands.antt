@@ -22,7 +22,7 @@ use Rattle.verdict.specs.Refusal.{tests, Reason, unification, badLength,
 use Rattle.verdict.specs.State.{State, start, withClause, entry, rowsOf, derivations, arityOf, clauseOf, rowOf, termOf, held}
 use Rattle.verdict.specs.Step.{stands, refused, step, read, allStand, stateOf}
 use Rattle.verdict.specs.Tables.{Tables, lengthsOf, clauseCells, filledTables, tablesAfter}
-use Rattle.verdict.specs.Verdict.{refusal, check, accepted, answerOf, longEnough, fittingLength, ending}
+use Rattle.verdict.specs.Verdict.{refusal, check, accepted, everyClause, answerOf, longEnough, fittingLength, ending, Stands}
 
 -- ── Demand 1: an honest verdict on every file ──
 -- That the program ends, stays inside what it was lent and answers by `check` and `tablesAfter` is its contract. Here: what these say
@@ -120,12 +120,13 @@ pub data DueAt (file : List ℕ) (tables : Tables) : Reason → ℕ → Type 0 w
   ofTables : fittingLength (length file) ≡ true → longEnough (lengthsOf tables) ≡ false → DueAt file tables shortTable 0
   ofRecord : {reason : Reason} {k : ℕ} {S : State} {r : Record} → Reached file k S r → Due S r reason → DueAt file tables reason k
 
--- (e) Clause n is empty, and no clause with a lower number is.
-pub record LowestEmpty (S : State) (n : ℕ) : Type 0 where
+-- (e) Clause n is empty, and no clause with a lower number is. Only clauses whose derivation passes the test count.
+pub record LowestEmpty (test : Derivation → Bool) (S : State) (n : ℕ) : Type 0 where
   pub clause : Derivation
   pub isClause : clauseOf S n ≡ some clause
+  pub passes : test clause ≡ true
   pub empty : literals clause ≡ []
-  pub lowest : (i : ℕ) (c : Derivation) → i < n → clauseOf S i ≡ some c → ¬ (literals c ≡ [])
+  pub lowest : (i : ℕ) (c : Derivation) → i < n → clauseOf S i ≡ some c → test c ≡ true → ¬ (literals c ≡ [])
 
 -- Unifiers have values that are terms over Y; the textbook's own are those with Y = Variable. It is proved for every Y.
 pub record Demand2 (Y : Type 0) (file : List ℕ) (tables : Tables) : Type 0 where
@@ -146,8 +147,8 @@ pub record Demand2 (Y : Type 0) (file : List ℕ) (tables : Tables) : Type 0 whe
   pub refusals : (reason : Reason) (k : ℕ) → check file (lengthsOf tables) .verdict ≡ refusal reason k → DueAt file tables reason k
   pub statedNumbers : (reason : Reason) (k : ℕ) → check file (lengthsOf tables) .verdict ≡ refusal reason k → (1 ≤ reasonNumber reason) × (reasonNumber reason ≤ 13)
   -- (e)
-  pub acceptedOnly : (n : ℕ) → check file (lengthsOf tables) .verdict ≡ accepted n → (S : State) × (ending file ≡ allStand S) × LowestEmpty S n
-  pub acceptedIf : fittingLength (length file) ≡ true → longEnough (lengthsOf tables) ≡ true → (S : State) → ending file ≡ allStand S → (i : ℕ) (c : Derivation) → clauseOf S i ≡ some c → literals c ≡ []
+  pub acceptedOnly : (n : ℕ) → check file (lengthsOf tables) .verdict ≡ accepted n → (S : State) × Stands file S × LowestEmpty everyClause S n
+  pub acceptedIf : longEnough (lengthsOf tables) ≡ true → (S : State) → Stands file S → (i : ℕ) (c : Derivation) → clauseOf S i ≡ some c → everyClause c ≡ true → literals c ≡ []
       → (n : ℕ) × (check file (lengthsOf tables) .verdict ≡ accepted n)
 
 -- Following an expression over rows that exist ends, in every clause that stands.
@@ -162,8 +163,8 @@ abbrev pub InputsOf : List Derivation → List Use → Type 0
 InputsOf cs [] = Unit {0}
 InputsOf cs (u ∷ us) = (entry cs (u .0) ≡ some (input (u .0) (u .1))) × InputsOf cs us
 
-pub record Refutation (S : State) (n : ℕ) : Type 0 where
-  pub first : LowestEmpty S n
+pub record Refutation (test : Derivation → Bool) (S : State) (n : ℕ) : Type 0 where
+  pub first : LowestEmpty test S n
   -- m, the number of uses, is the maximum index, and the check leaves it in its table as such.
   pub inputs : InputsOf (derivations S) (uses (first .clause))
   pub count : length (uses (first .clause)) ≡ maximumIndex (first .clause)
@@ -176,4 +177,4 @@ pub record Refutation (S : State) (n : ℕ) : Type 0 where
   pub unsatisfiable : (A : Assignment) → ¬ AllTrue A (instances (termOf S) (valueIn (termOf S) (first .clause)) 1 (uses (first .clause)))
 
 pub record Demand3 (file : List ℕ) (tables : Tables) : Type 0 where
-  pub refuted : (n : ℕ) → check file (lengthsOf tables) .verdict ≡ accepted n → Refutation (stateOf (ending file)) n
+  pub refuted : (n : ℕ) → check file (lengthsOf tables) .verdict ≡ accepted n → (S : State) × Stands file S × Refutation everyClause S n
