@@ -98,9 +98,9 @@ module _ (row : ℕ → Row) (term : ℕ → Term ℕ) (termLaw : (r : ℕ) → 
 
       -- A clash or an occurrence: the two atoms, written out and apart, have no unifier.
       pub no-resolvent : (Y : Type 0) (held : ℕ) → (unify row held (joined (maximumIndex l) (lookup l) (lookup r)) e (raise (maximumIndex l) d) ≡ failed clash) ⊎ (unify row held (joined (maximumIndex l) (lookup l) (lookup r)) e (raise (maximumIndex l) d) ≡ failed occurs)
-          → NoUnifier Y (writtenOut term (substitution term l) e) (apply (renamed (maximumIndex l)) (writtenOut term (substitution term r) d))
+          → NoUnifier Y ((writtenOut term (substitution term l) e, apply (renamed (maximumIndex l)) (writtenOut term (substitution term r) d)) ∷ [])
       no-resolvent Y held f δ z =
-          no-unifier row term termLaw (In (m + n)) base both S Y held e (raise m d) f δ (ap (apply δ) (lefts e oe) ∙ z ∙ sym (ap (apply δ) (rights d od)))
+          no-unifier row term termLaw (In (m + n)) base both S Y held e (raise m d) f δ (ap (apply δ) (lefts e oe) ∙ z .0 ∙ sym (ap (apply δ) (rights d od)), tt)
 
       module _ (arities : (r q s : ℕ) (xs ys : List ℕ) → row r ≡ application s xs → row q ≡ application s ys → length xs ≡ length ys)
           (bs : List Binding) (u : Unified row (joined (maximumIndex l) (lookup l) (lookup r)) e (raise (maximumIndex l) d) bs) where
@@ -124,7 +124,7 @@ module _ (row : ℕ → Row) (term : ℕ → Term ℕ) (termLaw : (r : ℕ) → 
           isLeft = map-numbered (writtenLiteral term (substitution term l)) (literals l) a (s, e) p;
           isRight = map-numbered (λ (x : Bool × Term Variable). (x .0, apply (renamed m) (x .1))) (written term r) b (not s, writtenOut term (substitution term r) d) (map-numbered (writtenLiteral term (substitution term r)) (literals r) b (not s, d) q);
           unifier = θ;
-          mostGeneral = subst (λ (t : Term Variable). MostGeneralUnifier Y θ t (apply (renamed m) (writtenOut term (substitution term r) d))) (lefts e oe) (subst (λ (t : Term Variable). MostGeneralUnifier Y θ (writtenOut term both e) t) (rights d od)
+          mostGeneral = subst (λ (t : Term Variable). MostGeneralUnifier Y θ ((t, apply (renamed m) (writtenOut term (substitution term r) d)) ∷ [])) (lefts e oe) (subst (λ (t : Term Variable). MostGeneralUnifier Y θ ((writtenOut term both e, t) ∷ [])) (rights d od)
               (most-general row term termLaw (In (m + n)) base both S arities e (raise m d) bs u κ oe′ od′ Y));
           result = written-then term both (composed term both bs) θ (m + n) (value-after row term termLaw (In (m + n)) base both S arities e (raise m d) bs u κ oe′ od′) (literals (resolve number l a r b bs)) (literals-in (resolve number l a r b bs))
               ∙ ap (instantiated θ) (map-append (writtenLiteral term both) (without (literals l) a) (map (raiseLiteral m) (without (literals r) b)) ∙ ap₂ (λ (x y : Clause). x ++ y) left-part right-part);
@@ -147,7 +147,7 @@ module _ (row : ℕ → Row) (term : ℕ → Term ℕ) (termLaw : (r : ℕ) → 
     id = each-numbered (LiteralIn N) (literals c) b (s, d) q (literals-in c)
 
     pub no-factor : (Y : Type 0) (held : ℕ) → (unify row held (lookup c) e d ≡ failed clash) ⊎ (unify row held (lookup c) e d ≡ failed occurs)
-        → NoUnifier Y (writtenOut term (substitution term c) e) (writtenOut term (substitution term c) d)
+        → NoUnifier Y ((writtenOut term (substitution term c) e, writtenOut term (substitution term c) d) ∷ [])
     no-factor Y held f = no-unifier row term termLaw (In N) (lookup c) (substitution term c) Sc Y held e d f
 
     module _ (arities : (r q s : ℕ) (xs ys : List ℕ) → row r ≡ application s xs → row q ≡ application s ys → length xs ≡ length ys)

@@ -23,7 +23,7 @@ pub record Resolvent (Y : Type 0) (rename : Variable → Term Variable) (C : Cla
   pub isLeft : numbered C a ≡ some (sign, left)
   pub isRight : numbered (instantiated rename D) b ≡ some (not sign, right)
   pub unifier : Variable → Term Variable
-  pub mostGeneral : MostGeneralUnifier Y unifier left right
+  pub mostGeneral : MostGeneralUnifier Y unifier ((left, right) ∷ [])
   pub result : E ≡ instantiated unifier (without C a ++ without (instantiated rename D) b)
 
 -- E is the factor of C that keeps literal a and deletes literal b, with the unifier as in a resolvent.
@@ -35,7 +35,7 @@ pub record Factor (Y : Type 0) (C : Clause) (a b : ℕ) (E : Clause) : Type 0 wh
   pub isRight : numbered C b ≡ some (sign, right)
   pub different : ¬ (a ≡ b)
   pub unifier : Variable → Term Variable
-  pub mostGeneral : MostGeneralUnifier Y unifier left right
+  pub mostGeneral : MostGeneralUnifier Y unifier ((left, right) ∷ [])
   pub result : E ≡ instantiated unifier (without C b)
 
 -- Every variable of a clause has the property P.

@@ -182,7 +182,7 @@ module _ (file : List ℕ) (tables : Tables) where
     resolvents = λ f k S T r R e q. resolvent-added S (reached-ok file f k S r R) k r Y T e q;
     factors = λ f k S T r R e q. factor-added S (reached-ok file f k S r R) k r Y T e q;
     noUnifier = λ f k S r g R z c. refused-no-unifier S (reached-ok file f k S r R) k r Y g z c;
-    nothingLost = λ f k S r R range s t A signs τ u. unifiable-stands S (reached-ok file f k S r R) k r Y range s t A signs τ u;
+    nothingLost = λ f k S r R range pairs A signs τ u. unifiable-stands S (reached-ok file f k S r R) k r Y range pairs A signs τ u;
     refusals = λ q k z. due-at q k (refused-by q k z);
     statedNumbers = λ q k z. stated q k (due-at q k (refused-by q k z));
     acceptedOnly = λ n z. let a = accepted-ends n z .1 in (a .0, a .1, lowest-empty everyClause (a .0) n (a .2));

@@ -9,10 +9,10 @@ use native.Mathlib.Omega.{arith}
 use Rattle.record.specs.Record.{Record, otherKind, Kind, symbolKind, variableKind, applicationKind, inputKind, resolveKind, factorKind, fieldB, fieldC, fieldD}
 use Rattle.unification.specs.Environment.{Binding, Environment}
 use Rattle.unification.specs.Failing.{Failing, symbolsDiffer, variableOccurs, workDone, bindingsHeld}
-use Rattle.unification.specs.Row.{Row, Variable}
-use Rattle.unification.specs.Term.{Term, apply}
+use Rattle.unification.specs.Row.{Row}
+use Rattle.unification.specs.Term.{apply}
 use Rattle.unification.specs.Unification.{mostWork, mostLinks, endless, Failure, clash, occurs, overwork, full, failureNumber, failed, Task, unifying, noRoom}
-use Rattle.unification.specs.Unifier.{NoUnifier}
+use Rattle.unification.specs.Unifier.{TermPair, NoUnifier}
 use Rattle.unification.proofs.Failures.{fails}
 use Rattle.unification.proofs.Lists.{Each}
 use Rattle.unification.proofs.Tests.{both-true, true-not-false}
@@ -125,24 +125,24 @@ module _ (S : State) (H : StateOk 4096 S) (k : ℕ) (r : Record) where
   unification-injective : {f g : Failure} → unification f ≡ unification g → f ≡ g
   unification-injective p = cc
 
-  atoms-apart : (Y : Type 0) (f : Failure) → (f ≡ clash) ⊎ (f ≡ occurs) → ByUnification S r f → (s t : Term Variable) × StepAtoms S r s t × NoUnifier Y s t
+  atoms-apart : (Y : Type 0) (f : Failure) → (f ≡ clash) ⊎ (f ≡ occurs) → ByUnification S r f → (pairs : List TermPair) × StepAtoms S r pairs × NoUnifier Y pairs
   atoms-apart Y f c (resolving {x} {y} e p q s u) =
-      (atomOf S x, apply (renamed (maximumIndex (x .0))) (atomOf S y), ofResolve e p q, resolve-no-unifier S H k r Y x y p q s (which c))
+      ((atomOf S x, apply (renamed (maximumIndex (x .0))) (atomOf S y)) ∷ [], ofResolve e p q, resolve-no-unifier S H k r Y x y p q s (which c))
     where
       which : (f ≡ clash) ⊎ (f ≡ occurs) → (unifyResolve S x y ≡ failed clash) ⊎ (unifyResolve S x y ≡ failed occurs)
       which (inl z) = inl (u ∙ ap failed z)
       which (inr z) = inr (u ∙ ap failed z)
   atoms-apart Y f c (factoring {x} {y} e p q s u) =
-      (atomOf S x, atomOf S y, ofFactor e p q, factor-no-unifier S H k r Y x y p q s (which c))
+      ((atomOf S x, atomOf S y) ∷ [], ofFactor e p q, factor-no-unifier S H k r Y x y p q s (which c))
     where
       which : (f ≡ clash) ⊎ (f ≡ occurs) → (unifyFactor S x y ≡ failed clash) ⊎ (unifyFactor S x y ≡ failed occurs)
       which (inl z) = inl (u ∙ ap failed z)
       which (inr z) = inr (u ∙ ap failed z)
 
-  pub refused-no-unifier : (Y : Type 0) (f : Failure) → step S k r ≡ refused (unification f) → (f ≡ clash) ⊎ (f ≡ occurs) → (s t : Term Variable) × StepAtoms S r s t × NoUnifier Y s t
+  pub refused-no-unifier : (Y : Type 0) (f : Failure) → step S k r ≡ refused (unification f) → (f ≡ clash) ⊎ (f ≡ occurs) → (pairs : List TermPair) × StepAtoms S r pairs × NoUnifier Y pairs
   refused-no-unifier Y f z c = try (all-refused (tests S (kindOfRecord r) r) (enter S k (kindOfRecord r) r) (unification f) z)
     where
-      try : FirstFailing (tests S (kindOfRecord r) r) (unification f) ⊎ (AllPass (tests S (kindOfRecord r) r) × (enter S k (kindOfRecord r) r ≡ refused (unification f))) → (s t : Term Variable) × StepAtoms S r s t × NoUnifier Y s t
+      try : FirstFailing (tests S (kindOfRecord r) r) (unification f) ⊎ (AllPass (tests S (kindOfRecord r) r) × (enter S k (kindOfRecord r) r ≡ refused (unification f))) → (pairs : List TermPair) × StepAtoms S r pairs × NoUnifier Y pairs
       try (inl g) = absurd (first-each (λ (p : Reason). NotUnification p × Stated p) (tests S (kindOfRecord r) r) (unification f) (tests-early S (kindOfRecord r) r) g .0 f refl)
       try (inr a) =
           let b = by-unification S k r (kindOfRecord r) (unification f) refl (a .0) (a .1) in

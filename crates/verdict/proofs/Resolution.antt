@@ -3,7 +3,7 @@ use mathlib.Core.Path.{_≡_, refl, sym, ap, _∙_, subst}
 use mathlib.Core.Logic.{_⊎_, inl, inr}
 use mathlib.Core.Bool.{Bool, true, false, not}
 use mathlib.Core.Option.{some}
-use mathlib.Core.List.{List}
+use mathlib.Core.List.{List, [], _∷_}
 use Prim.Native.Nat.{ℕ}
 use lib.ListN.{length}
 use Rattle.record.specs.Record.{Record, Kind, resolveKind, factorKind, fieldA, fieldB, fieldC, fieldD}
@@ -11,7 +11,7 @@ use Rattle.unification.specs.Environment.{Binding}
 use Rattle.unification.specs.Row.{application, Variable, rowTerm, writtenOut}
 use Rattle.unification.specs.Term.{Term, apply}
 use Rattle.unification.specs.Unification.{endless, clash, occurs, overwork, full, Outcome, unified, failed}
-use Rattle.unification.specs.Unifier.{Unifies, NoUnifier}
+use Rattle.unification.specs.Unifier.{TermPair, Unifies, NoUnifier}
 use Rattle.unification.proofs.Tests.{true-not-false}
 use Rattle.derivation.specs.Derivation.{literals, Literal, Derivation, resolve, factor, numbered, maximumIndex, joined, lookup}
 use Rattle.derivation.specs.Written.{substitution, renamed}
@@ -84,20 +84,20 @@ module _ (S : State) (H : StateOk 4096 S) (k : ℕ) (r : Record) where
 
   -- The atoms of a resolve whose unification clashes or meets an occurrence.
   pub resolve-no-unifier : (Y : Type 0) (x y : Derivation × Literal) → leftOf S r ≡ some x → rightOf S r ≡ some y → y .1 .0 ≡ not (x .1 .0) → (unifyResolve S x y ≡ failed clash) ⊎ (unifyResolve S x y ≡ failed occurs)
-      → NoUnifier Y (atomOf S x) (apply (renamed (maximumIndex (x .0))) (atomOf S y))
+      → NoUnifier Y ((atomOf S x, apply (renamed (maximumIndex (x .0))) (atomOf S y)) ∷ [])
   resolve-no-unifier Y x y p q s f =
       let l = literal-named S (fieldA r) (fieldB r) x p in
       let m = literal-named S (fieldC r) (fieldD r) y q in
       no-resolvent (rowOf S) (termOf S) law (x .0) (y .0) (order-of 4096 S H (fieldA r) (x .0) (l .0) .valid) (order-of 4096 S H (fieldC r) (y .0) (m .0) .valid) (fieldB r) (fieldD r) (x .1 .0) (x .1 .1) (y .1 .1) (l .1) (m .1 ∙ ap (λ (b : Bool). some (b, y .1 .1)) s) Y (held S) f
 
   pub factor-no-unifier : (Y : Type 0) (x y : Derivation × Literal) → leftOf S r ≡ some x → deletedOf S r ≡ some y → y .1 .0 ≡ x .1 .0 → (unifyFactor S x y ≡ failed clash) ⊎ (unifyFactor S x y ≡ failed occurs)
-      → NoUnifier Y (atomOf S x) (atomOf S y)
+      → NoUnifier Y ((atomOf S x, atomOf S y) ∷ [])
   factor-no-unifier Y x y p q s f =
       let l = literal-named S (fieldA r) (fieldB r) x p in
       let m = literal-named S (fieldA r) (fieldC r) y q in
       let e = same-parent S r x y p q in
       let n = subst (λ (c : Derivation). numbered (literals c) (fieldC r) ≡ some (y .1)) e (m .1) in
-      subst (λ (c : Derivation). NoUnifier Y (atomOf S x) (writtenOut (termOf S) (substitution (termOf S) c) (y .1 .1))) (sym e)
+      subst (λ (c : Derivation). NoUnifier Y ((atomOf S x, writtenOut (termOf S) (substitution (termOf S) c) (y .1 .1)) ∷ [])) (sym e)
       (no-factor (rowOf S) (termOf S) law (x .0) (order-of 4096 S H (fieldA r) (x .0) (l .0) .valid) (fieldB r) (fieldC r) (x .1 .0) (x .1 .1) (y .1 .1) (l .1) (n ∙ ap (λ (b : Bool). some (b, y .1 .1)) s) Y (held S) f)
 
   -- Following never runs out.
@@ -149,14 +149,14 @@ module _ (S : State) (H : StateOk 4096 S) (k : ℕ) (r : Record) where
       limits true q = ends o c u n (e ∙ require-true fits tooLarge (addClause S k clause o) q)
       limits false q = resultTooLarge (e ∙ require-false fits tooLarge (addClause S k clause o) q)
 
-  pub unifiable-stands : (Y : Type 0) → inRange (kindOfRecord r) r ≡ true → (s t : Term Variable) → StepAtoms S r s t → fittingSigns S (kindOfRecord r) r ≡ true → (τ : Variable → Term Y) → Unifies τ s t → StandsOrLimit S k r
-  unifiable-stands Y range s t (ofResolve {x} {y} e p q) signs τ z =
+  pub unifiable-stands : (Y : Type 0) → inRange (kindOfRecord r) r ≡ true → (pairs : List TermPair) → StepAtoms S r pairs → fittingSigns S (kindOfRecord r) r ≡ true → (τ : Variable → Term Y) → Unifies τ pairs → StandsOrLimit S k r
+  unifiable-stands Y range pairs (ofResolve {x} {y} e p q) signs τ z =
       let f = subst (λ (kind : Kind). fittingSigns S kind r ≡ true) e signs in
       let g = signs-resolve S r x y p q f in
       outcome (resolventFits S r) (resolve (nextClause S) (x .0) (fieldB r) (y .0) (fieldD r)) (unifyResolve S x y)
       (at-kind S k r resolveKind e ∙ to-limits (inRange resolveKind r) (bothThere (leftOf S r) (rightOf S r)) (fittingSigns S resolveKind r) (resolventFits S r) _ (subst (λ (kind : Kind). inRange kind r ≡ true) e range) (rw (p, q)) f ∙ ap (require (resolventFits S r) tooLarge) (enter-resolve S k r x y p q))
       (λ w. resolve-no-unifier Y x y p q g (inl w) τ z) (λ w. resolve-no-unifier Y x y p q g (inr w) τ z) (resolve-not-endless x y p q)
-  unifiable-stands Y range s t (ofFactor {x} {y} e p q) signs τ z =
+  unifiable-stands Y range pairs (ofFactor {x} {y} e p q) signs τ z =
       let f = subst (λ (kind : Kind). fittingSigns S kind r ≡ true) e signs in
       let g = signs-factor S r x y p q f .0 in
       outcome (factorFits S r) (factor (nextClause S) (x .0) (fieldB r) (fieldC r)) (unifyFactor S x y)

@@ -5,15 +5,14 @@ use mathlib.Core.Bool.{Bool, true, false}
 use mathlib.Core.Option.{some}
 use mathlib.Core.List.{List, [], _∷_}
 use Prim.Native.Nat.{ℕ, _+_, _*_, _≤_, _<_}
-use lib.Dec.{T}
 use lib.ListN.{length, getD, take, drop}
 use Rattle.record.specs.Record.{Record, records, resolveKind, factorKind, fieldA, fieldB, fieldC, fieldD}
 use Rattle.unification.specs.Environment.{follow, Environment, Ends}
 use Rattle.unification.specs.Failing.{Failing}
 use Rattle.unification.specs.Row.{Expression, Variable, writtenOut}
 use Rattle.unification.specs.Term.{Term, apply}
-use Rattle.unification.specs.Unification.{mostWork, mostLinks, Failure, clash, occurs, overwork, full, unifying, noRoom}
-use Rattle.unification.specs.Unifier.{Unifies, NoUnifier}
+use Rattle.unification.specs.Unification.{mostWork, mostLinks, Failure, clash, occurs, overwork, full, Pair, unifying, noRoom}
+use Rattle.unification.specs.Unifier.{TermPair, Unifies, NoUnifier}
 use Rattle.derivation.specs.Derivation.{literals, input, Literal, Derivation, raise, maximumIndex, joined, lookup, Use, uses}
 use Rattle.derivation.specs.Ground.{instances, Ground, Values, valueIn, WellFormedInstances, Assignment, AllTrue}
 use Rattle.derivation.specs.Textbook.{Resolvent, Factor, StandardizedApart}
@@ -59,13 +58,13 @@ pub record Demand1 (file : List ℕ) (tables : Tables) : Type 0 where
 abbrev pub atomOf : State → Derivation × Literal → Term Variable
 atomOf S x = writtenOut (termOf S) (substitution (termOf S) (x .0)) (x .1 .1)
 
--- The two atoms that a step unifies. In a resolve the right one is standardized apart: its indices are raised by the left clause's
--- maximum index.
-pub data StepAtoms (S : State) (r : Record) : Term Variable → Term Variable → Type 0 where
+-- The atoms that a step unifies, as a list of pairs: a resolve and a factor have one pair. In a resolve the right atom is standardized
+-- apart: its indices are raised by the left clause's maximum index.
+pub data StepAtoms (S : State) (r : Record) : List TermPair → Type 0 where
   ofResolve : {x y : Derivation × Literal} → kindOfRecord r ≡ resolveKind → leftOf S r ≡ some x → rightOf S r ≡ some y
-      → StepAtoms S r (atomOf S x) (apply (renamed (maximumIndex (x .0))) (atomOf S y))
+      → StepAtoms S r ((atomOf S x, apply (renamed (maximumIndex (x .0))) (atomOf S y)) ∷ [])
   ofFactor : {x y : Derivation × Literal} → kindOfRecord r ≡ factorKind → leftOf S r ≡ some x → deletedOf S r ≡ some y
-      → StepAtoms S r (atomOf S x) (atomOf S y)
+      → StepAtoms S r ((atomOf S x, atomOf S y) ∷ [])
 
 -- (a) A resolve that stands adds one clause: the resolvent of the clauses that it names.
 pub record ResolventAdded (Y : Type 0) (S : State) (k : ℕ) (r : Record) (T : State) : Type 0 where
@@ -102,17 +101,17 @@ abbrev pub AllPass : List (Bool × Reason) → Type 0
 AllPass [] = Unit {0}
 AllPass (t ∷ ts) = (t .0 ≡ true) × AllPass ts
 
--- Unification of the two expressions that a step names fails as stated for its number.
-abbrev pub UnificationFails : State → Environment → Expression → Expression → Failure → Type 0
-UnificationFails S ρ e d f = Failing (rowOf S) mostLinks (noRoom (held S)) ρ mostWork (unifying [] ((e, d) ∷ [])) f
+-- Unification of the pairs of expressions that a step names fails as stated for its number.
+abbrev pub UnificationFails : State → Environment → List Pair → Failure → Type 0
+UnificationFails S ρ pairs f = Failing (rowOf S) mostLinks (noRoom (held S)) ρ mostWork (unifying [] pairs) f
 
 -- The condition stated for a reason holds of a record, in the state before it, and none with a lower number does.
 pub data Due (S : State) (r : Record) : Reason → Type 0 where
   byTest : {reason : Reason} → FirstFailing (tests S (kindOfRecord r) r) reason → Due S r reason
   inResolve : {x y : Derivation × Literal} {f : Failure} → AllPass (tests S (kindOfRecord r) r) → kindOfRecord r ≡ resolveKind → leftOf S r ≡ some x → rightOf S r ≡ some y
-      → UnificationFails S (joined (maximumIndex (x .0)) (lookup (x .0)) (lookup (y .0))) (x .1 .1) (raise (maximumIndex (x .0)) (y .1 .1)) f → Due S r (unification f)
+      → UnificationFails S (joined (maximumIndex (x .0)) (lookup (x .0)) (lookup (y .0))) ((x .1 .1, raise (maximumIndex (x .0)) (y .1 .1)) ∷ []) f → Due S r (unification f)
   inFactor : {x y : Derivation × Literal} {f : Failure} → AllPass (tests S (kindOfRecord r) r) → kindOfRecord r ≡ factorKind → leftOf S r ≡ some x → deletedOf S r ≡ some y
-      → UnificationFails S (lookup (x .0)) (x .1 .1) (y .1 .1) f → Due S r (unification f)
+      → UnificationFails S (lookup (x .0)) ((x .1 .1, y .1 .1) ∷ []) f → Due S r (unification f)
 
 -- The condition stated for a reason holds of the file, of the tables, or of the record named.
 pub data DueAt (file : List ℕ) (tables : Tables) : Reason → ℕ → Type 0 where
@@ -139,10 +138,10 @@ pub record Demand2 (Y : Type 0) (file : List ℕ) (tables : Tables) : Type 0 whe
   pub factors : fittingLength (length file) ≡ true → (k : ℕ) (S T : State) (r : Record) → Reached file k S r → kindOfRecord r ≡ factorKind → step S k r ≡ stands T → FactorAdded Y S k r T
   -- (b)
   pub noUnifier : fittingLength (length file) ≡ true → (k : ℕ) (S : State) (r : Record) (f : Failure) → Reached file k S r → step S k r ≡ refused (unification f) → (f ≡ clash) ⊎ (f ≡ occurs)
-      → (s t : Term Variable) × StepAtoms S r s t × NoUnifier Y s t
+      → (pairs : List TermPair) × StepAtoms S r pairs × NoUnifier Y pairs
   -- (c)
-  pub nothingLost : fittingLength (length file) ≡ true → (k : ℕ) (S : State) (r : Record) → Reached file k S r → inRange (kindOfRecord r) r ≡ true → (s t : Term Variable) → StepAtoms S r s t
-      → fittingSigns S (kindOfRecord r) r ≡ true → (τ : Variable → Term Y) → Unifies τ s t → StandsOrLimit S k r
+  pub nothingLost : fittingLength (length file) ≡ true → (k : ℕ) (S : State) (r : Record) → Reached file k S r → inRange (kindOfRecord r) r ≡ true → (pairs : List TermPair) → StepAtoms S r pairs
+      → fittingSigns S (kindOfRecord r) r ≡ true → (τ : Variable → Term Y) → Unifies τ pairs → StandsOrLimit S k r
   -- (d)
   pub refusals : (reason : Reason) (k : ℕ) → check file (lengthsOf tables) .verdict ≡ refusal reason k → DueAt file tables reason k
   pub statedNumbers : (reason : Reason) (k : ℕ) → check file (lengthsOf tables) .verdict ≡ refusal reason k → (1 ≤ reasonNumber reason) × (reasonNumber reason ≤ 13)
