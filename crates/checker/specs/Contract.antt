@@ -5,16 +5,15 @@ use mathlib.Core.Option.{some}
 use mathlib.Core.List.{List}
 use Prim.Native.Nat.{ℕ, _+_, _*_}
 use lib.ListN.{length, getD}
-use Rattle.record.specs.Record.{pick}
 use Rattle.unification.specs.Row.{Variable}
 use Rattle.derivation.specs.Derivation.{Derivation, maximumIndex}
 use Rattle.verdict.specs.Demands.{Demand1, Demand2, Demand3}
 use Rattle.answer.specs.Given.{answerGiven}
 use Rattle.entry.specs.Progress.{nodeTableOf, ReadTo}
-use Rattle.verdict.specs.State.{State, start, rowsOf, clauseOf}
+use Rattle.verdict.specs.State.{State, rowsOf, clauseOf}
 use Rattle.verdict.specs.Step.{stateOf}
 use Rattle.verdict.specs.Tables.{Tables, lengthsOf, tablesAfter}
-use Rattle.verdict.specs.Verdict.{check, answerNumbers, Lengths, longEnough, fittingLength, ending}
+use Rattle.verdict.specs.Verdict.{check, answerNumbers, Lengths, longEnough, fittingLength, ending, reading, stateGiven}
 use Rattle.answer.specs.declared.Answer.{Answer}
 use Rattle.answer.specs.declared.Verdict.the-variants as verdict
 
@@ -34,7 +33,7 @@ pub record Checked (file : List ℕ) (before : Tables) (a : Answer) (after : Tab
 
 -- The state that a check leaves: that of the records that stand; none where the length does not fit or a table is too short.
 abbrev pub stateLeft : List ℕ → Lengths → State
-stateLeft file lengths = pick (fittingLength (length file)) (pick (longEnough lengths) (stateOf (ending file)) start) start
+stateLeft file lengths = stateGiven (reading file lengths)
 
 -- The same promise with a node table and an array of values that the caller lends: the node table then has the rows of that state. What the
 -- array holds is left to the program.

@@ -12,7 +12,7 @@ use Rattle.unification.proofs.Tests.{true-not-false}
 use Rattle.verdict.specs.Cases.{CasesHold, LengthsHold, EdgesHold}
 use Rattle.verdict.specs.Demands.{DueAt, ofLength, ofTables, ofRecord}
 use Rattle.verdict.specs.Refusal.{Reason, badLength, reasonNumber, mostLiterals, mostIndex}
-use Rattle.verdict.specs.State.{start, held}
+use Rattle.verdict.specs.State.{emptyState, held}
 use Rattle.verdict.specs.Step.{require, addClause}
 use Rattle.verdict.specs.Tables.{Tables}
 use Rattle.verdict.specs.Verdict.{refusal, check, answerOf, Lengths, fittingLength, ending}
@@ -27,7 +27,7 @@ pub edges-hold : EdgesHold
 unfolding check ending records held require addClause run mostWork mostBindings mostLinks mostLiterals mostIndex
 edges-hold = refl
 
-bad-length : (file : List ℕ) (lengths : Lengths) → fittingLength (length file) ≡ false → check file lengths ≡ answerOf (refusal badLength 0) start
+bad-length : (file : List ℕ) (lengths : Lengths) → fittingLength (length file) ≡ false → check file lengths ≡ answerOf (refusal badLength 0) emptyState
 unfolding check
 bad-length file lengths f = rw f
 

@@ -20,10 +20,10 @@ use Rattle.derivation.proofs.Literals.{uses-length}
 use Rattle.derivation.proofs.Values.{refutes, writes-out, writes-out-unique, values-exist, values-unique}
 use Rattle.verdict.specs.Demands.{Reached, Untouched, LeftBefore, Demand1, DueAt, ofLength, ofTables, ofRecord, LowestEmpty, Demand2, FollowingEnds, Refutation, Demand3}
 use Rattle.verdict.specs.Refusal.{Reason, badLength, shortTable, reasonNumber}
-use Rattle.verdict.specs.State.{State, start, rowsOf, derivations, arityOf, clauseOf, rowOf, termOf, held}
+use Rattle.verdict.specs.State.{State, emptyState, rowsOf, derivations, arityOf, clauseOf, rowOf, termOf, held}
 use Rattle.verdict.specs.Step.{refused, step, read, Ending, allStand, refusedAt, stateOf}
 use Rattle.verdict.specs.Tables.{Tables, lengthsOf, filledTables, tablesAfter}
-use Rattle.verdict.specs.Verdict.{refusal, check, accepted, undecided, Answer, firstEmpty, standing, everyClause, verdictOf, answerOf, Lengths, longEnough, fittingLength, ending, Stands}
+use Rattle.verdict.specs.Verdict.{refusal, check, accepted, open′, Answer, firstEmpty, standing, everyClause, verdictOf, answerOf, Lengths, longEnough, fittingLength, ending, Stands}
 use Rattle.verdict.proofs.Acceptance.{first-lowest, some-first, index-cell}
 use Rattle.verdict.proofs.Reading.{read-refused, reached-ok, ending-ok, stands-ok, term-of-row, one-arity}
 use Rattle.verdict.proofs.Refusals.{due-stated, refused-due, refused-no-unifier}
@@ -39,11 +39,11 @@ refusal-injective e = (cc, cc)
 accepted-not-refusal : {n k : ℕ} {q : Reason} → accepted n ≡ refusal q k → ⊥
 accepted-not-refusal p = let z : _≡_ {A = ℕ} 0 1 = cc in omega arith
 
-undecided-not-refusal : {k : ℕ} {q : Reason} → undecided ≡ refusal q k → ⊥
-undecided-not-refusal p = let z : _≡_ {A = ℕ} 0 1 = cc in omega arith
+open-not-refusal : {k : ℕ} {q : Reason} → open′ ≡ refusal q k → ⊥
+open-not-refusal p = let z : _≡_ {A = ℕ} 0 1 = cc in omega arith
 
-undecided-not-accepted : {n : ℕ} → undecided ≡ accepted n → ⊥
-undecided-not-accepted p = let z : _≡_ {A = ℕ} 0 1 = cc in omega arith
+open-not-accepted : {n : ℕ} → open′ ≡ accepted n → ⊥
+open-not-accepted p = let z : _≡_ {A = ℕ} 0 1 = cc in omega arith
 
 refusal-not-accepted : {n k : ℕ} {q : Reason} → refusal q k ≡ accepted n → ⊥
 refusal-not-accepted p = let z : _≡_ {A = ℕ} 0 1 = cc in omega arith
@@ -53,11 +53,11 @@ module _ (file : List ℕ) (tables : Tables) where
   lengths = lengthsOf tables
 
   -- The three ways that a check can go.
-  pub check-length : fittingLength (length file) ≡ false → check file (lengthsOf tables) ≡ answerOf (refusal badLength 0) start
+  pub check-length : fittingLength (length file) ≡ false → check file (lengthsOf tables) ≡ answerOf (refusal badLength 0) emptyState
   unfolding check
   check-length f = rw f
 
-  pub check-tables : fittingLength (length file) ≡ true → longEnough (lengthsOf tables) ≡ false → check file (lengthsOf tables) ≡ answerOf (refusal shortTable 0) start
+  pub check-tables : fittingLength (length file) ≡ true → longEnough (lengthsOf tables) ≡ false → check file (lengthsOf tables) ≡ answerOf (refusal shortTable 0) emptyState
   unfolding check
   check-tables f l = rw (f, l)
 
@@ -77,6 +77,26 @@ module _ (file : List ℕ) (tables : Tables) where
   unfolding tablesAfter
   tables-read f l = rw (f, l)
 
+  -- A file that stands, with tables long enough: answer and tables are those of the state that it leaves.
+  pub stands-check : (S : State) → Stands file S → longEnough (lengthsOf tables) ≡ true → check file (lengthsOf tables) ≡ answerOf (verdictOf (allStand S)) S
+  stands-check S st l = check-reads (st .fits) l ∙ ap (λ (e : Ending). answerOf (verdictOf e) (stateOf e)) (st .reads)
+
+  pub stands-tables : (S : State) → Stands file S → longEnough (lengthsOf tables) ≡ true → tablesAfter file tables ≡ filledTables S tables
+  stands-tables S st l = tables-read (st .fits) l ∙ ap (λ (e : Ending). filledTables (stateOf e) tables) (st .reads)
+
+  -- A file that is not refused stands.
+  pub not-refused : ((q : Reason) (k : ℕ) → ¬ (check file (lengthsOf tables) .verdict ≡ refusal q k)) → (longEnough (lengthsOf tables) ≡ true) × ((S : State) × Stands file S)
+  not-refused h = try (fittingLength (length file)) refl (longEnough lengths) refl
+    where
+      by : fittingLength (length file) ≡ true → longEnough (lengthsOf tables) ≡ true → (e : Ending) → ending file ≡ e → (S : State) × Stands file S
+      by f l (allStand S) p = (S, record { fits = f; reads = p })
+      by f l (refusedAt S q k) p = absurd (h q k (ap (λ (a : Answer). a .verdict) (check-reads f l) ∙ ap verdictOf p))
+
+      try : (b : Bool) → fittingLength (length file) ≡ b → (c : Bool) → longEnough (lengthsOf tables) ≡ c → (longEnough (lengthsOf tables) ≡ true) × ((S : State) × Stands file S)
+      try false f c l = absurd (h badLength 0 (ap (λ (a : Answer). a .verdict) (check-length f)))
+      try true f false l = absurd (h shortTable 0 (ap (λ (a : Answer). a .verdict) (check-tables f l)))
+      try true f true l = (l, by f l (ending file) refl)
+
   -- A refusal at a record, found in the reading.
   record Found (q : Reason) (k : ℕ) : Type 0 where
     state : State
@@ -90,17 +110,17 @@ module _ (file : List ℕ) (tables : Tables) where
   found (allStand S) p q k z = absurd (open-or-accepted (firstEmpty everyClause (derivations S)) z)
     where
       open-or-accepted : (o : Option ℕ) → standing o ≡ refusal q k → ⊥
-      open-or-accepted none z = undecided-not-refusal z
+      open-or-accepted none z = open-not-refusal z
       open-or-accepted (some n) z = accepted-not-refusal z
   found (refusedAt S p′ j) p q k z =
       let w = refusal-injective z in
-      let e : read start 0 (records file) ≡ refusedAt S q k = p ∙ ap₂ (λ (x : Reason) (i : ℕ). refusedAt S x i) (w .0) (w .1) in
-      let R = read-refused start 0 (records file) S q k e in
+      let e : read emptyState 0 (records file) ≡ refusedAt S q k = p ∙ ap₂ (λ (x : Reason) (i : ℕ). refusedAt S x i) (w .0) (w .1) in
+      let R = read-refused emptyState 0 (records file) S q k e in
       let i : k ≡ R .place = R .number ∙ zero-add (R .place) in
       record {
         state = S;
         refusedRecord = R .refusedRecord;
-        reached = record { before = ap (λ (i : ℕ). read start 0 (take i (records file))) i ∙ R .before; after = R .rest; here = ap (λ (i : ℕ). drop i (records file)) i ∙ R .here };
+        reached = record { before = ap (λ (i : ℕ). read emptyState 0 (take i (records file))) i ∙ R .before; after = R .rest; here = ap (λ (i : ℕ). drop i (records file)) i ∙ R .here };
         refusedBy = R .refusedBy;
         isEnding = e;
       }
@@ -123,8 +143,8 @@ module _ (file : List ℕ) (tables : Tables) where
   demand1 = record { tablesOfRefusal = λ q k z. try q k (refused-by q k z) }
     where
       try : (q : Reason) (k : ℕ) → Refused q k → (((q ≡ badLength) ⊎ (q ≡ shortTable)) × Untouched file tables q k) ⊎ LeftBefore file tables q k
-      try q k (forLength a b f) = inl (inl a, record { record0 = b; counts = check-length f ∙ ap (λ (x : Reason). answerOf (refusal x 0) start) (sym a); tablesKept = tables-length f })
-      try q k (forTables a b f l) = inl (inr a, record { record0 = b; counts = check-tables f l ∙ ap (λ (x : Reason). answerOf (refusal x 0) start) (sym a); tablesKept = tables-short f l })
+      try q k (forLength a b f) = inl (inl a, record { record0 = b; counts = check-length f ∙ ap (λ (x : Reason). answerOf (refusal x 0) emptyState) (sym a); tablesKept = tables-length f })
+      try q k (forTables a b f l) = inl (inr a, record { record0 = b; counts = check-tables f l ∙ ap (λ (x : Reason). answerOf (refusal x 0) emptyState) (sym a); tablesKept = tables-short f l })
       try q k (forRecord f l F) = inr (record {
         state = F .state;
         refusedRecord = F .refusedRecord;
@@ -151,7 +171,7 @@ module _ (file : List ℕ) (tables : Tables) where
       stands-with f (allStand S) p y = (S, record { fits = f; reads = p }, which (firstEmpty everyClause (derivations S)) y)
         where
           which : (o : Option ℕ) → standing o ≡ accepted n → o ≡ some n
-          which none y = absurd (undecided-not-accepted y)
+          which none y = absurd (open-not-accepted y)
           which (some m) y = ap some (accepted-injective y)
       stands-with f (refusedAt S q k) p y = absurd (refusal-not-accepted y)
 

@@ -5,7 +5,7 @@ use mathlib.Core.List.{List, [], _∷_}
 use Prim.Native.Nat.{ℕ, zero, suc, _+_, _%_, _≤_}
 use native.Mathlib.Nat.{add-zero, add-suc, suc-add}
 use native.Mathlib.Omega.{arith}
-use lib.Dec.{eqb, leb, T, leb→le}
+use lib.Dec.{eqb, leb, leb→le}
 use lib.ListN.{length, take, drop, length-take}
 use Rattle.record.specs.Record.{Record, records}
 use Rattle.record.proofs.Records.{Shaped, records-length, records-shaped}
@@ -14,7 +14,7 @@ use Rattle.unification.proofs.Rows.{term-law, row-arities}
 use Rattle.unification.proofs.Tests.{to-T, both-true}
 use Rattle.verdict.specs.Demands.{Reached}
 use Rattle.verdict.specs.Refusal.{Reason}
-use Rattle.verdict.specs.State.{arities, State, start, rowsOf, arityOf, rowOf, termOf}
+use Rattle.verdict.specs.State.{arities, State, emptyState, rowsOf, arityOf, rowOf, termOf}
 use Rattle.verdict.specs.Step.{stands, refused, Result, step, read, allStand, refusedAt, stateOf}
 use Rattle.verdict.specs.Verdict.{fittingLength, ending, Stands}
 use Rattle.verdict.proofs.Inversions.{entry-none}
@@ -42,7 +42,7 @@ read-ok n S k (r ∷ rs) H h = try (step S k r) refl (λ T g. read-ok (suc n) T 
     try (stands T) q ih = rw (add-suc, ← suc-add) (ih T (step-ok n S h k r T (H .0) q))
     try (refused p) q ih = state-more n (n + suc (length rs)) S (omega arith) h
 
-pub start-ok : StateOk 0 start
+pub start-ok : StateOk 0 emptyState
 start-ok = record { rowsOk = tt; few = omega arith; heldOk = rw held-start (omega arith); clausesOk = tt; inputsOk = tt }
 
 -- Where reading is refused, the record and the state before it.
@@ -100,7 +100,7 @@ module _ (file : List ℕ) (fit : fittingLength (length file) ≡ true) where
 
   pub reached-ok : (k : ℕ) (S : State) (r : Record) → Reached file k S r → StateOk 4096 S
   reached-ok k S r R =
-      let h : StateOk (0 + length (take k (records file))) S = rw (R .before) at (read-ok 0 start 0 (take k (records file)) (shaped-take k (records file) (records-shaped file)) start-ok) in
+      let h : StateOk (0 + length (take k (records file))) S = rw (R .before) at (read-ok 0 emptyState 0 (take k (records file)) (shaped-take k (records file) (records-shaped file)) start-ok) in
       state-more (0 + length (take k (records file))) 4096 S (simp length-take (omega (arith, few-records))) h
 
   pub reached-seven : (k : ℕ) (S : State) (r : Record) → Reached file k S r → length (r .fields) ≡ 7
@@ -108,7 +108,7 @@ module _ (file : List ℕ) (fit : fittingLength (length file) ≡ true) where
 
   pub ending-ok : StateOk 4096 (stateOf (ending file))
   unfolding ending
-  ending-ok = state-more (0 + length (records file)) 4096 (stateOf (ending file)) (omega (arith, few-records)) (read-ok 0 start 0 (records file) (records-shaped file) start-ok)
+  ending-ok = state-more (0 + length (records file)) 4096 (stateOf (ending file)) (omega (arith, few-records)) (read-ok 0 emptyState 0 (records file) (records-shaped file) start-ok)
 
 pub stands-ok : (file : List ℕ) (S : State) → Stands file S → StateOk 4096 S
 stands-ok file S st = subst (StateOk 4096) (ap stateOf (st .reads)) (ending-ok file (st .fits))

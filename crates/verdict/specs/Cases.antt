@@ -3,13 +3,12 @@ use mathlib.Core.Path.{_≡_}
 use mathlib.Core.Option.{Option, none, some}
 use mathlib.Core.List.{List, [], _∷_, _++_, map}
 use Prim.Native.Nat.{ℕ, zero, suc, _-_, _/_, _%_}
-use lib.Dec.{T}
 use lib.ListN.{length, replicate}
 use Rattle.record.specs.Record.{pick, Record, records, otherKind, Kind, symbolKind, variableKind, applicationKind, inputKind, resolveKind, factorKind}
 use Rattle.unification.specs.Unification.{unify, mostWork, Outcome, unified, failed}
 use Rattle.derivation.specs.Derivation.{Literal, Derivation}
 use Rattle.verdict.specs.Refusal.{badLength, kindOfRecord, leftOf, rightOf, deletedOf}
-use Rattle.verdict.specs.State.{State, start, derivations}
+use Rattle.verdict.specs.State.{State, emptyState, derivations}
 use Rattle.verdict.specs.Step.{stands, refused, step, unifyResolve, unifyFactor, stateOf}
 use Rattle.verdict.specs.Tables.{Tables, lengthsOf, symbolCells, rowCells, clauseCells, bindingCells}
 use Rattle.verdict.specs.Verdict.{refusal, check, answerNumbers, answerOf, Lengths, named, fittingLength, ending}
@@ -70,8 +69,8 @@ cellsOf S file answer work = record
 abbrev pub caseOf : List ℕ → Case
 caseOf file =
     pick (fittingLength (length file))
-    (cellsOf (stateOf (ending file)) file (answerNumbers (check file named)) (works start 0 (records file)))
-    (cellsOf start file (answerNumbers (check file named)) [])
+    (cellsOf (stateOf (ending file)) file (answerNumbers (check file named)) (works emptyState 0 (records file)))
+    (cellsOf emptyState file (answerNumbers (check file named)) [])
 
 -- A: two resolutions to the empty clause, each with work 3.
 abbrev pub caseA : Case
@@ -210,8 +209,8 @@ CasesHold = map (λ c. caseOf (c .file)) cases ≡ cases
 -- B and C, by length: a file of 65,536 bytes passes the length test, and those of 15 and of 65,552 bytes are refused with 1.
 pub record LengthsHold : Type 0 where
   pub longest : (file : List ℕ) (tables : Tables) (k : ℕ) → length file ≡ 65536 → ¬ (check file (lengthsOf tables) .verdict ≡ refusal badLength k)
-  pub fifteen : (file : List ℕ) (lengths : Lengths) → length file ≡ 15 → check file lengths ≡ answerOf (refusal badLength 0) start
-  pub tooLong : (file : List ℕ) (lengths : Lengths) → length file ≡ 65552 → check file lengths ≡ answerOf (refusal badLength 0) start
+  pub fifteen : (file : List ℕ) (lengths : Lengths) → length file ≡ 15 → check file lengths ≡ answerOf (refusal badLength 0) emptyState
+  pub tooLong : (file : List ℕ) (lengths : Lengths) → length file ≡ 65552 → check file lengths ≡ answerOf (refusal badLength 0) emptyState
 
 -- The limits at their edges, each in one file: what is at the limit stands, and the last record, one past it, is refused.
 abbrev pub repeated : ℕ → (ℕ → ℕ × ℕ × List ℕ) → ℕ → List (ℕ × ℕ × List ℕ) → List (ℕ × ℕ × List ℕ)

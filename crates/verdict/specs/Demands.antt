@@ -18,7 +18,7 @@ use Rattle.derivation.specs.Ground.{instances, Ground, Values, valueIn, WellFor
 use Rattle.derivation.specs.Textbook.{Resolvent, Factor, StandardizedApart}
 use Rattle.derivation.specs.Written.{written, substitution, renamed, WritesOut}
 use Rattle.verdict.specs.Refusal.{tests, Reason, unification, badLength, shortTable, tooLarge, reasonNumber, kindOfRecord, inRange, leftOf, rightOf, deletedOf, fittingSigns}
-use Rattle.verdict.specs.State.{State, start, withClause, entry, rowsOf, derivations, arityOf, clauseOf, rowOf, termOf, held}
+use Rattle.verdict.specs.State.{State, emptyState, withClause, entry, rowsOf, derivations, arityOf, clauseOf, rowOf, termOf, held}
 use Rattle.verdict.specs.Step.{stands, refused, step, read, allStand, stateOf}
 use Rattle.verdict.specs.Tables.{Tables, lengthsOf, clauseCells, filledTables, tablesAfter}
 use Rattle.verdict.specs.Verdict.{refusal, check, accepted, everyClause, answerOf, longEnough, fittingLength, ending, Stands}
@@ -29,14 +29,14 @@ use Rattle.verdict.specs.Verdict.{refusal, check, accepted, everyClause,
 
 -- Record k of a file is r, and the records before it stand and leave the state S.
 pub record Reached (file : List ℕ) (k : ℕ) (S : State) (r : Record) : Type 0 where
-  pub before : read start 0 (take k (records file)) ≡ allStand S
+  pub before : read emptyState 0 (take k (records file)) ≡ allStand S
   pub after : List Record
   pub here : drop k (records file) ≡ r ∷ after
 
 -- Refused for its length or the tables' lengths: record 0, counts 0, tables untouched.
 pub record Untouched (file : List ℕ) (tables : Tables) (reason : Reason) (k : ℕ) : Type 0 where
   pub record0 : k ≡ 0
-  pub counts : check file (lengthsOf tables) ≡ answerOf (refusal reason 0) start
+  pub counts : check file (lengthsOf tables) ≡ answerOf (refusal reason 0) emptyState
   pub tablesKept : tablesAfter file tables ≡ tables
 
 -- Refused at a record: counts and tables are those of the state that the records before it leave, and of nothing else.

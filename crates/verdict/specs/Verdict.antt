@@ -9,17 +9,17 @@ use lib.ListN.{length}
 use Rattle.record.specs.Record.{pick, records}
 use Rattle.derivation.specs.Derivation.{literals, Derivation}
 use Rattle.verdict.specs.Refusal.{Reason, badLength, shortTable, reasonNumber}
-use Rattle.verdict.specs.State.{State, start, derivations, held}
+use Rattle.verdict.specs.State.{State, emptyState, derivations, held}
 use Rattle.verdict.specs.Step.{read, Ending, allStand, refusedAt, stateOf}
 
 -- The verdict, with its numbers: 0 open; 1 accepted, and the clause; 2 refused, the reason and the record.
 pub data Verdict : Type 0 where
   accepted : ℕ → Verdict
-  undecided : Verdict
+  open′ : Verdict
   refusal : Reason → ℕ → Verdict
 
 abbrev pub verdictNumbers : Verdict → List ℕ
-verdictNumbers undecided = 0 ∷ 0 ∷ 0 ∷ []
+verdictNumbers open′ = 0 ∷ 0 ∷ 0 ∷ []
 verdictNumbers (accepted n) = 1 ∷ n ∷ 0 ∷ []
 verdictNumbers (refusal reason k) = 2 ∷ reasonNumber reason ∷ k ∷ []
 
@@ -50,7 +50,7 @@ abbrev pub everyClause : Derivation → Bool
 everyClause c = true
 
 abbrev pub standing : Option ℕ → Verdict
-standing none = undecided
+standing none = open′
 standing (some n) = accepted n
 
 abbrev pub verdictOf : Ending → Verdict
@@ -80,7 +80,7 @@ fittingLength n = leb n 65536 && eqb (n % 16) 0
 
 -- The whole file is read, also after an empty clause; only a refusal ends the reading.
 unfoldable pub ending : List ℕ → Ending
-ending file = read start 0 (records file)
+ending file = read emptyState 0 (records file)
 
 -- The file stands and leaves S: its length fits, and every record of it stands. Tables do not come in: the check of a file that stands
 -- refuses it only for a table too short.
@@ -106,7 +106,7 @@ verdictGiven (untouched reason) = refusal reason 0
 verdictGiven (readTo e) = verdictOf e
 
 abbrev pub stateGiven : Reading → State
-stateGiven (untouched reason) = start
+stateGiven (untouched reason) = emptyState
 stateGiven (readTo e) = stateOf e
 
 unfoldable pub check : List ℕ → Lengths → Answer
