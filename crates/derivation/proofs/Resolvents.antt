@@ -1,5 +1,5 @@
 -- The clause that a step makes is the textbook's resolvent or factor of its parents, which are standardized apart.
-use mathlib.Core.Path.{_≡_, sym, ap, ap₂, _∙_, subst}
+use mathlib.Core.Path.{_≡_, refl, sym, ap, ap₂, _∙_, subst}
 use mathlib.Core.Logic.{_⊎_}
 use mathlib.Core.Bool.{Bool, not}
 use mathlib.Core.Option.{none, some}
@@ -45,6 +45,43 @@ module _ (term : ℕ → Term ℕ) where
       ∙ sym (map-map (λ (l : Bool × Term Variable). (l .0, apply ren (l .1))) (writtenLiteral term σ) ls)
 
 module _ (row : ℕ → Row) (term : ℕ → Term ℕ) (termLaw : (r : ℕ) → term r ≡ rowTerm term r (row r)) where
+  -- The variables of a written-out clause have indices up to its maximum index.
+  clause-in : (c : Derivation) → Valid row c → (ls : List Literal) → Each (LiteralIn (maximumIndex c)) ls → ClauseVariables (λ x. In (maximumIndex c) (x .1)) (map (writtenLiteral term (substitution term c)) ls)
+  clause-in c K [] h = tt
+  clause-in c K (l ∷ ls) h = (
+    variables-more (λ y. In (maximumIndex c) (y .1) × (lookup c y ≡ none)) (λ y. In (maximumIndex c) (y .1)) (λ y p. p .0) (writtenOut term (substitution term c) (l .1))
+        (unbound-at (In (maximumIndex c)) term (lookup c) (substitution term c) (lookup-solved row term termLaw c K) (l .1) (h .0)),
+    clause-in c K ls (h .1),
+  )
+
+  below : (n : ℕ) (C : Clause) → ClauseVariables (λ x. In n (x .1)) C → ClauseVariables (λ x. x .1 ≤ n) C
+  below n [] h = tt
+  below n (l ∷ C) h = (variables-more (λ x. In n (x .1)) (λ x. x .1 ≤ n) (λ x p. p .1) (l .1) (h .0), below n C (h .1))
+
+  above : (m n : ℕ) (C : Clause) → ClauseVariables (λ x. In n (x .1)) C → ClauseVariables (λ x. m < x .1) (instantiated (renamed m) C)
+  above m n [] h = tt
+  above m n (l ∷ C) h = (
+    variables-apply (λ x. m < x .1) (renamed m) (l .1) (variables-more (λ x. In n (x .1)) (λ x. m < m + x .1) (λ x p. let k = p .0 in omega arith) (l .1) (h .0)),
+    above m n C (h .1),
+  )
+
+  raise-back : (m : ℕ) (x y : Variable) → raise m x ≡ raise m y → x ≡ y
+  raise-back m x y p =
+      let a : x .0 ≡ y .0 = ap (λ (z : Variable). z .0) p in
+      let q : m + x .1 ≡ m + y .1 = ap (λ (z : Variable). z .1) p in
+      let b : x .1 ≡ y .1 = omega arith in
+      λ i. (a i, b i)
+
+  standardized-apart : (l r : Derivation) → Valid row l → Valid row r → StandardizedApart (renamed (maximumIndex l)) (written term l) (written term r)
+  standardized-apart l r Kl Kr = record {
+    renamedTo = raise (maximumIndex l);
+    isRenaming = λ x. refl;
+    oneToOne = raise-back (maximumIndex l);
+    bound = maximumIndex l;
+    leftBelow = below (maximumIndex l) (written term l) (clause-in l Kl (literals l) (literals-in l));
+    rightAbove = above (maximumIndex l) (maximumIndex r) (written term r) (clause-in r Kr (literals r) (literals-in r));
+  }
+
   -- The parents of a resolvent, their values and environments as one.
   module _ (l r : Derivation) (Kl : Valid row l) (Kr : Valid row r) where
     abbrev m : ℕ
@@ -118,6 +155,7 @@ module _ (row : ℕ → Row) (term : ℕ → Term ℕ) (termLaw : (r : ℕ) → 
 
         pub is-resolvent : (Y : Type 0) (number : ℕ) → Resolvent Y (renamed (maximumIndex l)) (written term l) a (written term r) b (written term (resolve number l a r b bs))
         is-resolvent Y number = record {
+          apart = standardized-apart l r Kl Kr;
           sign = s;
           left = writtenOut term (substitution term l) e;
           right = apply (renamed m) (writtenOut term (substitution term r) d);
@@ -168,29 +206,3 @@ module _ (row : ℕ → Row) (term : ℕ → Term ℕ) (termLaw : (r : ℕ) → 
         result = written-then term (substitution term c) (composed term (substitution term c) bs) φ N (value-after row term termLaw (In N) (lookup c) (substitution term c) Sc arities e d bs u κc ie id) (without (literals c) b) (each-without (LiteralIn N) (literals c) b (literals-in c))
             ∙ ap (instantiated φ) (map-without (writtenLiteral term (substitution term c)) (literals c) b);
       }
-
-  -- The variables of a written-out clause have indices up to its maximum index.
-  clause-in : (c : Derivation) → Valid row c → (ls : List Literal) → Each (LiteralIn (maximumIndex c)) ls → ClauseVariables (λ x. In (maximumIndex c) (x .1)) (map (writtenLiteral term (substitution term c)) ls)
-  clause-in c K [] h = tt
-  clause-in c K (l ∷ ls) h = (
-    variables-more (λ y. In (maximumIndex c) (y .1) × (lookup c y ≡ none)) (λ y. In (maximumIndex c) (y .1)) (λ y p. p .0) (writtenOut term (substitution term c) (l .1))
-        (unbound-at (In (maximumIndex c)) term (lookup c) (substitution term c) (lookup-solved row term termLaw c K) (l .1) (h .0)),
-    clause-in c K ls (h .1),
-  )
-
-  below : (n : ℕ) (C : Clause) → ClauseVariables (λ x. In n (x .1)) C → ClauseVariables (λ x. x .1 ≤ n) C
-  below n [] h = tt
-  below n (l ∷ C) h = (variables-more (λ x. In n (x .1)) (λ x. x .1 ≤ n) (λ x p. p .1) (l .1) (h .0), below n C (h .1))
-
-  above : (m n : ℕ) (C : Clause) → ClauseVariables (λ x. In n (x .1)) C → ClauseVariables (λ x. m < x .1) (instantiated (renamed m) C)
-  above m n [] h = tt
-  above m n (l ∷ C) h = (
-    variables-apply (λ x. m < x .1) (renamed m) (l .1) (variables-more (λ x. In n (x .1)) (λ x. m < m + x .1) (λ x p. let k = p .0 in omega arith) (l .1) (h .0)),
-    above m n C (h .1),
-  )
-
-  pub standardized-apart : (l r : Derivation) → Valid row l → Valid row r → StandardizedApart (maximumIndex l) (written term l) (written term r)
-  standardized-apart l r Kl Kr = record {
-    leftBelow = below (maximumIndex l) (written term l) (clause-in l Kl (literals l) (literals-in l));
-    rightAbove = above (maximumIndex l) (maximumIndex r) (written term r) (clause-in r Kr (literals r) (literals-in r));
-  }

@@ -19,7 +19,7 @@ use Rattle.verdict.specs.State.{State, emptyState, withRow, withClause, 
 use Rattle.verdict.specs.Step.{stands, refused, Result, step, unifyResolve, unifyFactor, enter, read, allStand, refusedAt}
 use Rattle.verdict.specs.Verdict.{ending}
 use Rattle.verdict.proofs.Inversions.{tests-passed, stands-same, all-stand, named-stands, clause-added, Passed}
-use Rattle.verdict.proofs.Reading.{ending-stands, start-ok}
+use Rattle.verdict.proofs.Reading.{start-ok, read-on}
 use Rattle.verdict.proofs.Sources.{Sourced, step-sourced}
 use Rattle.verdict.proofs.Standing.{StateOk}
 use Rattle.verdict.proofs.Steps.{step-ok}
@@ -49,20 +49,6 @@ pub record Standing (F : List ℕ) (k : ℕ) (S : State) : Type 0 where
 
 pub standing-start : (F : List ℕ) → Standing F 0 emptyState
 standing-start F = record { before = refl; ok = start-ok; sourced = tt; tally = record { total = omega arith; aritiesRead = tt; rowsFit = tt; distinct = tt } }
-
--- Reading goes on where it stopped.
-read-on : (S : State) (j : ℕ) (xs ys : List Record) (T : State) → read S j xs ≡ allStand T → read S j (xs ++ ys) ≡ read T (j + length xs) ys
-read-on S j [] ys T q = ap₂ (λ (U : State) (i : ℕ). read U i ys) (ending-stands q) (sym (add-zero j))
-read-on S j (x ∷ xs) ys T q = try (step S j x) refl q (λ U p. read-on U (suc j) xs ys T p)
-  where
-    no : {p : Reason} → refusedAt S p j ≡ allStand T → ⊥
-    no e = let z : _≡_ {A = ℕ} 0 1 = cc in omega arith
-
-    try : (o : Result) → step S j x ≡ o → elim o [ stands U ↦ read U (suc j) xs | refused p ↦ refusedAt S p j ] ≡ allStand T
-        → ((U : State) → read U (suc j) xs ≡ allStand T → read U (suc j) (xs ++ ys) ≡ read T (suc j + length xs) ys)
-        → elim o [ stands U ↦ read U (suc j) (xs ++ ys) | refused p ↦ refusedAt S p j ] ≡ read T (j + suc (length xs)) ys
-    try (stands U) e p ih = ih U p ∙ ap (λ (i : ℕ). read T i ys) (suc-add j (length xs) ∙ sym (add-suc j (length xs)))
-    try (refused p) e q ih = absurd (no q)
 
 pub take-next : (k : ℕ) (rs : List Record) (r : Record) (rest : List Record) → drop k rs ≡ r ∷ rest → take (suc k) rs ≡ take k rs ++ (r ∷ [])
 take-next zero [] r rest q = absurd (let z : _≡_ {A = ℕ} 0 1 = cc in omega arith)

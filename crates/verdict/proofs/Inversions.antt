@@ -16,8 +16,7 @@ use Rattle.unification.proofs.Rows.{Below, eqb-below}
 use Rattle.unification.proofs.Tests.{to-T, from-T, both-true, true-not-false, some-not-none, some-injective}
 use Rattle.derivation.specs.Derivation.{literals, Literal, RowLiteral, inputLiterals, Derivation, numbered}
 use Rattle.derivation.proofs.Literals.{leb-false-lt}
-use Rattle.verdict.specs.Demands.{FirstFailing, failsHere, passesHere, AllPass}
-use Rattle.verdict.specs.Refusal.{tests, Reason, unification, inRange, literalIn, literalNamed, leftOf, rightOf, deletedOf, isThere, hasArity, allBelow, argumentsThere, literalRowsThere, bothThere, newRow, differsFromAll, allApplications, equalSigns, fittingSigns, resolventFits, factorFits}
+use Rattle.verdict.specs.Refusal.{tests, Reason, reasonNumber, unification, inRange, literalIn, literalNamed, leftOf, rightOf, deletedOf, isThere, hasArity, allBelow, argumentsThere, literalRowsThere, bothThere, newRow, differsFromAll, allApplications, equalSigns, fittingSigns, resolventFits, factorFits}
 use Rattle.verdict.specs.State.{State, withClause, entry, rowsOf, clauseOf, rowOf}
 use Rattle.verdict.specs.Step.{stands, refused, Result, require, requireAll, step, addClause, onNamed}
 
@@ -32,6 +31,15 @@ refused-not-stands p = let z : _≡_ {A = ℕ} 0 1 = cc in omega arith
 
 stands-not-refused : {q : Reason} {S : State} → stands S ≡ refused q → ⊥
 stands-not-refused p = let z : _≡_ {A = ℕ} 0 1 = cc in omega arith
+
+-- The test for a reason is the first of a list that fails; all tests of a list pass.
+pub data FirstFailing : List (Bool × Reason) → Reason → Type 0 where
+  failsHere : {t : Bool × Reason} {ts : List (Bool × Reason)} → t .0 ≡ false → FirstFailing (t ∷ ts) (t .1)
+  passesHere : {t : Bool × Reason} {ts : List (Bool × Reason)} {reason : Reason} → t .0 ≡ true → FirstFailing ts reason → FirstFailing (t ∷ ts) reason
+
+abbrev pub AllPass : List (Bool × Reason) → Type 0
+AllPass [] = Unit {0}
+AllPass (t ∷ ts) = (t .0 ≡ true) × AllPass ts
 
 pub all-stand : (ts : List (Bool × Reason)) (next : Result) (S : State) → requireAll ts next ≡ stands S → AllPass ts × (next ≡ stands S)
 unfolding require
@@ -199,15 +207,35 @@ Passed S resolveKind r = PassedResolve S r
 Passed S factorKind r = PassedFactor S r
 Passed S otherKind r = ⊥
 
--- The one place that takes the list of a kind's tests apart.
+-- The test that a list has for a number; true where it has none.
+abbrev pub testFor : List (Bool × Reason) → ℕ → Bool
+testFor [] n = true
+testFor (t ∷ ts) n = pick (eqb (reasonNumber (t .1)) n) (t .0) (testFor ts n)
+
+pub passed-for : (ts : List (Bool × Reason)) → AllPass ts → (n : ℕ) → testFor ts n ≡ true
+passed-for [] a n = refl
+passed-for (t ∷ ts) a n = try (eqb (reasonNumber (t .1)) n) (passed-for ts (a .1) n)
+  where
+    try : (b : Bool) → testFor ts n ≡ true → pick b (t .0) (testFor ts n) ≡ true
+    try true k = a .0
+    try false k = k
+
 pub tests-passed : (S : State) (kind : Kind) (r : Record) → AllPass (tests S kind r) → Passed S kind r
-tests-passed S symbolKind r a = a .0
-tests-passed S variableKind r a = record { ranged = a .0; fresh = a .1 .0 }
-tests-passed S applicationKind r a = record { ranged = a .0; there = a .1 .0; fresh = a .1 .1 .0 }
-tests-passed S inputKind r a = record { ranged = a .0; there = a .1 .0; applications = a .1 .1 .0 }
-tests-passed S resolveKind r a = record { ranged = a .0; there = a .1 .0; signs = a .1 .1 .0; limits = a .1 .1 .1 .0 }
-tests-passed S factorKind r a = record { ranged = a .0; there = a .1 .0; signs = a .1 .1 .0; limits = a .1 .1 .1 .0 }
-tests-passed S otherKind r a = true-not-false (a .0) refl
+tests-passed S symbolKind r a = passed-for (tests S symbolKind r) a 4
+tests-passed S variableKind r a = record { ranged = passed-for (tests S variableKind r) a 4; fresh = passed-for (tests S variableKind r) a 6 }
+tests-passed S applicationKind r a =
+    let p = passed-for (tests S applicationKind r) a in
+    record { ranged = p 4; there = p 5; fresh = p 6 }
+tests-passed S inputKind r a =
+    let p = passed-for (tests S inputKind r) a in
+    record { ranged = p 4; there = p 5; applications = p 7 }
+tests-passed S resolveKind r a =
+    let p = passed-for (tests S resolveKind r) a in
+    record { ranged = p 4; there = p 5; signs = p 8; limits = p 9 }
+tests-passed S factorKind r a =
+    let p = passed-for (tests S factorKind r) a in
+    record { ranged = p 4; there = p 5; signs = p 8; limits = p 9 }
+tests-passed S otherKind r a = true-not-false (passed-for (tests S otherKind r) a 3) refl
 
 pub not-below : (i n : ℕ) → ltb i n ≡ false → n ≤ i
 not-below i n q = try (leb n i) refl

@@ -2,7 +2,9 @@ pub mod Inversions
 pub mod Standing
 pub mod Steps
 pub mod Reading
+pub mod Declared
 pub mod Acceptance
+pub mod Conditions
 pub mod Resolution
 pub mod Refusals
 pub mod Demanded
