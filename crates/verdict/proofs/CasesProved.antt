@@ -1,9 +1,8 @@
 -- The case sheet's marked cases, the lengths and the edges of the limits, by computing.
-use mathlib.Core.Path.{_≡_, refl, ap}
+use mathlib.Core.Path.{_≡_, refl}
 use mathlib.Core.Bool.{false}
 use mathlib.Core.List.{List}
 use Prim.Native.Nat.{ℕ}
-use native.Mathlib.Omega.{arith}
 use lib.ListN.{length}
 use Rattle.record.specs.Record.{records}
 use Rattle.unification.specs.Unification.{mostWork, mostBindings, mostLinks, run}

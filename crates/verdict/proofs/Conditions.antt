@@ -4,7 +4,7 @@ use mathlib.Core.Path.{_≡_, refl, sym, ap, ap₂, _∙_, subst}
 use mathlib.Core.Logic.{_⊎_, inl, inr}
 use mathlib.Core.Bool.{Bool, true, false, _&&_, not}
 use mathlib.Core.Option.{Option, none, some}
-use mathlib.Core.List.{List, [], _∷_, _++_, map}
+use mathlib.Core.List.{List, [], _∷_, map}
 use Prim.Native.Nat.{ℕ, zero, suc, _+_, _-_, _/_, _≤_, _<_}
 use native.Mathlib.Omega.{arith}
 use lib.Dec.{eqb, leb, ltb, eqb→eq, eqb-refl, leb→le, ltb→lt, nltb→le}
@@ -12,7 +12,7 @@ use lib.ListN.{length, getD, take, drop, length-take, length-drop, length-map, l
 use lib.Seq.{getD-take, getD-drop, ext-getD}
 use Rattle.record.specs.Record.{pick, Record, otherKind, Kind, symbolKind, variableKind, applicationKind, inputKind, resolveKind, factorKind, kindNumbered, fieldA, fieldB, fieldC, fieldD}
 use Rattle.record.proofs.Records.{Shaped}
-use Rattle.unification.specs.Row.{variable, Row, application, noSymbol}
+use Rattle.unification.specs.Row.{variable, Row, application}
 use Rattle.unification.proofs.Lists.{Each, map-map}
 use Rattle.unification.proofs.Tests.{to-T, from-T, both-true, true-not-false, some-not-none, some-injective}
 use Rattle.derivation.specs.Derivation.{literals, Literal, RowLiteral, literalOf, inputLiterals, Derivation, resolve, factor, numbered, without, raiseLiteral, maximumIndex}
@@ -497,7 +497,7 @@ module _ (earlier : List Record) (shaped : Shaped earlier) (S : State) (rows : E
       let z = equal-rows-found (DeclaredBy earlier) (newRow kind r) (rowsOf S) rows q in
       let D = z .1 in
       let A = alike (D .by) r (shaped-one earlier shaped (D .by) (D .isRecord)) seven (kindOfRecord (D .by)) kind (D .isRow) i refl e (D .ranged) (subst (λ (k : Kind). inRange k r ≡ true) (sym e) g)
-          (subst (λ (u : Row). equalRows u (newRow kind r) ≡ true) (D .row) (z .2)) in
+      (subst (λ (u : Row). equalRows u (newRow kind r) ≡ true) (D .row) (z .2)) in
       record {
         isRow = row-number kind i (r .kind) (of-kind r kind e);
         other = D .by;

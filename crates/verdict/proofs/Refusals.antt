@@ -1,5 +1,5 @@
 -- A record is refused exactly where the condition stated for a number holds, and with the lowest such number.
-use mathlib.Core.Path.{_≡_, refl, sym, ap, ap₂, _∙_, subst, subst₂}
+use mathlib.Core.Path.{_≡_, refl, sym, ap, _∙_, subst, subst₂}
 use mathlib.Core.Logic.{_⊎_, inl, inr}
 use mathlib.Core.Bool.{Bool, true, false, not}
 use mathlib.Core.Option.{some}
@@ -19,7 +19,7 @@ use Rattle.unification.proofs.Limits.{bindings-8192, work-16384}
 use Rattle.unification.proofs.Tests.{to-T, true-not-false, some-injective}
 use Rattle.derivation.specs.Derivation.{Literal, Derivation, resolve, factor, raise, maximumIndex, joined, lookup}
 use Rattle.derivation.specs.Written.{renamed}
-use Rattle.verdict.specs.Conditions.{OneOf, RowRepeated, Resolves, Factors, Fails, StepFails, resolveFails, factorFails, Condition, unknownKind, rangeLeft, nothingThere, rowAgain, variableAsLiteral, unfitSigns, largeResult, clashing, occurring, overworking, overfull}
+use Rattle.verdict.specs.Conditions.{OneOf, RowRepeated, Fails, StepFails, resolveFails, factorFails, Condition, unknownKind, rangeLeft, nothingThere, rowAgain, variableAsLiteral, unfitSigns, largeResult, clashing, occurring, overworking, overfull}
 use Rattle.verdict.specs.Demands.{Reached, atomOf, StepAtoms, resolveAtoms, factorAtoms}
 use Rattle.verdict.specs.Refusal.{tests, Reason, unification, reasonNumber, kindOfRecord, inRange, leftOf, rightOf, deletedOf, newRow, differsFromAll}
 use Rattle.verdict.specs.State.{State, emptyState, rowsOf, rowOf, held, nextClause}
