@@ -28,6 +28,7 @@ use Rattle.verdict.specs.Step.{refused, step, read, Ending, allStand, re
 use Rattle.verdict.specs.Tables.{Tables, lengthsOf, clauseCells, filledTables, tablesAfter}
 use Rattle.verdict.specs.Verdict.{Verdict, refusal, check, accepted, open′, Answer, firstEmpty, everyClause, standing, verdictOf, answerOf, Lengths, longEnough, fittingLength, ending, Stands}
 use Rattle.verdict.proofs.Acceptance.{none-empty, first-lowest, some-first, cells-length, index-cell}
+use Rattle.verdict.proofs.Added.{step-adds}
 use Rattle.verdict.proofs.Conditions.{not-true, either-false, unequal, equal, at-most}
 use Rattle.verdict.proofs.Inversions.{entry-below}
 use Rattle.verdict.proofs.Reading.{read-refused, reached-seven, reached-ok, reached-refused, comes-ok, stands-ok, term-of-row, one-arity}
@@ -157,21 +158,6 @@ module _ (file : List ℕ) (tables : Tables) where
   found-condition : (q : Reason) (k : ℕ) (F : Found q k) → Condition (take k (records file)) (F .state) (F .refusedRecord) (reasonNumber q)
   found-condition q k F = refused-condition file k (F .state) (F .refusedRecord) (F .reached) q (F .refusedBy)
 
-  pub demand1 : Demand1 file tables
-  demand1 = record { tablesOfRefusal = λ q k z. try q k (refused-by q k z) }
-    where
-      try : (q : Reason) (k : ℕ) → Refused q k → Untouched file tables q k ⊎ LeftBefore file tables q k
-      try q k (forLength a b f) = inl (record { number = inl (ap reasonNumber a); record0 = b; counts = check-length f ∙ ap (λ (x : Reason). answerOf (refusal x 0) emptyState) (sym a); tablesKept = tables-length f })
-      try q k (forTables a b f l) = inl (record { number = inr (inl (ap reasonNumber a)); record0 = b; counts = check-tables f l ∙ ap (λ (x : Reason). answerOf (refusal x 0) emptyState) (sym a); tablesKept = tables-short f l })
-      try q k (forRecord f l F) = inr (record {
-        number = condition-number (reasonNumber q) (found-condition q k F) .0;
-        state = F .state;
-        refusedRecord = F .refusedRecord;
-        reached = F .reached;
-        counts = check-reads f l ∙ ap (λ (e : Ending). answerOf (verdictOf e) (stateOf e)) (F .isEnding);
-        tablesFilled = tables-read f l ∙ ap (λ (e : Ending). filledTables (stateOf e) tables) (F .isEnding);
-      })
-
   -- Reason 1 is given only for the length.
   pub length-only : (k : ℕ) → check file (lengthsOf tables) .verdict ≡ refusal badLength k → fittingLength (length file) ≡ false
   length-only k z = try (refused-by badLength k z)
@@ -233,6 +219,26 @@ module _ (file : List ℕ) (tables : Tables) where
       try : (b : Bool) → longEnough (lengthsOf tables) ≡ b → b ≡ true
       try true p = refl
       try false p = absurd (h (table-short p))
+
+  pub demand1 : Demand1 file tables
+  demand1 = record {
+    tablesOfStanding = λ S st h.
+        let c = stands-check S st (long-enough h) in
+        record { counts = c ∙ ap (λ (v : Verdict). answerOf v S) (sym (ap (λ (a : Answer). a .verdict) c)); tablesFilled = stands-tables S st (long-enough h) };
+    tablesOfRefusal = λ q k z. try q k (refused-by q k z);
+  }
+    where
+      try : (q : Reason) (k : ℕ) → Refused q k → Untouched file tables q k ⊎ LeftBefore file tables q k
+      try q k (forLength a b f) = inl (record { number = inl (ap reasonNumber a); record0 = b; counts = check-length f ∙ ap (λ (x : Reason). answerOf (refusal x 0) emptyState) (sym a); tablesKept = tables-length f })
+      try q k (forTables a b f l) = inl (record { number = inr (inl (ap reasonNumber a)); record0 = b; counts = check-tables f l ∙ ap (λ (x : Reason). answerOf (refusal x 0) emptyState) (sym a); tablesKept = tables-short f l })
+      try q k (forRecord f l F) = inr (record {
+        number = condition-number (reasonNumber q) (found-condition q k F) .0;
+        state = F .state;
+        refusedRecord = F .refusedRecord;
+        reached = F .reached;
+        counts = check-reads f l ∙ ap (λ (e : Ending). answerOf (verdictOf e) (stateOf e)) (F .isEnding);
+        tablesFilled = tables-read f l ∙ ap (λ (e : Ending). filledTables (stateOf e) tables) (F .isEnding);
+      })
 
   condition-at : (q : Reason) (k : ℕ) → Refused q k → ConditionAt file tables (reasonNumber q) k
   condition-at q k (forLength a b f) = rw (a, b) (ofLength (length-unfit f))
@@ -334,6 +340,7 @@ module _ (file : List ℕ) (tables : Tables) where
 
   pub demand2 : (Y : Type 0) → Demand2 Y file tables
   demand2 Y = record {
+    declared = λ k S T r R q. step-adds S k r T (reached-seven file k S r R) q;
     writtenByLookup = λ S C n c q.
         let H = comes-ok file S C in
         let K = order-of 4096 S H n c q .valid in

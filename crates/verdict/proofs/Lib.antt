@@ -5,6 +5,7 @@ pub mod Reading
 pub mod Declared
 pub mod Acceptance
 pub mod Conditions
+pub mod Added
 pub mod Resolution
 pub mod Refusals
 pub mod Demanded

@@ -6,19 +6,19 @@ use mathlib.Core.Option.{some}
 use mathlib.Core.List.{List, [], _∷_}
 use Prim.Native.Nat.{ℕ, _+_, _*_, _≤_, _<_}
 use lib.ListN.{length, getD, take, drop}
-use Rattle.record.specs.Record.{Record, records, fieldA, fieldB, fieldC, fieldD}
-use Rattle.unification.specs.Environment.{follow, Ends}
-use Rattle.unification.specs.Row.{Expression, Variable, writtenOut}
+use Rattle.record.specs.Record.{pick, Record, records, fieldA, fieldB, fieldC, fieldD}
+use Rattle.unification.specs.Environment.{follow, Binding, Ends}
+use Rattle.unification.specs.Row.{variable, application, Expression, Variable, writtenOut}
 use Rattle.unification.specs.Term.{Term, apply}
 use Rattle.unification.specs.Unification.{mostLinks}
 use Rattle.unification.specs.Unifier.{TermPair, Unifies, NoUnifier}
-use Rattle.derivation.specs.Derivation.{literals, input, Literal, Derivation, maximumIndex, lookup, Use, uses}
+use Rattle.derivation.specs.Derivation.{literals, input, Literal, RowLiteral, Derivation, resolve, factor, numbered, maximumIndex, lookup, Use, uses}
 use Rattle.derivation.specs.Ground.{instances, Ground, Values, valueIn, WellFormedInstances, Assignment, AllTrue}
 use Rattle.derivation.specs.Textbook.{Resolvent, Factor}
 use Rattle.derivation.specs.Written.{written, substitution, renamed, WritesOut}
-use Rattle.verdict.specs.Conditions.{OneOf, LengthUnfit, TableShort, OutOfRange, Resolves, Factors, SignsUnfit, Condition}
+use Rattle.verdict.specs.Conditions.{OneOf, fieldNumbered, LengthUnfit, TableShort, OutOfRange, Resolves, Factors, SignsUnfit, Condition}
 use Rattle.verdict.specs.Refusal.{Reason, reasonNumber}
-use Rattle.verdict.specs.State.{State, emptyState, withClause, entry, rowsOf, derivations, arityOf, clauseOf, rowOf, termOf}
+use Rattle.verdict.specs.State.{State, emptyState, withSymbol, withRow, withClause, entry, rowsOf, derivations, nextClause, arityOf, clauseOf, rowOf, termOf}
 use Rattle.verdict.specs.Step.{stands, refused, step, read, allStand, stateOf}
 use Rattle.verdict.specs.Tables.{Tables, lengthsOf, filledTables, tablesAfter}
 use Rattle.verdict.specs.Verdict.{refusal, check, accepted, open′, everyClause, answerOf, fittingLength, ending, Stands}
@@ -55,11 +55,33 @@ pub record LeftBefore (file : List ℕ) (tables : Tables) (reason : Reason) (k :
   pub counts : check file (lengthsOf tables) ≡ answerOf (refusal reason k) state
   pub tablesFilled : tablesAfter file tables ≡ filledTables state tables
 
+-- Not refused: counts and tables are those of the state that all records leave.
+pub record LeftByAll (file : List ℕ) (tables : Tables) (S : State) : Type 0 where
+  pub counts : check file (lengthsOf tables) ≡ answerOf (check file (lengthsOf tables) .verdict) S
+  pub tablesFilled : tablesAfter file tables ≡ filledTables S tables
+
 pub record Demand1 (file : List ℕ) (tables : Tables) : Type 0 where
+  -- A file that stands, with tables long enough, leaves the tables with exactly its records.
+  pub tablesOfStanding : (S : State) → Stands file S → ¬ TableShort tables → LeftByAll file tables S
   -- A refusal leaves the tables with exactly the records before it, or for reasons 1 and 2 untouched.
   pub tablesOfRefusal : (reason : Reason) (k : ℕ) → check file (lengthsOf tables) .verdict ≡ refusal reason k → Untouched file tables reason k ⊎ LeftBefore file tables reason k
 
 -- ── Demand 2: the textbook's resolution, and refusals only where they are due ──
+
+-- What a record that stands adds to the state, as the table of kinds has it: a symbol with its arity; a row; an input clause with its
+-- literals, each 2 × row, plus 1 if positive; the clause of a step, over its parents.
+pub data Adds (S : State) (k : ℕ) (r : Record) (T : State) : Type 0 where
+  addsSymbol : r .kind ≡ 1 → T ≡ withSymbol S k (r .count) → Adds S k r T
+  addsVariable : r .kind ≡ 2 → T ≡ withRow S k (variable (fieldA r)) → Adds S k r T
+  addsApplication : {xs : List ℕ} → r .kind ≡ 3 → length xs ≡ r .count → ((i : ℕ) → i < r .count → getD xs i 0 ≡ fieldNumbered r (1 + i))
+      → T ≡ withRow S k (application (fieldA r) xs) → Adds S k r T
+  addsInput : {ls : List RowLiteral} → r .kind ≡ 4 → length ls ≡ r .count
+      → ((i : ℕ) (l : RowLiteral) → numbered ls (1 + i) ≡ some l → 2 * l .1 + pick (l .0) 1 0 ≡ fieldNumbered r i)
+      → T ≡ withClause S k (input (nextClause S) ls) → Adds S k r T
+  addsResolvent : {left right : Derivation} {l m : Literal} {bs : List Binding} → Resolves S r left right l m
+      → T ≡ withClause S k (resolve (nextClause S) left (fieldB r) right (fieldD r) bs) → Adds S k r T
+  addsFactor : {parent : Derivation} {l m : Literal} {bs : List Binding} → Factors S r parent l m
+      → T ≡ withClause S k (factor (nextClause S) parent (fieldB r) (fieldC r) bs) → Adds S k r T
 
 -- An atom of a clause, written out.
 abbrev pub atomOf : State → Derivation → Literal → Term Variable
@@ -116,6 +138,8 @@ pub record LowestEmpty (test : Derivation → Bool) (S : State) (n : ℕ) : Type
 
 -- Unifiers have values that are terms over Y; the textbook's own are those with Y = Variable. It is proved for every Y.
 pub record Demand2 (Y : Type 0) (file : List ℕ) (tables : Tables) : Type 0 where
+  -- What stands is what the file says.
+  pub declared : (k : ℕ) (S T : State) (r : Record) → Reached file k S r → step S k r ≡ stands T → Adds S k r T
   -- Clauses are written out by what looking up gives, and by nothing else, in every state that reading comes to.
   pub writtenByLookup : (S : State) → ComesTo file S → (n : ℕ) (c : Derivation) → clauseOf S n ≡ some c
       → WritesOut (termOf S) (lookup c) (substitution (termOf S) c)
