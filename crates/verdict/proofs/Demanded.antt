@@ -25,13 +25,13 @@ use Rattle.verdict.specs.Demands.{Reached, Untouched, LeftBefore, Demand
 use Rattle.verdict.specs.Refusal.{Reason, badLength, shortTable, reasonNumber}
 use Rattle.verdict.specs.State.{State, emptyState, rowsOf, derivations, arityOf, clauseOf, rowOf, termOf, held}
 use Rattle.verdict.specs.Step.{refused, step, read, Ending, allStand, refusedAt, stateOf}
-use Rattle.verdict.specs.Tables.{Tables, lengthsOf, clauseCells, filledTables, tablesAfter}
-use Rattle.verdict.specs.Verdict.{Verdict, refusal, check, accepted, open′, Answer, firstEmpty, everyClause, standing, verdictOf, answerOf, Lengths, longEnough, fittingLength, ending, Stands}
+use Rattle.verdict.specs.Tables.{Tables, lengthsOf, clauseCells, filledTables, tablesGiven, tablesAfter}
+use Rattle.verdict.specs.Verdict.{Verdict, refusal, check, accepted, open′, Answer, firstEmpty, everyClause, standing, verdictOf, answerOf, Lengths, longEnough, fittingLength, ending, Stands, Reading, verdictGiven, stateGiven}
 use Rattle.verdict.proofs.Acceptance.{none-empty, first-lowest, some-first, cells-length, index-cell}
 use Rattle.verdict.proofs.Added.{step-adds}
 use Rattle.verdict.proofs.Conditions.{not-true, either-false, unequal, equal, at-most}
 use Rattle.verdict.proofs.Inversions.{entry-below}
-use Rattle.verdict.proofs.Reading.{read-refused, reached-seven, reached-ok, reached-refused, comes-ok, stands-ok, term-of-row, one-arity}
+use Rattle.verdict.proofs.Reading.{reading-length, reading-tables, reading-records, read-refused, reached-seven, reached-ok, reached-refused, comes-ok, stands-ok, term-of-row, one-arity}
 use Rattle.verdict.proofs.Refusals.{refused-condition, condition-refused, refused-no-unifier, condition-number}
 use Rattle.verdict.proofs.Resolution.{resolvent-added, factor-added, unifiable-stands}
 use Rattle.verdict.proofs.Standing.{below, order-of, inputs-of, known-of, held-links}
@@ -68,30 +68,33 @@ module _ (file : List ℕ) (tables : Tables) where
   abbrev lengths : Lengths
   lengths = lengthsOf tables
 
-  -- The three ways that a check can go.
+  -- The answer and the tables, by how the reading goes.
+  abbrev answerGiven : Reading → Answer
+  answerGiven R = answerOf (verdictGiven R) (stateGiven R)
+
   pub check-length : fittingLength (length file) ≡ false → check file (lengthsOf tables) ≡ answerOf (refusal badLength 0) emptyState
   unfolding check
-  check-length f = rw f
+  check-length f = ap answerGiven (reading-length file lengths f)
 
   pub check-tables : fittingLength (length file) ≡ true → longEnough (lengthsOf tables) ≡ false → check file (lengthsOf tables) ≡ answerOf (refusal shortTable 0) emptyState
   unfolding check
-  check-tables f l = rw (f, l)
+  check-tables f l = ap answerGiven (reading-tables file lengths f l)
 
   pub check-reads : fittingLength (length file) ≡ true → longEnough (lengthsOf tables) ≡ true → check file (lengthsOf tables) ≡ answerOf (verdictOf (ending file)) (stateOf (ending file))
   unfolding check
-  check-reads f l = rw (f, l)
+  check-reads f l = ap answerGiven (reading-records file lengths f l)
 
   pub tables-length : fittingLength (length file) ≡ false → tablesAfter file tables ≡ tables
   unfolding tablesAfter
-  tables-length f = rw f
+  tables-length f = ap (λ (R : Reading). tablesGiven R tables) (reading-length file lengths f)
 
   pub tables-short : fittingLength (length file) ≡ true → longEnough (lengthsOf tables) ≡ false → tablesAfter file tables ≡ tables
   unfolding tablesAfter
-  tables-short f l = rw (f, l)
+  tables-short f l = ap (λ (R : Reading). tablesGiven R tables) (reading-tables file lengths f l)
 
   pub tables-read : fittingLength (length file) ≡ true → longEnough (lengthsOf tables) ≡ true → tablesAfter file tables ≡ filledTables (stateOf (ending file)) tables
   unfolding tablesAfter
-  tables-read f l = rw (f, l)
+  tables-read f l = ap (λ (R : Reading). tablesGiven R tables) (reading-records file lengths f l)
 
   -- A file that stands, with tables long enough: answer and tables are those of the state that it leaves.
   pub stands-check : (S : State) → Stands file S → longEnough (lengthsOf tables) ≡ true → check file (lengthsOf tables) ≡ answerOf (verdictOf (allStand S)) S

@@ -1,6 +1,6 @@
 -- Reading a file record by record: every state on the way is in order, and a refusal leaves the state of the records before it.
 use mathlib.Core.Path.{_≡_, refl, sym, ap, ap₂, _∙_, subst}
-use mathlib.Core.Bool.{true}
+use mathlib.Core.Bool.{true, false}
 use mathlib.Core.List.{List, [], _∷_, _++_}
 use Prim.Native.Nat.{ℕ, zero, suc, _+_, _%_, _≤_}
 use native.Mathlib.Nat.{add-zero, add-suc, suc-add, zero-add}
@@ -13,13 +13,23 @@ use Rattle.unification.specs.Row.{application, noSymbol, rowTerm}
 use Rattle.unification.proofs.Rows.{term-law, row-arities}
 use Rattle.unification.proofs.Tests.{to-T, both-true}
 use Rattle.verdict.specs.Demands.{Reached, ComesTo, beforeRecord, lastState}
-use Rattle.verdict.specs.Refusal.{Reason}
+use Rattle.verdict.specs.Refusal.{Reason, badLength, shortTable}
 use Rattle.verdict.specs.State.{arities, State, emptyState, rowsOf, arityOf, rowOf, termOf}
 use Rattle.verdict.specs.Step.{stands, refused, Result, step, read, allStand, refusedAt, stateOf}
-use Rattle.verdict.specs.Verdict.{fittingLength, ending, Stands}
+use Rattle.verdict.specs.Verdict.{Lengths, longEnough, fittingLength, ending, Stands, untouched, readTo, reading}
 use Rattle.verdict.proofs.Inversions.{entry-none}
 use Rattle.verdict.proofs.Standing.{StateOk, held-start}
 use Rattle.verdict.proofs.Steps.{step-ok}
+
+-- The three ways that the reading of a file can go.
+pub reading-length : (file : List ℕ) (n : Lengths) → fittingLength (length file) ≡ false → reading file n ≡ untouched badLength
+reading-length file n f = rw f
+
+pub reading-tables : (file : List ℕ) (n : Lengths) → fittingLength (length file) ≡ true → longEnough n ≡ false → reading file n ≡ untouched shortTable
+reading-tables file n f l = rw (f, l)
+
+pub reading-records : (file : List ℕ) (n : Lengths) → fittingLength (length file) ≡ true → longEnough n ≡ true → reading file n ≡ readTo (ending file)
+reading-records file n f l = rw (f, l)
 
 pub ending-stands : {S T : State} → allStand S ≡ allStand T → S ≡ T
 ending-stands p = cc

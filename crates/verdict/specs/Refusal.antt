@@ -50,6 +50,7 @@ inRange applicationKind r = leb (r .count) 6 && zeros (drop (1 + r .count) (r .f
 inRange inputKind r = leb (r .count) 7 && zeros (drop (r .count) (r .fields))
 inRange resolveKind r = eqb (r .count) 0 && zeros (drop 4 (r .fields))
 inRange factorKind r = eqb (r .count) 0 && zeros (drop 3 (r .fields))
+-- Any other kind is refused with 3, before its range matters.
 inRange otherKind r = true
 
 -- The argument rows of an application.
@@ -74,7 +75,7 @@ rightOf S r = literalNamed S (fieldC r) (fieldD r)
 abbrev pub deletedOf : State → Record → Option (Derivation × Literal)
 deletedOf S r = literalNamed S (fieldA r) (fieldC r)
 
--- 5: every symbol, row, clause and literal named exists, and the number of arguments is the symbol's arity.
+-- 5: every symbol, row, clause and literal named exists, and the number of arguments is the symbol's arity. First its parts.
 abbrev pub isThere {ℓ} : {A : Type ℓ} → Option A → Bool
 isThere none = false
 isThere (some a) = true
@@ -87,7 +88,7 @@ abbrev pub allBelow : ℕ → List ℕ → Bool
 allBelow n [] = true
 allBelow n (a ∷ xs) = ltb a n && allBelow n xs
 
--- 5 of an application, of an input clause, and of a step.
+-- 5, of an application, of an input clause, and of a step.
 abbrev pub argumentsThere : State → Record → Bool
 argumentsThere S r = hasArity (r .count) (arityOf S (fieldA r)) && allBelow (length (rowsOf S)) (argumentRows r)
 
@@ -97,7 +98,7 @@ literalRowsThere S r = allBelow (length (rowsOf S)) (map (λ l. l .1) (inputLite
 abbrev pub bothThere : Option (Derivation × Literal) → Option (Derivation × Literal) → Bool
 bothThere x y = isThere x && isThere y
 
--- 6: the row differs from every earlier row in kind, byte 1 or a field.
+-- The row that a record of kind 2 or 3 declares; records of other kinds declare none.
 abbrev pub newRow : Kind → Record → Row
 newRow variableKind r = variable (fieldA r)
 newRow applicationKind r = application (fieldA r) (argumentRows r)
@@ -107,6 +108,7 @@ newRow resolveKind r = application noSymbol []
 newRow factorKind r = application noSymbol []
 newRow otherKind r = application noSymbol []
 
+-- 6: the row differs from every earlier row.
 abbrev pub equalLists : List ℕ → List ℕ → Bool
 equalLists [] [] = true
 equalLists [] (y ∷ ys) = false

@@ -82,8 +82,8 @@ fittingLength n = leb n 65536 && eqb (n % 16) 0
 unfoldable pub ending : List ℕ → Ending
 ending file = read emptyState 0 (records file)
 
--- The file stands and leaves S: its length fits, and every record of it stands. Tables do not come in: the check of a file that stands
--- refuses it only for a table too short.
+-- The file stands and leaves S: its length fits, and every record of it stands. Tables do not come in: the check refuses a file that
+-- stands only where a table is too short, and one that it does not refuse stands.
 pub record Stands (file : List ℕ) (S : State) : Type 0 where
   pub fits : fittingLength (length file) ≡ true
   pub reads : ending file ≡ allStand S
