@@ -10,6 +10,8 @@ use native.Mathlib.Omega.{arith}
 use lib.Dec.{eqb, leb}
 use lib.ListN.{length, getD, take, drop, replicate, length-map, List·getD-append}
 use Rattle.record.specs.Record.{pick, Record, records, kindNumbered}
+use Rattle.unification.specs.Environment.{follow, Ends}
+use Rattle.unification.specs.Row.{Expression}
 use Rattle.unification.specs.Unification.{mostLinks}
 use Rattle.unification.proofs.Chains.{short-le}
 use Rattle.unification.proofs.Rows.{row-there}
@@ -21,7 +23,7 @@ use Rattle.derivation.proofs.Known.{known-uses}
 use Rattle.derivation.proofs.Literals.{uses-length, leb-false-lt}
 use Rattle.derivation.proofs.Values.{refutes, writes-out, writes-out-unique, values-exist, values-unique}
 use Rattle.verdict.specs.Conditions.{OneOf, LengthUnfit, lengthOver, notMultiple, TableShort, symbolsShort, rowsShort, clausesShort, bindingsShort, Condition, unknownKind, rangeLeft, nothingThere, rowAgain, variableAsLiteral, unfitSigns, largeResult, clashing, occurring, overworking, overfull}
-use Rattle.verdict.specs.Demands.{Reached, Untouched, LeftBefore, Demand1, ConditionAt, ofLength, ofTables, ofRecord, Due, LowestEmpty, Demand2, FollowingEnds, Refutation, Demand3}
+use Rattle.verdict.specs.Demands.{Reached, ComesTo, Untouched, LeftBefore, Demand1, ConditionAt, ofLength, ofTables, ofRecord, Due, LowestEmpty, NoneEmpty, Demand2, Refutation, Demand3}
 use Rattle.verdict.specs.Refusal.{Reason, badLength, shortTable, reasonNumber}
 use Rattle.verdict.specs.State.{State, emptyState, rowsOf, derivations, arityOf, clauseOf, rowOf, termOf, held}
 use Rattle.verdict.specs.Step.{refused, step, read, Ending, allStand, refusedAt, stateOf}
@@ -321,7 +323,7 @@ module _ (file : List ℕ) (tables : Tables) where
       which none y = absurd (open-not-accepted y)
       which (some m) y = ap some (accepted-injective y)
 
-  open-ends : check file (lengthsOf tables) .verdict ≡ open′ → (S : State) × Stands file S × ((i : ℕ) (c : Derivation) → clauseOf S i ≡ some c → everyClause c ≡ true → ¬ (literals c ≡ []))
+  open-ends : check file (lengthsOf tables) .verdict ≡ open′ → (S : State) × Stands file S × NoneEmpty everyClause S
   open-ends z =
       let e = verdict-ends open′ (λ q k y. open-not-refusal y) z .1 in
       (e .0, e .1, none-empty everyClause (derivations (e .0)) (which (firstEmpty everyClause (derivations (e .0))) (e .2)))
@@ -341,9 +343,24 @@ module _ (file : List ℕ) (tables : Tables) where
       let s = some-first everyClause (derivations S) i c p t q in
       (s .0, ap (λ (a : Answer). a .verdict) (stands-check S st (long-enough h)) ∙ ap standing (s .1))
 
+  open-if : ¬ TableShort tables → (S : State) → Stands file S → NoneEmpty everyClause S → check file (lengthsOf tables) .verdict ≡ open′
+  open-if h S st e = ap (λ (a : Answer). a .verdict) (stands-check S st (long-enough h)) ∙ ap standing (try (firstEmpty everyClause (derivations S)) refl)
+    where
+      try : (o : Option ℕ) → firstEmpty everyClause (derivations S) ≡ o → o ≡ none
+      try none p = refl
+      try (some n) p = let L = lowest-empty everyClause S n p in absurd (e n (L .clause) (L .isClause) (L .passes) (L .empty))
+
+  -- Following never runs out of links.
+  following-ends : (S : State) → ComesTo file S → (n : ℕ) (c : Derivation) → clauseOf S n ≡ some c → (e : Expression) → e .0 < length (rowsOf S) → Ends (follow (rowOf S) mostLinks (lookup c) e)
+  following-ends S C n c q e l =
+      let H = comes-ok file S C in
+      let O = order-of 4096 S H n c q in
+      short-le (λ r. r < length (rowsOf S)) (rowOf S) (held S) mostLinks (lookup c) (held-links 4096 S H) (O .chains) e l
+
   pub demand2 : (Y : Type 0) → Demand2 Y file tables
   demand2 Y = record {
     declared = λ k S T r R q. step-adds S k r T (reached-seven file k S r R) q;
+    followingEnds = following-ends;
     writtenByLookup = λ S C n c q.
         let H = comes-ok file S C in
         let K = order-of 4096 S H n c q .valid in
@@ -359,14 +376,7 @@ module _ (file : List ℕ) (tables : Tables) where
     acceptedOnly = λ n z. let a = accepted-ends n z .1 in (a .0, a .1, lowest-empty everyClause (a .0) n (a .2));
     acceptedIf = accepted-if;
     openOnly = open-ends;
-  }
-
-  pub following-ends : FollowingEnds file
-  following-ends = record {
-    ends = λ S C n c q e l.
-        let H = comes-ok file S C in
-        let O = order-of 4096 S H n c q in
-        short-le (λ r. r < length (rowsOf S)) (rowOf S) (held S) mostLinks (lookup c) (held-links 4096 S H) (O .chains) e l;
+    openIf = open-if;
   }
 
   -- The cell of a clause's maximum index in the table that the check leaves.

@@ -136,11 +136,18 @@ pub record LowestEmpty (test : Derivation → Bool) (S : State) (n : ℕ) : Type
   pub empty : literals clause ≡ []
   pub lowest : (i : ℕ) (c : Derivation) → i < n → clauseOf S i ≡ some c → test c ≡ true → ¬ (literals c ≡ [])
 
+-- No such clause is there.
+abbrev pub NoneEmpty : (Derivation → Bool) → State → Type 0
+NoneEmpty test S = (n : ℕ) (c : Derivation) → clauseOf S n ≡ some c → test c ≡ true → ¬ (literals c ≡ [])
+
 -- Unifiers have values that are terms over Y; the textbook's own are those with Y = Variable. It is proved for every Y.
 pub record Demand2 (Y : Type 0) (file : List ℕ) (tables : Tables) : Type 0 where
   -- What stands is what the file says.
   pub declared : (k : ℕ) (S T : State) (r : Record) → Reached file k S r → step S k r ≡ stands T → Adds S k r T
-  -- Clauses are written out by what looking up gives, and by nothing else, in every state that reading comes to.
+  -- Following an expression over rows that exist ends, in every clause of every state that reading comes to.
+  pub followingEnds : (S : State) → ComesTo file S → (n : ℕ) (c : Derivation) → clauseOf S n ≡ some c → (e : Expression) → e .0 < length (rowsOf S)
+      → Ends (follow (rowOf S) mostLinks (lookup c) e)
+  -- Clauses are written out by what looking up gives, and by nothing else, in every such state.
   pub writtenByLookup : (S : State) → ComesTo file S → (n : ℕ) (c : Derivation) → clauseOf S n ≡ some c
       → WritesOut (termOf S) (lookup c) (substitution (termOf S) c)
       × ((τ : Variable → Term Variable) → WritesOut (termOf S) (lookup c) τ → (x : Variable) → substitution (termOf S) c x ≡ τ x)
@@ -166,11 +173,8 @@ pub record Demand2 (Y : Type 0) (file : List ℕ) (tables : Tables) : Type 0 whe
   pub acceptedOnly : (n : ℕ) → check file (lengthsOf tables) .verdict ≡ accepted n → (S : State) × Stands file S × LowestEmpty everyClause S n
   pub acceptedIf : ¬ TableShort tables → (S : State) → Stands file S → (i : ℕ) (c : Derivation) → clauseOf S i ≡ some c → everyClause c ≡ true → literals c ≡ []
       → (n : ℕ) × (check file (lengthsOf tables) .verdict ≡ accepted n)
-  pub openOnly : check file (lengthsOf tables) .verdict ≡ open′ → (S : State) × Stands file S × ((i : ℕ) (c : Derivation) → clauseOf S i ≡ some c → everyClause c ≡ true → ¬ (literals c ≡ []))
-
--- Following an expression over rows that exist ends, in every clause of every state that reading comes to.
-pub record FollowingEnds (file : List ℕ) : Type 0 where
-  pub ends : (S : State) → ComesTo file S → (n : ℕ) (c : Derivation) → clauseOf S n ≡ some c → (e : Expression) → e .0 < length (rowsOf S) → Ends (follow (rowOf S) mostLinks (lookup c) e)
+  pub openOnly : check file (lengthsOf tables) .verdict ≡ open′ → (S : State) × Stands file S × NoneEmpty everyClause S
+  pub openIf : ¬ TableShort tables → (S : State) → Stands file S → NoneEmpty everyClause S → check file (lengthsOf tables) .verdict ≡ open′
 
 -- ── Demand 3: a variable-free refutation behind every acceptance ──
 
