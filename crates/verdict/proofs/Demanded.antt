@@ -22,7 +22,7 @@ use Rattle.derivation.proofs.Forms.{instances-formed}
 use Rattle.derivation.proofs.Known.{known-uses}
 use Rattle.derivation.proofs.Literals.{uses-length, leb-false-lt}
 use Rattle.derivation.proofs.Values.{refutes, writes-out, writes-out-unique, values-exist, values-unique}
-use Rattle.verdict.specs.Conditions.{OneOf, LengthUnfit, lengthOver, notMultiple, TableShort, symbolsShort, rowsShort, clausesShort, bindingsShort, Condition, unknownKind, rangeLeft, nothingThere, rowAgain, variableAsLiteral, unfitSigns, largeResult, clashing, occurring, overworking, overfull}
+use Rattle.verdict.specs.Conditions.{OneOf, LengthUnfit, lengthOver, notMultiple, TableShort, symbolsShort, rowsShort, clausesShort, bindingsShort, Condition, unknownKind, outsideRange, nothingThere, rowAgain, variableAsLiteral, unfitSigns, largeResult, clashing, occurring, overworking, overfull}
 use Rattle.verdict.specs.Demands.{Reached, ComesTo, Untouched, LeftBefore, Demand1, ConditionAt, ofLength, ofTables, ofRecord, Due, LowestEmpty, NoneEmpty, Demand2, Refutation, Demand3}
 use Rattle.verdict.specs.Refusal.{Reason, badLength, shortTable, reasonNumber}
 use Rattle.verdict.specs.State.{State, emptyState, rowsOf, derivations, arityOf, clauseOf, rowOf, termOf, held}
@@ -289,7 +289,7 @@ module _ (file : List ℕ) (tables : Tables) where
 
   condition-stated : {earlier : List Record} {S : State} {r : Record} (n : ℕ) → Condition earlier S r n → OneOf n thirteen
   condition-stated n (unknownKind h) = one-of 3 thirteen refl
-  condition-stated n (rangeLeft h) = one-of 4 thirteen refl
+  condition-stated n (outsideRange h) = one-of 4 thirteen refl
   condition-stated n (nothingThere h) = one-of 5 thirteen refl
   condition-stated n (rowAgain h) = one-of 6 thirteen refl
   condition-stated n (variableAsLiteral h) = one-of 7 thirteen refl

@@ -19,7 +19,7 @@ use Rattle.unification.proofs.Limits.{bindings-8192, work-16384}
 use Rattle.unification.proofs.Tests.{to-T, true-not-false, some-injective}
 use Rattle.derivation.specs.Derivation.{Literal, Derivation, resolve, factor, raise, maximumIndex, joined, lookup}
 use Rattle.derivation.specs.Written.{renamed}
-use Rattle.verdict.specs.Conditions.{OneOf, RowRepeated, Fails, StepFails, resolveFails, factorFails, Condition, unknownKind, rangeLeft, nothingThere, rowAgain, variableAsLiteral, unfitSigns, largeResult, clashing, occurring, overworking, overfull}
+use Rattle.verdict.specs.Conditions.{OneOf, RowRepeated, Fails, StepFails, resolveFails, factorFails, Condition, unknownKind, outsideRange, nothingThere, rowAgain, variableAsLiteral, unfitSigns, largeResult, clashing, occurring, overworking, overfull}
 use Rattle.verdict.specs.Demands.{Reached, atomOf, StepAtoms, resolveAtoms, factorAtoms}
 use Rattle.verdict.specs.Refusal.{tests, Reason, unification, reasonNumber, kindOfRecord, inRange, leftOf, rightOf, deletedOf, newRow, differsFromAll}
 use Rattle.verdict.specs.State.{State, emptyState, rowsOf, rowOf, held, nextClause}
@@ -118,12 +118,12 @@ module _ (file : List ℕ) (k : ℕ) (S : State) (r : Record) (R : Reached file 
   again = row-repeated earlier (reached-shaped file k S r R) S (all-declared emptyState 0 earlier S refl (R .before)) r seven
 
   tests-sound : (kind : Kind) → kindOfRecord r ≡ kind → Sound (tests S kind r)
-  tests-sound symbolKind e = (λ p. rangeLeft (range-over r symbolKind e p), λ ranged. tt)
-  tests-sound variableKind e = (λ p. rangeLeft (range-over r variableKind e p), λ ranged. (λ p. rowAgain (again variableKind e variableRow ranged p), λ fresh. tt))
-  tests-sound applicationKind e = (λ p. rangeLeft (range-over r applicationKind e p), λ ranged. (λ p. nothingThere (arguments-absent S r seven e p), λ there. (λ p. rowAgain (again applicationKind e applicationRow ranged p), λ fresh. tt)))
-  tests-sound inputKind e = (λ p. rangeLeft (range-over r inputKind e p), λ ranged. (λ p. nothingThere (literal-rows-absent S r seven e p), λ there. (λ p. variableAsLiteral (literal-on-variable S r seven e p), λ _. tt)))
-  tests-sound resolveKind e = (λ p. rangeLeft (range-over r resolveKind e p), λ ranged. (λ p. nothingThere (resolve-absent S r seven e p), λ there. (λ p. unfitSigns (resolve-signs S r seven e there p), λ signs. (λ p. largeResult (resolvent-over S r seven e there p), λ fits. tt))))
-  tests-sound factorKind e = (λ p. rangeLeft (range-over r factorKind e p), λ ranged. (λ p. nothingThere (factor-absent S r seven e p), λ there. (λ p. unfitSigns (factor-signs S r seven e there p), λ signs. (λ p. largeResult (factor-over S r seven e there p), λ fits. tt))))
+  tests-sound symbolKind e = (λ p. outsideRange (range-over r symbolKind e p), λ ranged. tt)
+  tests-sound variableKind e = (λ p. outsideRange (range-over r variableKind e p), λ ranged. (λ p. rowAgain (again variableKind e variableRow ranged p), λ fresh. tt))
+  tests-sound applicationKind e = (λ p. outsideRange (range-over r applicationKind e p), λ ranged. (λ p. nothingThere (arguments-absent S r seven e p), λ there. (λ p. rowAgain (again applicationKind e applicationRow ranged p), λ fresh. tt)))
+  tests-sound inputKind e = (λ p. outsideRange (range-over r inputKind e p), λ ranged. (λ p. nothingThere (literal-rows-absent S r seven e p), λ there. (λ p. variableAsLiteral (literal-on-variable S r seven e p), λ _. tt)))
+  tests-sound resolveKind e = (λ p. outsideRange (range-over r resolveKind e p), λ ranged. (λ p. nothingThere (resolve-absent S r seven e p), λ there. (λ p. unfitSigns (resolve-signs S r seven e there p), λ signs. (λ p. largeResult (resolvent-over S r seven e there p), λ fits. tt))))
+  tests-sound factorKind e = (λ p. outsideRange (range-over r factorKind e p), λ ranged. (λ p. nothingThere (factor-absent S r seven e p), λ there. (λ p. unfitSigns (factor-signs S r seven e there p), λ signs. (λ p. largeResult (factor-over S r seven e there p), λ fits. tt))))
   tests-sound otherKind e = (λ p. unknownKind (of-kind r otherKind e), λ p. tt)
 
   -- ── A refusal by unification ──
@@ -236,7 +236,7 @@ module _ (file : List ℕ) (k : ℕ) (S : State) (r : Record) (R : Reached file 
 
   pub condition-refused : (n : ℕ) → Condition (take k (records file)) S r n → (q : Reason) × (step S k r ≡ refused q) × (reasonNumber q ≤ n)
   condition-refused n (unknownKind h) = test-refuses 3 (subst (λ (kind : Kind). testFor (tests S kind r) 3 ≡ false) (sym (other-kind r h)) refl)
-  condition-refused n (rangeLeft h) = test-refuses 4 (ranges-differ (kindOfRecord r) (out-of-range r h))
+  condition-refused n (outsideRange h) = test-refuses 4 (ranges-differ (kindOfRecord r) (out-of-range r h))
   condition-refused n (nothingThere h) = two-refuse 4 5 (omega arith) (not-there S r seven h)
   condition-refused n (rowAgain h) = test-refuses 6 (repeated-fails earlier (reached-shaped file k S r R) S (all-declared emptyState 0 earlier S refl (R .before)) r seven (declared-there emptyState 0 earlier S (R .before)) h)
   condition-refused n (variableAsLiteral h) = two-refuse 4 7 (omega arith) (on-variable-fails S r seven h)
@@ -300,7 +300,7 @@ module _ (file : List ℕ) (k : ℕ) (S : State) (r : Record) (R : Reached file 
 -- The numbers of conditions.
 pub condition-number : {earlier : List Record} {S : State} {r : Record} (n : ℕ) → Condition earlier S r n → (3 ≤ n) × (n ≤ 13)
 condition-number n (unknownKind h) = omega arith
-condition-number n (rangeLeft h) = omega arith
+condition-number n (outsideRange h) = omega arith
 condition-number n (nothingThere h) = omega arith
 condition-number n (rowAgain h) = omega arith
 condition-number n (variableAsLiteral h) = omega arith

@@ -31,6 +31,15 @@ use Rattle.verdict.proofs.Steps.{NamedResolve, NamedFactor, signs-resol
 pub at-kind : (S : State) (k : ℕ) (r : Record) (kind : Kind) → kindOfRecord r ≡ kind → step S k r ≡ requireAll (tests S kind r) (enter S k kind r)
 at-kind S k r kind e = ap (λ (z : Kind). requireAll (tests S z r) (enter S k z r)) e
 
+-- A step is its tests, one after the other, and then what it enters.
+pub step-resolve : (S : State) (k : ℕ) (r : Record) → kindOfRecord r ≡ resolveKind
+    → step S k r ≡ require (inRange resolveKind r) outOfRange (require (bothThere (leftOf S r) (rightOf S r)) notThere (require (fittingSigns S resolveKind r) wrongSigns (require (resolventFits S r) tooLarge (enter S k resolveKind r))))
+step-resolve S k r e = at-kind S k r resolveKind e
+
+pub step-factor : (S : State) (k : ℕ) (r : Record) → kindOfRecord r ≡ factorKind
+    → step S k r ≡ require (inRange factorKind r) outOfRange (require (bothThere (leftOf S r) (deletedOf S r)) notThere (require (fittingSigns S factorKind r) wrongSigns (require (factorFits S r) tooLarge (enter S k factorKind r))))
+step-factor S k r e = at-kind S k r factorKind e
+
 -- On the literals that it names, a step is its unification.
 pub enter-resolve : (S : State) (k : ℕ) (r : Record) (x y : Derivation × Literal) → leftOf S r ≡ some x → rightOf S r ≡ some y → enter S k resolveKind r ≡ addClause S k (resolve (nextClause S) (x .0) (fieldB r) (y .0) (fieldD r)) (unifyResolve S x y)
 enter-resolve S k r x y p q = rw (p, q)
@@ -155,7 +164,7 @@ module _ (S : State) (H : StateOk 4096 S) (k : ℕ) (r : Record) where
   resolve-stands Y x y e p q range f τ z =
       let g = signs-resolve S r x y p q f in
       outcome (resolventFits S r) (resolve (nextClause S) (x .0) (fieldB r) (y .0) (fieldD r)) (unifyResolve S x y)
-      (at-kind S k r resolveKind e ∙ to-limits (inRange resolveKind r) (bothThere (leftOf S r) (rightOf S r)) (fittingSigns S resolveKind r) (resolventFits S r) _ range (rw (p, q)) f ∙ ap (require (resolventFits S r) tooLarge) (enter-resolve S k r x y p q))
+      (step-resolve S k r e ∙ to-limits (inRange resolveKind r) (bothThere (leftOf S r) (rightOf S r)) (fittingSigns S resolveKind r) (resolventFits S r) _ range (rw (p, q)) f ∙ ap (require (resolventFits S r) tooLarge) (enter-resolve S k r x y p q))
       (λ w. resolve-no-unifier Y x y p q g (inl w) τ z) (λ w. resolve-no-unifier Y x y p q g (inr w) τ z) (resolve-not-endless x y p q)
 
   factor-stands : (Y : Type 0) (x y : Derivation × Literal) → kindOfRecord r ≡ factorKind → leftOf S r ≡ some x → deletedOf S r ≡ some y → inRange factorKind r ≡ true → fittingSigns S factorKind r ≡ true
@@ -163,7 +172,7 @@ module _ (S : State) (H : StateOk 4096 S) (k : ℕ) (r : Record) where
   factor-stands Y x y e p q range f τ z =
       let g = signs-factor S r x y p q f .0 in
       outcome (factorFits S r) (factor (nextClause S) (x .0) (fieldB r) (fieldC r)) (unifyFactor S x y)
-      (at-kind S k r factorKind e ∙ to-limits (inRange factorKind r) (bothThere (leftOf S r) (deletedOf S r)) (fittingSigns S factorKind r) (factorFits S r) _ range (rw (p, q)) f ∙ ap (require (factorFits S r) tooLarge) (enter-factor S k r x y p q))
+      (step-factor S k r e ∙ to-limits (inRange factorKind r) (bothThere (leftOf S r) (deletedOf S r)) (fittingSigns S factorKind r) (factorFits S r) _ range (rw (p, q)) f ∙ ap (require (factorFits S r) tooLarge) (enter-factor S k r x y p q))
       (λ w. factor-no-unifier Y x y p q g (inl w) τ z) (λ w. factor-no-unifier Y x y p q g (inr w) τ z) (factor-not-endless x y p q)
 
   module _ (seven : length (r .fields) ≡ 7) where

@@ -128,7 +128,7 @@ pub data StepFails (S : State) (r : Record) (f : Failure) : Type 0 where
 pub data Condition (earlier : List Record) (S : State) (r : Record) : ℕ → Type 0 where
   -- kind not 1 to 6
   unknownKind : (r .kind < 1) ⊎ (6 < r .kind) → Condition earlier S r 3
-  rangeLeft : OutOfRange r → Condition earlier S r 4
+  outsideRange : OutOfRange r → Condition earlier S r 4
   nothingThere : NotThere S r → Condition earlier S r 5
   rowAgain : RowRepeated earlier r → Condition earlier S r 6
   variableAsLiteral : LiteralOnVariable S r → Condition earlier S r 7

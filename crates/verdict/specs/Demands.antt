@@ -37,7 +37,7 @@ pub data ComesTo (file : List ℕ) : State → Type 0 where
 
 -- ── Demand 1: an honest verdict on every file ──
 -- That the program ends, stays inside what it was lent and answers by `check` and `tablesAfter` is its contract. Here: what these say
--- of a refused file.
+-- of a file that is refused, and of one that is not.
 
 -- Refused with 1 or 2, for its length or the tables' lengths: record 0, counts 0, tables untouched.
 pub record Untouched (file : List ℕ) (tables : Tables) (reason : Reason) (k : ℕ) : Type 0 where
@@ -136,7 +136,7 @@ pub record LowestEmpty (test : Derivation → Bool) (S : State) (n : ℕ) : Type
   pub empty : literals clause ≡ []
   pub lowest : (i : ℕ) (c : Derivation) → i < n → clauseOf S i ≡ some c → test c ≡ true → ¬ (literals c ≡ [])
 
--- No such clause is there.
+-- No clause whose derivation passes the test is empty.
 abbrev pub NoneEmpty : (Derivation → Bool) → State → Type 0
 NoneEmpty test S = (n : ℕ) (c : Derivation) → clauseOf S n ≡ some c → test c ≡ true → ¬ (literals c ≡ [])
 
