@@ -5,7 +5,6 @@ use mathlib.Core.Option.{some}
 use mathlib.Core.List.{List}
 use Prim.Native.Nat.{ℕ, _+_, _*_}
 use lib.ListN.{length, getD}
-use Rattle.record.specs.Record.{pick}
 use Rattle.unification.specs.Row.{Variable}
 use Rattle.derivation.specs.Derivation.{Derivation, maximumIndex}
 use Rattle.derivation.specs.Stored.{originTableOf}
@@ -15,7 +14,7 @@ use Rattle.entry.specs.Progress.{nodeTableOf, ReadTo}
 use Rattle.verdict.specs.State.{State, start, rowsOf, derivations, clauseOf}
 use Rattle.verdict.specs.Step.{stateOf}
 use Rattle.verdict.specs.Tables.{Tables, lengthsOf, tablesAfter}
-use Rattle.verdict.specs.Verdict.{check, answerNumbers, Lengths, longEnough, fittingLength, ending}
+use Rattle.verdict.specs.Verdict.{check, answerNumbers, Lengths, longEnough, fittingLength, ending, reading, stateGiven}
 use Rattle.answer.specs.declared.Answer.{Answer}
 use Rattle.answer.specs.declared.Verdict.the-variants as verdict
 
@@ -35,7 +34,7 @@ pub record Checked (file : List ℕ) (before : Tables) (a : Answer) (after : Tab
 
 -- The state that a check leaves: that of the records that stand; none where the length does not fit or a table is too short.
 abbrev pub stateLeft : List ℕ → Lengths → State
-stateLeft file lengths = pick (fittingLength (length file)) (pick (longEnough lengths) (stateOf (ending file)) start) start
+stateLeft file lengths = stateGiven (reading file lengths)
 
 -- A node table, a table of origins and an array of values that the caller lends, whatever they hold.
 pub record Workspace : Type 0 where

@@ -1,5 +1,5 @@
 -- The clause that a step makes is the textbook's resolvent or factor of its parents, which are standardized apart.
-use mathlib.Core.Path.{_≡_, sym, ap, ap₂, _∙_, subst}
+use mathlib.Core.Path.{_≡_, refl, sym, ap, ap₂, _∙_, subst}
 use mathlib.Core.Logic.{_⊎_}
 use mathlib.Core.Bool.{Bool, not}
 use mathlib.Core.Option.{none, some}
@@ -45,6 +45,43 @@ module _ (term : ℕ → Term ℕ) where
       ∙ sym (map-map (λ (l : Bool × Term Variable). (l .0, apply ren (l .1))) (writtenLiteral term σ) ls)
 
 module _ (row : ℕ → Row) (term : ℕ → Term ℕ) (termLaw : (r : ℕ) → term r ≡ rowTerm term r (row r)) where
+  -- The variables of a written-out clause have indices up to its maximum index.
+  clause-in : (c : Derivation) → Valid row c → (ls : List Literal) → Each (LiteralIn (maximumIndex c)) ls → ClauseVariables (λ x. In (maximumIndex c) (x .1)) (map (writtenLiteral term (substitution term c)) ls)
+  clause-in c K [] h = tt
+  clause-in c K (l ∷ ls) h = (
+    variables-more (λ y. In (maximumIndex c) (y .1) × (lookup c y ≡ none)) (λ y. In (maximumIndex c) (y .1)) (λ y p. p .0) (writtenOut term (substitution term c) (l .1))
+        (unbound-at (In (maximumIndex c)) term (lookup c) (substitution term c) (lookup-solved row term termLaw c K) (l .1) (h .0)),
+    clause-in c K ls (h .1),
+  )
+
+  below : (n : ℕ) (C : Clause) → ClauseVariables (λ x. In n (x .1)) C → ClauseVariables (λ x. x .1 ≤ n) C
+  below n [] h = tt
+  below n (l ∷ C) h = (variables-more (λ x. In n (x .1)) (λ x. x .1 ≤ n) (λ x p. p .1) (l .1) (h .0), below n C (h .1))
+
+  above : (m n : ℕ) (C : Clause) → ClauseVariables (λ x. In n (x .1)) C → ClauseVariables (λ x. m < x .1) (instantiated (renamed m) C)
+  above m n [] h = tt
+  above m n (l ∷ C) h = (
+    variables-apply (λ x. m < x .1) (renamed m) (l .1) (variables-more (λ x. In n (x .1)) (λ x. m < m + x .1) (λ x p. let k = p .0 in omega arith) (l .1) (h .0)),
+    above m n C (h .1),
+  )
+
+  raise-back : (m : ℕ) (x y : Variable) → raise m x ≡ raise m y → x ≡ y
+  raise-back m x y p =
+      let a : x .0 ≡ y .0 = ap (λ (z : Variable). z .0) p in
+      let q : m + x .1 ≡ m + y .1 = ap (λ (z : Variable). z .1) p in
+      let b : x .1 ≡ y .1 = omega arith in
+      λ i. (a i, b i)
+
+  standardized-apart : (l r : Derivation) → Valid row l → Valid row r → StandardizedApart (renamed (maximumIndex l)) (written term l) (written term r)
+  standardized-apart l r Kl Kr = record {
+    renamedTo = raise (maximumIndex l);
+    isRenaming = λ x. refl;
+    oneToOne = raise-back (maximumIndex l);
+    bound = maximumIndex l;
+    leftBelow = below (maximumIndex l) (written term l) (clause-in l Kl (literals l) (literals-in l));
+    rightAbove = above (maximumIndex l) (maximumIndex r) (written term r) (clause-in r Kr (literals r) (literals-in r));
+  }
+
   -- The parents of a resolvent, their values and environments as one.
   module _ (l r : Derivation) (Kl : Valid row l) (Kr : Valid row r) where
     abbrev m : ℕ
@@ -98,9 +135,9 @@ module _ (row : ℕ → Row) (term : ℕ → Term ℕ) (termLaw : (r : ℕ) → 
 
       -- A clash or an occurrence: the two atoms, written out and apart, have no unifier.
       pub no-resolvent : (Y : Type 0) (held : ℕ) → (unify row held (joined (maximumIndex l) (lookup l) (lookup r)) e (raise (maximumIndex l) d) ≡ failed clash) ⊎ (unify row held (joined (maximumIndex l) (lookup l) (lookup r)) e (raise (maximumIndex l) d) ≡ failed occurs)
-          → NoUnifier Y (writtenOut term (substitution term l) e) (apply (renamed (maximumIndex l)) (writtenOut term (substitution term r) d))
+          → NoUnifier Y ((writtenOut term (substitution term l) e, apply (renamed (maximumIndex l)) (writtenOut term (substitution term r) d)) ∷ [])
       no-resolvent Y held f δ z =
-          no-unifier row term termLaw (In (m + n)) base both S Y held e (raise m d) f δ (ap (apply δ) (lefts e oe) ∙ z ∙ sym (ap (apply δ) (rights d od)))
+          no-unifier row term termLaw (In (m + n)) base both S Y held e (raise m d) f δ (ap (apply δ) (lefts e oe) ∙ z .0 ∙ sym (ap (apply δ) (rights d od)), tt)
 
       module _ (arities : (r q s : ℕ) (xs ys : List ℕ) → row r ≡ application s xs → row q ≡ application s ys → length xs ≡ length ys)
           (bs : List Binding) (u : Unified row (joined (maximumIndex l) (lookup l) (lookup r)) e (raise (maximumIndex l) d) bs) where
@@ -118,13 +155,14 @@ module _ (row : ℕ → Row) (term : ℕ → Term ℕ) (termLaw : (r : ℕ) → 
 
         pub is-resolvent : (Y : Type 0) (number : ℕ) → Resolvent Y (renamed (maximumIndex l)) (written term l) a (written term r) b (written term (resolve number l a r b bs))
         is-resolvent Y number = record {
+          apart = standardized-apart l r Kl Kr;
           sign = s;
           left = writtenOut term (substitution term l) e;
           right = apply (renamed m) (writtenOut term (substitution term r) d);
           isLeft = map-numbered (writtenLiteral term (substitution term l)) (literals l) a (s, e) p;
           isRight = map-numbered (λ (x : Bool × Term Variable). (x .0, apply (renamed m) (x .1))) (written term r) b (not s, writtenOut term (substitution term r) d) (map-numbered (writtenLiteral term (substitution term r)) (literals r) b (not s, d) q);
           unifier = θ;
-          mostGeneral = subst (λ (t : Term Variable). MostGeneralUnifier Y θ t (apply (renamed m) (writtenOut term (substitution term r) d))) (lefts e oe) (subst (λ (t : Term Variable). MostGeneralUnifier Y θ (writtenOut term both e) t) (rights d od)
+          mostGeneral = subst (λ (t : Term Variable). MostGeneralUnifier Y θ ((t, apply (renamed m) (writtenOut term (substitution term r) d)) ∷ [])) (lefts e oe) (subst (λ (t : Term Variable). MostGeneralUnifier Y θ ((writtenOut term both e, t) ∷ [])) (rights d od)
               (most-general row term termLaw (In (m + n)) base both S arities e (raise m d) bs u κ oe′ od′ Y));
           result = written-then term both (composed term both bs) θ (m + n) (value-after row term termLaw (In (m + n)) base both S arities e (raise m d) bs u κ oe′ od′) (literals (resolve number l a r b bs)) (literals-in (resolve number l a r b bs))
               ∙ ap (instantiated θ) (map-append (writtenLiteral term both) (without (literals l) a) (map (raiseLiteral m) (without (literals r) b)) ∙ ap₂ (λ (x y : Clause). x ++ y) left-part right-part);
@@ -147,7 +185,7 @@ module _ (row : ℕ → Row) (term : ℕ → Term ℕ) (termLaw : (r : ℕ) → 
     id = each-numbered (LiteralIn N) (literals c) b (s, d) q (literals-in c)
 
     pub no-factor : (Y : Type 0) (held : ℕ) → (unify row held (lookup c) e d ≡ failed clash) ⊎ (unify row held (lookup c) e d ≡ failed occurs)
-        → NoUnifier Y (writtenOut term (substitution term c) e) (writtenOut term (substitution term c) d)
+        → NoUnifier Y ((writtenOut term (substitution term c) e, writtenOut term (substitution term c) d) ∷ [])
     no-factor Y held f = no-unifier row term termLaw (In N) (lookup c) (substitution term c) Sc Y held e d f
 
     module _ (arities : (r q s : ℕ) (xs ys : List ℕ) → row r ≡ application s xs → row q ≡ application s ys → length xs ≡ length ys)
@@ -168,29 +206,3 @@ module _ (row : ℕ → Row) (term : ℕ → Term ℕ) (termLaw : (r : ℕ) → 
         result = written-then term (substitution term c) (composed term (substitution term c) bs) φ N (value-after row term termLaw (In N) (lookup c) (substitution term c) Sc arities e d bs u κc ie id) (without (literals c) b) (each-without (LiteralIn N) (literals c) b (literals-in c))
             ∙ ap (instantiated φ) (map-without (writtenLiteral term (substitution term c)) (literals c) b);
       }
-
-  -- The variables of a written-out clause have indices up to its maximum index.
-  clause-in : (c : Derivation) → Valid row c → (ls : List Literal) → Each (LiteralIn (maximumIndex c)) ls → ClauseVariables (λ x. In (maximumIndex c) (x .1)) (map (writtenLiteral term (substitution term c)) ls)
-  clause-in c K [] h = tt
-  clause-in c K (l ∷ ls) h = (
-    variables-more (λ y. In (maximumIndex c) (y .1) × (lookup c y ≡ none)) (λ y. In (maximumIndex c) (y .1)) (λ y p. p .0) (writtenOut term (substitution term c) (l .1))
-        (unbound-at (In (maximumIndex c)) term (lookup c) (substitution term c) (lookup-solved row term termLaw c K) (l .1) (h .0)),
-    clause-in c K ls (h .1),
-  )
-
-  below : (n : ℕ) (C : Clause) → ClauseVariables (λ x. In n (x .1)) C → ClauseVariables (λ x. x .1 ≤ n) C
-  below n [] h = tt
-  below n (l ∷ C) h = (variables-more (λ x. In n (x .1)) (λ x. x .1 ≤ n) (λ x p. p .1) (l .1) (h .0), below n C (h .1))
-
-  above : (m n : ℕ) (C : Clause) → ClauseVariables (λ x. In n (x .1)) C → ClauseVariables (λ x. m < x .1) (instantiated (renamed m) C)
-  above m n [] h = tt
-  above m n (l ∷ C) h = (
-    variables-apply (λ x. m < x .1) (renamed m) (l .1) (variables-more (λ x. In n (x .1)) (λ x. m < m + x .1) (λ x p. let k = p .0 in omega arith) (l .1) (h .0)),
-    above m n C (h .1),
-  )
-
-  pub standardized-apart : (l r : Derivation) → Valid row l → Valid row r → StandardizedApart (maximumIndex l) (written term l) (written term r)
-  standardized-apart l r Kl Kr = record {
-    leftBelow = below (maximumIndex l) (written term l) (clause-in l Kl (literals l) (literals-in l));
-    rightAbove = above (maximumIndex l) (maximumIndex r) (written term r) (clause-in r Kr (literals r) (literals-in r));
-  }

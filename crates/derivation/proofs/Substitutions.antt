@@ -5,7 +5,7 @@ use mathlib.Core.Option.{Option, none, some}
 use mathlib.Core.List.{List, [], _∷_}
 use Prim.Native.Nat.{ℕ, _+_, _-_, _≤_, _<_}
 use native.Mathlib.Omega.{arith}
-use lib.Dec.{leb, T, leb→le}
+use lib.Dec.{leb, leb→le}
 use Rattle.unification.specs.Environment.{Binding, Environment, extend, Respects}
 use Rattle.unification.specs.Row.{Row, Expression, Variable, rowTerm, writtenOut}
 use Rattle.unification.specs.Substitution.{composed}

@@ -44,10 +44,10 @@ module _ (row : ℕ → Row) (term : ℕ → Term ℕ) (termLaw : (r : ℕ) → 
   then-written τ e = apply-apply τ (λ v. σ (v, e .1)) (term (e .0))
 
   -- A unifier of the written-out expressions is carried through the whole run.
-  carried : (held : ℕ) (e d : Expression) {Y : Type 0} (τ : Variable → Term Y) → Unifies τ (writtenOut term σ e) (writtenOut term σ d) → ForthEnd row mostLinks base term (λ x. apply τ (σ x)) (unify row held base e d)
-  carried held e d τ q = forth-run row mostLinks base term (λ x. apply τ (σ x)) (noRoom held) termLaw mostWork (unifying [] ((e, d) ∷ [])) (then-respects τ, (sym (then-written τ e) ∙ q ∙ then-written τ d, tt))
+  carried : (held : ℕ) (e d : Expression) {Y : Type 0} (τ : Variable → Term Y) → Unifies τ ((writtenOut term σ e, writtenOut term σ d) ∷ []) → ForthEnd row mostLinks base term (λ x. apply τ (σ x)) (unify row held base e d)
+  carried held e d τ q = forth-run row mostLinks base term (λ x. apply τ (σ x)) (noRoom held) termLaw mostWork (unifying [] ((e, d) ∷ [])) (then-respects τ, (sym (then-written τ e) ∙ q .0 ∙ then-written τ d, tt))
 
-  pub no-unifier : (Y : Type 0) (held : ℕ) (e d : Expression) → (unify row held base e d ≡ failed clash) ⊎ (unify row held base e d ≡ failed occurs) → NoUnifier Y (writtenOut term σ e) (writtenOut term σ d)
+  pub no-unifier : (Y : Type 0) (held : ℕ) (e d : Expression) → (unify row held base e d ≡ failed clash) ⊎ (unify row held base e d ≡ failed occurs) → NoUnifier Y ((writtenOut term σ e, writtenOut term σ d) ∷ [])
   no-unifier Y held e d (inl r) τ q = rw r at (carried held e d τ q)
   no-unifier Y held e d (inr r) τ q = rw r at (carried held e d τ q)
 
@@ -73,7 +73,7 @@ module _ (row : ℕ → Row) (term : ℕ → Term ℕ) (termLaw : (r : ℕ) → 
     pub value-after : (a : Expression) → good (a .1) → writtenOut term (composed term σ bs) a ≡ apply unifier (writtenOut term σ a)
     value-after a o = sym (factors-at good term base σ S after (before .0) a) ∙ agree-at good term base σ S after unifier unifier-free a o
 
-    general : {Y : Type 0} (τ : Variable → Term Y) → Unifies τ (writtenOut term σ e) (writtenOut term σ d) → (x : Variable) → τ x ≡ apply τ (unifier x)
+    general : {Y : Type 0} (τ : Variable → Term Y) → Unifies τ ((writtenOut term σ e, writtenOut term σ d) ∷ []) → (x : Variable) → τ x ≡ apply τ (unifier x)
     general {Y} τ q x = try (base x) refl
       where
         γ : Variable → Term Y
@@ -93,5 +93,5 @@ module _ (row : ℕ → Row) (term : ℕ → Term ℕ) (termLaw : (r : ℕ) → 
         try none p = sym (γ-free x p) ∙ sym (M .factors γ R x) ∙ swap (extend base bs x) refl
         try (some c) p = refl
 
-    pub most-general : (Y : Type 0) → MostGeneralUnifier Y unifier (writtenOut term σ e) (writtenOut term σ d)
-    most-general Y = record { unifies = sym (value-after e oe) ∙ before .1 ∙ value-after d od; general = general }
+    pub most-general : (Y : Type 0) → MostGeneralUnifier Y unifier ((writtenOut term σ e, writtenOut term σ d) ∷ [])
+    most-general Y = record { unifies = (sym (value-after e oe) ∙ before .1 ∙ value-after d od, tt); general = general }

@@ -1,16 +1,18 @@
--- Unification fails only as stated: each failure comes with what the machine had come to.
-use mathlib.Core.Path.{_≡_, refl, sym, ap, _∙_, subst}
+-- Unification fails exactly as stated: each failure comes with what the machine had come to, and what it had come to gives the failure.
+use mathlib.Core.Path.{_≡_, refl, sym, ap, ap₂, _∙_, subst}
 use mathlib.Core.Bool.{Bool, true, false}
 use mathlib.Core.List.{List, [], _∷_}
-use Prim.Native.Nat.{ℕ, zero, suc}
+use Prim.Native.Nat.{ℕ, zero, suc, _+_, _-_, _<_}
+use native.Mathlib.Nat.{add-zero, suc-add, zero-add}
 use native.Mathlib.Omega.{arith}
+use lib.Dec.{eqb, eqb→eq}
 use Rattle.record.specs.Record.{pick}
-use Rattle.unification.specs.Environment.{follow, Binding, Environment, extend, unbound}
+use Rattle.unification.specs.Environment.{follow, Binding, Environment, extend, unbound, link, View, applied}
 use Rattle.unification.specs.Failing.{Waiting, Failing, symbolsDiffer, variableOccurs, workDone, bindingsHeld}
-use Rattle.unification.specs.Row.{Row, Expression, Variable, same}
-use Rattle.unification.specs.Unification.{turn, endless, Failure, occurs, overwork, unified, failed, Pair, Task, unifying, testing, Turn, finished, goOn, stop, arguments, testRest, testOne, withoutWork, withWork, run, noTurn, oneTurn}
-use Rattle.unification.proofs.Tests.{same-eq}
-use Rattle.unification.proofs.Turns.{Goes, m-full, m-bind, m-more, Move, m-finished, m-same, m-left, m-right, m-args, m-clash, m-endless, m-occurs, m-other, m-into, m-endless-test, moves}
+use Rattle.unification.specs.Row.{Row, application, Expression, Variable, same}
+use Rattle.unification.specs.Unification.{turn, endless, Failure, clash, occurs, overwork, full, unified, failed, Pair, Task, unifying, testing, Turn, finished, goOn, stop, arguments, argumentPairs, meet, testRest, testOne, withoutWork, withWork, run, Reaches, noTurn, oneTurn}
+use Rattle.unification.proofs.Tests.{to-T, same-eq, same-refl}
+use Rattle.unification.proofs.Turns.{Goes, m-full, m-bind, m-more, Move, m-finished, m-same, m-left, m-right, m-args, m-clash, m-endless, m-occurs, m-other, m-into, m-endless-test, seen-ends, moves}
 
 failed-injective : {q r : Failure} → failed q ≡ failed r → q ≡ r
 failed-injective p = cc
@@ -86,3 +88,86 @@ module _ (row : ℕ → Row) (links : ℕ) (isFull : List Binding → Bool) (bas
       try ih (finished bs) p c z = absurd (unified-not-failed z)
       try ih (goOn t) p c z = later n s t p r (ih t z)
       try ih (stop f) p c z = subst (F (suc n) s) (failed-injective z) (c (λ y. k (sym (failed-injective z) ∙ y)))
+
+  -- The other way: where unification fails as stated, that is its answer.
+  reached-run : (m : ℕ) (s t : Task) → Reaches row links isFull base m s t → (n k : ℕ) → k ≡ m + n → run row links isFull base k s ≡ run row links isFull base n t
+  unfolding run
+  reached-run m s t noTurn n k e = ap (λ (i : ℕ). run row links isFull base i s) (e ∙ zero-add n)
+  reached-run m s t (oneTurn {n = j} {t = u} q h) n k e =
+      ap (λ (i : ℕ). run row links isFull base i s) (e ∙ suc-add j n)
+      ∙ ap (withWork (λ z. run row links isFull base (j + n) z) (suc (j + n))) q
+      ∙ reached-run j u t h n (j + n) refl
+
+  -- With work left, a turn that stops is the answer.
+  stopped : (m n : ℕ) (s t : Task) (r : Failure) → Reaches row links isFull base m s t → m < n → turn row links isFull base t ≡ stop r → run row links isFull base n s ≡ failed r
+  unfolding run
+  stopped m n s t r h l q =
+      let e : n ≡ m + suc (n - suc m) = omega arith in
+      reached-run m s t h (suc (n - suc m)) n e ∙ ap (withWork (λ z. run row links isFull base (n - suc m) z) (suc (n - suc m))) q
+
+  out-of-work : (s : Task) → Waiting s → withoutWork (turn row links isFull base s) ≡ failed overwork
+  out-of-work s w = by s (turn row links isFull base s) (moves row links isFull base s) w
+    where
+      rest : (bs : List Binding) (x : Variable) (e : Expression) (ps : List Pair) (os : List Expression) (t : Turn) → Goes row links isFull base bs x e ps os t → withoutWork t ≡ failed overwork
+      rest bs x e ps os t (m-full q) = refl
+      rest bs x e ps os t (m-bind q) = refl
+      rest bs x e ps os t m-more = refl
+
+      by : (s : Task) (t : Turn) → Move row links isFull base s t → Waiting s → withoutWork t ≡ failed overwork
+      by s t m-finished w = absurd w
+      by s t (m-same v w f g q) a = refl
+      by s t (m-left v e w f g k q) a = refl
+      by s t (m-right u xs e w d f g) a = refl
+      by s t (m-args u xs e ys d f g) a = refl
+      by s t (m-clash u xs e w ys d f g q) a = refl
+      by s t (m-endless o d f z) a = refl
+      by s t (m-occurs v d f q) a = refl
+      by s t (m-other {bs} {x} {e} {o} {os} {ps} v d f k m) a = rest bs x e ps os t m
+      by s t (m-into {bs} {x} {e} {o} {os} {ps} u xs d f m) a = rest bs x e ps (arguments xs (d .1) os) t m
+      by s t (m-endless-test d f) a = refl
+
+  goOn-not-stop : {t : Task} {r : Failure} → stop r ≡ goOn t → ⊥
+  goOn-not-stop p = let z : _≡_ {A = ℕ} 0 1 = cc in omega arith
+
+  testing-not-unifying : {bs cs : List Binding} {x : Variable} {e o : Expression} {os : List Expression} {ps qs : List Pair} → goOn (testing bs x e o os ps) ≡ goOn (unifying cs qs) → ⊥
+  testing-not-unifying p = let z : _≡_ {A = ℕ} 0 1 = cc in omega arith
+
+  -- A turn that would bind, given room, stops where there is none.
+  full-rest : (bs : List Binding) (x : Variable) (e : Expression) (ps : List Pair) (os : List Expression) → testRest (λ _. false) bs x e os ps ≡ goOn (unifying ((x, e) ∷ bs) ps) → isFull bs ≡ true → testRest isFull bs x e os ps ≡ stop full
+  full-rest bs x e ps [] q f = ap (λ (b : Bool). pick b (stop full) (goOn (unifying ((x, e) ∷ bs) ps))) f
+  full-rest bs x e ps (o ∷ os) q f = absurd (testing-not-unifying q)
+
+  full-turn : (bs : List Binding) (x : Variable) (e : Expression) (os : List Expression) (ps : List Pair) (w : View) → testOne (λ _. false) w bs x e os ps ≡ goOn (unifying ((x, e) ∷ bs) ps) → isFull bs ≡ true → testOne isFull w bs x e os ps ≡ stop full
+  full-turn bs x e os ps (unbound v d) q f = try (same d x) q
+    where
+      try : (b : Bool) → pick b (stop occurs) (testRest (λ _. false) bs x e os ps) ≡ goOn (unifying ((x, e) ∷ bs) ps) → pick b (stop occurs) (testRest isFull bs x e os ps) ≡ stop full
+      try true z = absurd (goOn-not-stop z)
+      try false z = full-rest bs x e ps os z f
+  full-turn bs x e os ps (applied s xs d) q f = full-rest bs x e ps (arguments xs (d .1) os) q f
+  full-turn bs x e os ps (link d) q f = absurd (goOn-not-stop q)
+
+  clash-turn : (bs : List Binding) (p : Pair) (ps : List Pair) (f g : ℕ) (xs ys : List ℕ) (e d : Expression) → follow row links (extend base bs) (p .0) ≡ applied f xs e → follow row links (extend base bs) (p .1) ≡ applied g ys d → ¬ (f ≡ g)
+      → turn row links isFull base (unifying bs (p ∷ ps)) ≡ stop clash
+  clash-turn bs p ps f g xs ys e d a b n = ap₂ (λ (v w : View). meet v w bs ps) a b ∙ apart (same e d) refl
+    where
+      one-row : e ≡ d → f ≡ g
+      one-row q = row-symbol (sym (seen-ends row links isFull base bs (p .0) (applied f xs e) a) ∙ ap (λ (c : Expression). row (c .0)) q ∙ seen-ends row links isFull base bs (p .1) (applied g ys d) b)
+        where
+          row-symbol : application f xs ≡ application g ys → f ≡ g
+          row-symbol z = cc
+
+      symbols : (t : Bool) → eqb f g ≡ t → pick t (goOn (unifying bs (argumentPairs xs (e .1) ys (d .1) ps))) (stop clash) ≡ stop clash
+      symbols true q = absurd (n (eqb→eq f g (to-T (eqb f g) q)))
+      symbols false q = refl
+
+      apart : (t : Bool) → same e d ≡ t → pick t (goOn (unifying bs ps)) (pick (eqb f g) (goOn (unifying bs (argumentPairs xs (e .1) ys (d .1) ps))) (stop clash)) ≡ stop clash
+      apart true q = absurd (n (one-row (same-eq e d q)))
+      apart false q = symbols (eqb f g) refl
+
+  pub failing-fails : (n : ℕ) (s : Task) (r : Failure) → Failing row links isFull base n s r → run row links isFull base n s ≡ failed r
+  unfolding run
+  failing-fails n s r (symbolsDiffer {m} {bs} {p} {ps} {f} {g} {xs} {ys} {e} {d} h l a b k) = stopped m n s (unifying bs (p ∷ ps)) clash h l (clash-turn bs p ps f g xs ys e d a b k)
+  failing-fails n s r (variableOccurs {m} {bs} {x} {e} {o} {os} {ps} {v} h l a) =
+      stopped m n s (testing bs x e o os ps) occurs h l (ap (λ (w : View). testOne isFull w bs x e os ps) a ∙ ap (λ (t : Bool). pick t (stop occurs) (testRest isFull bs x e os ps)) (same-refl x))
+  failing-fails n s r (workDone {t} h w) = reached-run n s t h 0 n (sym (add-zero n)) ∙ out-of-work t w
+  failing-fails n s r (bindingsHeld {m} {bs} {x} {e} {o} {os} {ps} h l a b) = stopped m n s (testing bs x e o os ps) full h l (full-turn bs x e os ps (follow row links (extend base bs) o) a b)

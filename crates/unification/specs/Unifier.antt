@@ -1,17 +1,23 @@
--- Unifiers and most general unifiers, as the textbooks have them.
+-- Unifiers and most general unifiers of a list of pairs of terms, as the textbooks have them.
 use mathlib.Core.Path.{_≡_}
+use mathlib.Core.List.{List, [], _∷_}
 use Rattle.unification.specs.Row.{Variable}
 use Rattle.unification.specs.Term.{Term, apply}
 
--- τ makes two terms equal.
-abbrev pub Unifies : {Y : Type 0} → (Variable → Term Y) → Term Variable → Term Variable → Type 0
-Unifies τ s t = apply τ s ≡ apply τ t
+-- Two terms that are to be made equal.
+abbrev pub TermPair : Type 0
+TermPair = Term Variable × Term Variable
 
--- No substitution whose values are terms over Y makes them equal. The theorems hold for every Y.
-abbrev pub NoUnifier : Type 0 → Term Variable → Term Variable → Type 0
-NoUnifier Y s t = (τ : Variable → Term Y) → ¬ Unifies τ s t
+-- τ makes the two terms of every pair equal.
+abbrev pub Unifies : {Y : Type 0} → (Variable → Term Y) → List TermPair → Type 0
+Unifies τ [] = Unit {0}
+Unifies τ (p ∷ ps) = (apply τ (p .0) ≡ apply τ (p .1)) × Unifies τ ps
+
+-- No substitution whose values are terms over Y does. The theorems hold for every Y.
+abbrev pub NoUnifier : Type 0 → List TermPair → Type 0
+NoUnifier Y ps = (τ : Variable → Term Y) → ¬ Unifies τ ps
 
 -- θ unifies, and every unifier whose values are terms over Y is θ followed by that unifier. The theorems hold for every Y.
-pub record MostGeneralUnifier (Y : Type 0) (θ : Variable → Term Variable) (s t : Term Variable) : Type 0 where
-  pub unifies : Unifies θ s t
-  pub general : (τ : Variable → Term Y) → Unifies τ s t → (x : Variable) → τ x ≡ apply τ (θ x)
+pub record MostGeneralUnifier (Y : Type 0) (θ : Variable → Term Variable) (ps : List TermPair) : Type 0 where
+  pub unifies : Unifies θ ps
+  pub general : (τ : Variable → Term Y) → Unifies τ ps → (x : Variable) → τ x ≡ apply τ (θ x)

@@ -1,6 +1,6 @@
 -- The lowest empty clause, and what its cells in the table of clauses are.
-use mathlib.Core.Path.{_≡_, refl, ap, _∙_, subst}
-use mathlib.Core.Bool.{Bool, true, false}
+use mathlib.Core.Path.{_≡_, refl, sym, ap, _∙_, subst}
+use mathlib.Core.Bool.{Bool, true, false, _&&_}
 use mathlib.Core.Option.{Option, none, some}
 use mathlib.Core.List.{List, [], _∷_, _++_, map}
 use Prim.Native.Nat.{ℕ, _+_, _*_, _<_}
@@ -10,7 +10,7 @@ use lib.ListN.{length, getD, length-append, length-map, List·getD-append}
 use lib.Seq.{getD-append-add}
 use Rattle.record.specs.Record.{pick}
 use Rattle.unification.proofs.Rows.{eqb-below}
-use Rattle.unification.proofs.Tests.{to-T, true-not-false, some-not-none, some-injective}
+use Rattle.unification.proofs.Tests.{to-T, both-true, true-not-false, some-not-none, some-injective}
 use Rattle.derivation.specs.Derivation.{literals, Derivation, maximumIndex}
 use Rattle.verdict.specs.State.{entry, bindingsOf}
 use Rattle.verdict.specs.Tables.{cellsOfClause, clauseCells}
@@ -24,57 +24,70 @@ empty-list (x ∷ xs) q = absurd (true-not-false q refl)
 is-empty : {A : Type 0} (xs : List A) → xs ≡ [] → isEmpty xs ≡ true
 is-empty xs q = rw q
 
--- Clause n of a list is empty and none before it is.
-pub record Lowest (cs : List Derivation) (n : ℕ) : Type 0 where
-  pub clause : Derivation
-  pub isClause : entry cs n ≡ some clause
-  pub empty : literals clause ≡ []
-  pub lowest : (i : ℕ) (c : Derivation) → i < n → entry cs i ≡ some c → ¬ (literals c ≡ [])
-
--- No clause is empty.
-pub none-empty : (cs : List Derivation) → firstEmpty cs ≡ none → (i : ℕ) (c : Derivation) → entry cs i ≡ some c → ¬ (literals c ≡ [])
-none-empty [] q i c e = absurd (some-not-none refl e)
-none-empty (d ∷ cs) q i c e = try (firstEmpty cs) refl q (λ z. none-empty cs z i c)
-  where
-    here : (b : Bool) → isEmpty (literals d) ≡ b → pick b (some (length cs)) none ≡ none → (entry cs i ≡ some c → ¬ (literals c ≡ [])) → ¬ (literals c ≡ [])
-    here true p r k z = absurd (some-not-none r refl)
-    here false p r k z = which (eqb i (length cs)) e k
-      where
-        which : (b : Bool) → pick b (some d) (entry cs i) ≡ some c → (entry cs i ≡ some c → ¬ (literals c ≡ [])) → ⊥
-        which true y k = true-not-false (is-empty (literals d) (ap literals (some-injective y) ∙ z)) p
-        which false y k = k y z
-
-    try : (o : Option ℕ) → firstEmpty cs ≡ o → _≡_ {A = Option ℕ} (elim o [ some n ↦ some n | none ↦ pick (isEmpty (literals d)) (some (length cs)) none ]) none → (firstEmpty cs ≡ none → entry cs i ≡ some c → ¬ (literals c ≡ [])) → ¬ (literals c ≡ [])
-    try (some n) p r k = absurd (some-not-none r refl)
-    try none p r k = here (isEmpty (literals d)) refl r (k p)
-
 entry-old : {A : Type 0} (x : A) (xs : List A) (i : ℕ) (a : A) → i < length xs → entry (x ∷ xs) i ≡ some a → entry xs i ≡ some a
 entry-old x xs i a l q = rw (eqb-below i (length xs) l) at q
 
-pub first-lowest : (cs : List Derivation) (n : ℕ) → firstEmpty cs ≡ some n → Lowest cs n
-first-lowest [] n q = absurd (some-not-none refl q)
-first-lowest (d ∷ cs) n q = try (firstEmpty cs) refl q (λ p. first-lowest cs n p)
-  where
-    last : (b : Bool) → isEmpty (literals d) ≡ b → firstEmpty cs ≡ none → pick b (some (length cs)) none ≡ some n → Lowest (d ∷ cs) n
-    last true p f r = subst (Lowest (d ∷ cs)) (some-injective r)
-        (record { clause = d; isClause = entry-new d cs; empty = empty-list (literals d) p; lowest = λ i c l e. none-empty cs f i c (entry-old d cs i c l e) })
-    last false p f r = absurd (some-not-none refl r)
+-- Clause n of a list passes the test and is empty, and none before it is both.
+pub record Lowest (test : Derivation → Bool) (cs : List Derivation) (n : ℕ) : Type 0 where
+  pub clause : Derivation
+  pub isClause : entry cs n ≡ some clause
+  pub passes : test clause ≡ true
+  pub empty : literals clause ≡ []
+  pub lowest : (i : ℕ) (c : Derivation) → i < n → entry cs i ≡ some c → test c ≡ true → ¬ (literals c ≡ [])
 
-    older : Lowest cs n → Lowest (d ∷ cs) n
-    older L =
-        let z : n < length cs = entry-below cs n (L .clause) (L .isClause) in
-        record { clause = L .clause; isClause = entry-more d cs n (L .clause) (L .isClause); empty = L .empty; lowest = λ i c l e. L .lowest i c l (entry-old d cs i c (omega arith) e) }
+module _ (test : Derivation → Bool) where
+  abbrev Counts : Derivation → Type 0
+  Counts c = (test c ≡ true) × (literals c ≡ [])
 
-    try : (o : Option ℕ) → firstEmpty cs ≡ o → elim o [ some n ↦ some n | none ↦ pick (isEmpty (literals d)) (some (length cs)) none ] ≡ some n → (firstEmpty cs ≡ some n → Lowest cs n) → Lowest (d ∷ cs) n
-    try (some m) p r k = older (k (p ∙ r))
-    try none p r k = last (isEmpty (literals d)) refl p r
+  counted : (c : Derivation) → (test c && isEmpty (literals c)) ≡ true → (test c ≡ true) × (literals c ≡ [])
+  counted c q =
+      let p = both-true (test c) (isEmpty (literals c)) q in
+      (p .0, empty-list (literals c) (p .1))
 
-pub some-first : (cs : List Derivation) (i : ℕ) (c : Derivation) → entry cs i ≡ some c → literals c ≡ [] → (n : ℕ) × (firstEmpty cs ≡ some n)
-some-first cs i c e q = try (firstEmpty cs) refl
-  where
-    try : (o : Option ℕ) → firstEmpty cs ≡ o → (n : ℕ) × (firstEmpty cs ≡ some n)
-    try none p = absurd (none-empty cs p i c e q)
-    try (some n) p = (n, p)
+  counts : (c : Derivation) → (test c ≡ true) × (literals c ≡ []) → (test c && isEmpty (literals c)) ≡ true
+  counts c h = rw (h .0) (is-empty (literals c) (h .1))
+
+  -- No clause that passes the test is empty.
+  pub none-empty : (cs : List Derivation) → firstEmpty test cs ≡ none → (i : ℕ) (c : Derivation) → entry cs i ≡ some c → test c ≡ true → ¬ (literals c ≡ [])
+  none-empty [] q i c e t = absurd (some-not-none refl e)
+  none-empty (d ∷ cs) q i c e t = try (firstEmpty test cs) refl q (λ z y. none-empty cs z i c y t)
+    where
+      here : (b : Bool) → (test d && isEmpty (literals d)) ≡ b → pick b (some (length cs)) none ≡ none → (entry cs i ≡ some c → ¬ (literals c ≡ [])) → ¬ (literals c ≡ [])
+      here true p r k z = absurd (some-not-none r refl)
+      here false p r k z = which (eqb i (length cs)) e k
+        where
+          which : (b : Bool) → pick b (some d) (entry cs i) ≡ some c → (entry cs i ≡ some c → ¬ (literals c ≡ [])) → ⊥
+          which true y k = true-not-false (counts d (subst Counts (sym (some-injective y)) (t, z))) p
+          which false y k = k y z
+
+      try : (o : Option ℕ) → firstEmpty test cs ≡ o → _≡_ {A = Option ℕ} (elim o [ some n ↦ some n | none ↦ pick (test d && isEmpty (literals d)) (some (length cs)) none ]) none → (firstEmpty test cs ≡ none → entry cs i ≡ some c → ¬ (literals c ≡ [])) → ¬ (literals c ≡ [])
+      try (some n) p r k = absurd (some-not-none r refl)
+      try none p r k = here (test d && isEmpty (literals d)) refl r (k p)
+
+  pub first-lowest : (cs : List Derivation) (n : ℕ) → firstEmpty test cs ≡ some n → Lowest test cs n
+  first-lowest [] n q = absurd (some-not-none refl q)
+  first-lowest (d ∷ cs) n q = try (firstEmpty test cs) refl q (λ p. first-lowest cs n p)
+    where
+      last : (b : Bool) → (test d && isEmpty (literals d)) ≡ b → firstEmpty test cs ≡ none → pick b (some (length cs)) none ≡ some n → Lowest test (d ∷ cs) n
+      last true p f r = subst (Lowest test (d ∷ cs)) (some-injective r)
+          (record { clause = d; isClause = entry-new d cs; passes = counted d p .0; empty = counted d p .1; lowest = λ i c l e. none-empty cs f i c (entry-old d cs i c l e) })
+      last false p f r = absurd (some-not-none refl r)
+
+      older : Lowest test cs n → Lowest test (d ∷ cs) n
+      older L =
+          let z : n < length cs = entry-below cs n (L .clause) (L .isClause) in
+          record { clause = L .clause; isClause = entry-more d cs n (L .clause) (L .isClause); passes = L .passes; empty = L .empty; lowest = λ i c l e. L .lowest i c l (entry-old d cs i c (omega arith) e) }
+
+      try : (o : Option ℕ) → firstEmpty test cs ≡ o → elim o [ some n ↦ some n | none ↦ pick (test d && isEmpty (literals d)) (some (length cs)) none ] ≡ some n → (firstEmpty test cs ≡ some n → Lowest test cs n) → Lowest test (d ∷ cs) n
+      try (some m) p r k = older (k (p ∙ r))
+      try none p r k = last (test d && isEmpty (literals d)) refl p r
+
+  pub some-first : (cs : List Derivation) (i : ℕ) (c : Derivation) → entry cs i ≡ some c → test c ≡ true → literals c ≡ [] → (n : ℕ) × (firstEmpty test cs ≡ some n)
+  some-first cs i c e t q = try (firstEmpty test cs) refl
+    where
+      try : (o : Option ℕ) → firstEmpty test cs ≡ o → (n : ℕ) × (firstEmpty test cs ≡ some n)
+      try none p = absurd (none-empty cs p i c e t q)
+      try (some n) p = (n, p)
 
 -- The table of clauses has five cells a clause; the third is the maximum index.
 pub cells-length : (cs : List (ℕ × Derivation)) → length (clauseCells cs) ≡ 5 * length cs

@@ -1,25 +1,25 @@
 -- Reading record by record, as a program does it: the state after k records, and what the next record makes of it.
-use mathlib.Core.Path.{_≡_, refl, sym, ap, ap₂, _∙_, subst}
+use mathlib.Core.Path.{_≡_, refl, sym, ap, _∙_, subst}
 use mathlib.Core.Bool.{true, _&&_}
 use mathlib.Core.List.{List, [], _∷_, _++_}
 use Prim.Native.Nat.{ℕ, zero, suc, _+_, _≤_, _<_}
-use native.Mathlib.Nat.{add-zero, add-suc, suc-add, zero-add}
+use native.Mathlib.Nat.{zero-add}
 use native.Mathlib.Omega.{arith}
-use lib.Dec.{eqb, leb, T, leb→le}
+use lib.Dec.{eqb, leb, leb→le}
 use lib.ListN.{length, take, drop, length-take, take-append-drop}
 use lib.Seq.{take-length}
 use Rattle.record.specs.Record.{Record, records, recordCount, recordPart, countOf, decoded, otherKind, Kind, symbolKind, variableKind, applicationKind, inputKind, resolveKind, factorKind, fieldA, fieldB, fieldC, fieldD}
 use Rattle.record.proofs.Records.{records-length, record-numbered}
 use Rattle.unification.specs.Row.{variable, Row, application}
 use Rattle.unification.proofs.Lists.{Each}
-use Rattle.unification.proofs.Tests.{to-T, both-true, true-not-false}
+use Rattle.unification.proofs.Tests.{to-T, both-true}
 use Rattle.derivation.specs.Derivation.{input, inputLiterals, Derivation, resolve, factor}
 use Rattle.verdict.specs.Refusal.{tests, Reason, kindOfRecord, zeros, argumentRows, leftOf, rightOf, deletedOf, differsFromAll}
-use Rattle.verdict.specs.State.{State, start, withRow, withClause, rowsOf, derivations, nextClause}
+use Rattle.verdict.specs.State.{State, emptyState, withRow, withClause, rowsOf, derivations, nextClause}
 use Rattle.verdict.specs.Step.{stands, refused, Result, step, unifyResolve, unifyFactor, enter, read, allStand, refusedAt}
 use Rattle.verdict.specs.Verdict.{ending}
 use Rattle.verdict.proofs.Inversions.{tests-passed, stands-same, all-stand, named-stands, clause-added, Passed}
-use Rattle.verdict.proofs.Reading.{ending-stands, start-ok}
+use Rattle.verdict.proofs.Reading.{start-ok, read-on}
 use Rattle.verdict.proofs.Sources.{Sourced, step-sourced}
 use Rattle.verdict.proofs.Standing.{StateOk}
 use Rattle.verdict.proofs.Steps.{step-ok}
@@ -42,27 +42,13 @@ pub record Tally (F : List ℕ) (k : ℕ) (S : State) : Type 0 where
   pub distinct : Distinct (rowsOf S)
 
 pub record Standing (F : List ℕ) (k : ℕ) (S : State) : Type 0 where
-  pub before : read start 0 (take k (records F)) ≡ allStand S
+  pub before : read emptyState 0 (take k (records F)) ≡ allStand S
   pub ok : StateOk k S
   pub sourced : Sourced (derivations S)
   pub tally : Tally F k S
 
-pub standing-start : (F : List ℕ) → Standing F 0 start
+pub standing-start : (F : List ℕ) → Standing F 0 emptyState
 standing-start F = record { before = refl; ok = start-ok; sourced = tt; tally = record { total = omega arith; aritiesRead = tt; rowsFit = tt; distinct = tt } }
-
--- Reading goes on where it stopped.
-read-on : (S : State) (j : ℕ) (xs ys : List Record) (T : State) → read S j xs ≡ allStand T → read S j (xs ++ ys) ≡ read T (j + length xs) ys
-read-on S j [] ys T q = ap₂ (λ (U : State) (i : ℕ). read U i ys) (ending-stands q) (sym (add-zero j))
-read-on S j (x ∷ xs) ys T q = try (step S j x) refl q (λ U p. read-on U (suc j) xs ys T p)
-  where
-    no : {p : Reason} → refusedAt S p j ≡ allStand T → ⊥
-    no e = let z : _≡_ {A = ℕ} 0 1 = cc in omega arith
-
-    try : (o : Result) → step S j x ≡ o → elim o [ stands U ↦ read U (suc j) xs | refused p ↦ refusedAt S p j ] ≡ allStand T
-        → ((U : State) → read U (suc j) xs ≡ allStand T → read U (suc j) (xs ++ ys) ≡ read T (suc j + length xs) ys)
-        → elim o [ stands U ↦ read U (suc j) (xs ++ ys) | refused p ↦ refusedAt S p j ] ≡ read T (j + suc (length xs)) ys
-    try (stands U) e p ih = ih U p ∙ ap (λ (i : ℕ). read T i ys) (suc-add j (length xs) ∙ sym (add-suc j (length xs)))
-    try (refused p) e q ih = absurd (no q)
 
 pub take-next : (k : ℕ) (rs : List Record) (r : Record) (rest : List Record) → drop k rs ≡ r ∷ rest → take (suc k) rs ≡ take k rs ++ (r ∷ [])
 take-next zero [] r rest q = absurd (let z : _≡_ {A = ℕ} 0 1 = cc in omega arith)
@@ -83,12 +69,12 @@ module _ (F : List ℕ) (k : ℕ) (S : State) (H : Standing F k S) (l : k < reco
   seven : length (rec .fields) ≡ 7
   seven = refl
 
-  pub read-one : (ys : List Record) → read start 0 (take k (records F) ++ ys) ≡ read S k ys
-  read-one ys = read-on start 0 (take k (records F)) ys S (H .before) ∙ ap (λ (i : ℕ). read S i ys) (zero-add (length (take k (records F))) ∙ taken)
+  pub read-one : (ys : List Record) → read emptyState 0 (take k (records F) ++ ys) ≡ read S k ys
+  read-one ys = read-on emptyState 0 (take k (records F)) ys S (H .before) ∙ ap (λ (i : ℕ). read S i ys) (zero-add (length (take k (records F))) ∙ taken)
 
   module _ (T : State) (q : step S k (decoded (recordPart F k)) ≡ stands T) where
-    before-next : read start 0 (take (suc k) (records F)) ≡ allStand T
-    before-next = ap (read start 0) (take-next k (records F) rec (drop (suc k) (records F)) next) ∙ read-one (rec ∷ [])
+    before-next : read emptyState 0 (take (suc k) (records F)) ≡ allStand T
+    before-next = ap (read emptyState 0) (take-next k (records F) rec (drop (suc k) (records F)) next) ∙ read-one (rec ∷ [])
         ∙ ap (λ (o : Result). elim o [ stands U ↦ read U (suc k) [] | refused p ↦ refusedAt S p k ]) q
 
     abbrev G : Tally F k S
@@ -123,7 +109,7 @@ module _ (F : List ℕ) (k : ℕ) (S : State) (H : Standing F k S) (l : k < reco
         let s = named-stands _ (leftOf S rec) (deletedOf S rec) T z in
         let c = clause-added S k (factor (nextClause S) (s .0 .0) (fieldB rec) (fieldC rec)) (unifyFactor S (s .0) (s .1)) T (s .4) in
         clause-more (factor (nextClause S) (s .0 .0) (fieldB rec) (fieldC rec) (c .0)) (c .3)
-    one-more otherKind a z = absurd (true-not-false (a .known) refl)
+    one-more otherKind a z = absurd a
 
     pub advance : Standing F (suc k) T
     advance =
@@ -134,7 +120,7 @@ module _ (F : List ℕ) (k : ℕ) (S : State) (H : Standing F k S) (l : k < reco
   pub refused-there : (p : Reason) → step S k (decoded (recordPart F k)) ≡ refused p → ending F ≡ refusedAt S p k
   unfolding ending
   refused-there p q =
-      ap (read start 0) (sym (take-append-drop k (records F)) ∙ ap (λ (l : List Record). take k (records F) ++ l) next)
+      ap (read emptyState 0) (sym (take-append-drop k (records F)) ∙ ap (λ (l : List Record). take k (records F) ++ l) next)
       ∙ read-one (rec ∷ drop (suc k) (records F))
       ∙ ap (λ (o : Result). elim o [ stands U ↦ read U (suc k) (drop (suc k) (records F)) | refused p ↦ refusedAt S p k ]) q
 
@@ -143,4 +129,4 @@ unfolding ending
 all-read F S H =
     let n = records-length F in
     let e : take (recordCount F) (records F) ≡ records F = rw (← n) (take-length (records F)) in
-    ap (read start 0) (sym e) ∙ H .before
+    ap (read emptyState 0) (sym e) ∙ H .before

@@ -1,26 +1,22 @@
 -- The case sheet and the edges of the limits, by computing; and the lengths, for every file.
-use mathlib.Core.Path.{_≡_, refl, ap}
+use mathlib.Core.Path.{_≡_, refl}
 use mathlib.Core.Bool.{false}
 use mathlib.Core.List.{List}
 use Prim.Native.Nat.{ℕ}
-use native.Mathlib.Omega.{arith}
 use lib.ListN.{length}
 use Rattle.record.specs.Bytes.{recordBytes, fileBytes}
 use Rattle.record.specs.Record.{records}
-use Rattle.unification.specs.Row.{Variable}
 use Rattle.unification.specs.Unification.{mostWork, mostBindings, mostLinks, run}
 use Rattle.unification.proofs.Tests.{true-not-false}
 use Rattle.verdict.specs.Cases.{CasesHold, refusedForLength, LengthsHold}
-use Rattle.verdict.specs.Demands.{DueAt, ofLength, ofTables, ofRecord}
 use Rattle.verdict.specs.Edges.{EdgesHold, ShortTablesHold, TextsHold}
 use Rattle.verdict.specs.Readout.{readoutLines}
-use Rattle.verdict.specs.Refusal.{Reason, badLength, reasonNumber, mostLiterals, mostIndex}
+use Rattle.verdict.specs.Refusal.{mostLiterals, mostIndex}
 use Rattle.verdict.specs.State.{held}
 use Rattle.verdict.specs.Step.{require, addClause}
-use Rattle.verdict.specs.Tables.{Tables, tablesAfter}
+use Rattle.verdict.specs.Tables.{tablesAfter}
 use Rattle.verdict.specs.Verdict.{check, answerNumbers, Lengths, fittingLength, ending}
-use Rattle.verdict.proofs.Demanded.{demand2}
-use Rattle.verdict.proofs.Refusals.{due-stated}
+use Rattle.verdict.proofs.Demanded.{length-only}
 
 pub cases-hold : CasesHold
 unfolding fileBytes recordBytes records check tablesAfter readoutLines ending held require addClause run mostWork mostBindings mostLinks mostLiterals mostIndex
@@ -41,18 +37,9 @@ bad-length : (file : List ℕ) (lengths : Lengths) → fittingLength (length fil
 unfolding check held
 bad-length file lengths f = rw f
 
--- Reason 1 is given only for the length.
-length-due : (file : List ℕ) (tables : Tables) (q : Reason) (k : ℕ) → DueAt file tables q k → q ≡ badLength → fittingLength (length file) ≡ false
-length-due file tables q k (ofLength f) e = f
-length-due file tables q k (ofTables f l) e = let z : _≡_ {A = ℕ} 2 1 = ap reasonNumber e in absurd (omega arith)
-length-due file tables q j (ofRecord {reason} {k} {S} {r} R D) e =
-    let z : reasonNumber reason ≡ 1 = ap reasonNumber e in
-    let y = due-stated S r reason D in
-    absurd (omega arith)
-
 pub lengths-hold : LengthsHold
 lengths-hold = record {
-  longest = λ file tables k l z. true-not-false (rw l refl) (length-due file tables badLength k (demand2 file tables Variable .refusals badLength k z) refl);
+  longest = λ file tables k l z. true-not-false (rw l refl) (length-only file tables k z);
   fifteen = λ file lengths l. bad-length file lengths (rw l refl);
   tooLong = λ file lengths l. bad-length file lengths (rw l refl);
 }

@@ -1,35 +1,42 @@
 -- The mission's demands hold of every file and every four tables.
-use mathlib.Core.Path.{_≡_, refl, sym, ap, ap₂, _∙_}
+use mathlib.Core.Path.{_≡_, refl, sym, ap, ap₂, _∙_, subst}
 use mathlib.Core.Logic.{_⊎_, inl, inr}
-use mathlib.Core.Bool.{Bool, true, false}
+use mathlib.Core.Bool.{Bool, true, false, _&&_}
 use mathlib.Core.Option.{Option, none, some}
-use mathlib.Core.List.{List, []}
-use Prim.Native.Nat.{ℕ, _≤_, _<_}
+use mathlib.Core.List.{List, [], _∷_, _++_}
+use Prim.Native.Nat.{ℕ, _+_, _-_, _*_, _%_, _≤_, _<_}
 use native.Mathlib.Nat.{zero-add}
 use native.Mathlib.Omega.{arith}
-use lib.Dec.{T}
-use lib.ListN.{length, take, drop}
-use Rattle.record.specs.Record.{Record, records}
+use lib.Dec.{eqb, leb}
+use lib.ListN.{length, getD, take, drop, replicate, length-map, List·getD-append}
+use Rattle.record.specs.Record.{pick, Record, records, kindNumbered}
+use Rattle.unification.specs.Environment.{follow, Ends}
+use Rattle.unification.specs.Row.{Expression}
 use Rattle.unification.specs.Unification.{mostLinks}
 use Rattle.unification.proofs.Chains.{short-le}
 use Rattle.unification.proofs.Rows.{row-there}
-use Rattle.derivation.specs.Derivation.{literals, Derivation, lookup, uses}
+use Rattle.unification.proofs.Tests.{both-true, true-not-false}
+use Rattle.derivation.specs.Derivation.{literals, Derivation, maximumIndex, lookup, uses}
 use Rattle.derivation.specs.Ground.{valueIn}
 use Rattle.derivation.proofs.Forms.{instances-formed}
 use Rattle.derivation.proofs.Known.{known-uses}
-use Rattle.derivation.proofs.Literals.{uses-length}
+use Rattle.derivation.proofs.Literals.{uses-length, leb-false-lt}
 use Rattle.derivation.proofs.Values.{refutes, writes-out, writes-out-unique, values-exist, values-unique}
-use Rattle.verdict.specs.Demands.{Reached, Untouched, LeftBefore, Demand1, DueAt, ofLength, ofTables, ofRecord, LowestEmpty, Demand2, FollowingEnds, Refutation, Demand3}
+use Rattle.verdict.specs.Conditions.{OneOf, LengthUnfit, lengthOver, notMultiple, TableShort, symbolsShort, rowsShort, clausesShort, bindingsShort, Condition, unknownKind, outsideRange, nothingThere, rowAgain, variableAsLiteral, unfitSigns, largeResult, clashing, occurring, overworking, overfull}
+use Rattle.verdict.specs.Demands.{Reached, ComesTo, Untouched, LeftBefore, Demand1, ConditionAt, ofLength, ofTables, ofRecord, Due, LowestEmpty, NoneEmpty, Demand2, Refutation, Demand3}
 use Rattle.verdict.specs.Refusal.{Reason, badLength, shortTable, reasonNumber}
-use Rattle.verdict.specs.State.{State, start, rowsOf, derivations, arityOf, clauseOf, rowOf, termOf, held}
+use Rattle.verdict.specs.State.{State, emptyState, rowsOf, derivations, arityOf, clauseOf, rowOf, termOf, held}
 use Rattle.verdict.specs.Step.{refused, step, read, Ending, allStand, refusedAt, stateOf}
-use Rattle.verdict.specs.Tables.{Tables, lengthsOf, filledTables, tablesAfter}
-use Rattle.verdict.specs.Verdict.{refusal, check, accepted, undecided, Answer, firstEmpty, standing, verdictOf, answerOf, Lengths, longEnough, fittingLength, ending}
-use Rattle.verdict.proofs.Acceptance.{first-lowest, some-first, index-cell}
-use Rattle.verdict.proofs.Reading.{read-refused, reached-ok, ending-ok, term-of-row, one-arity}
-use Rattle.verdict.proofs.Refusals.{due-stated, refused-due, refused-no-unifier}
+use Rattle.verdict.specs.Tables.{Tables, lengthsOf, clauseCells, filledTables, tablesGiven, tablesAfter}
+use Rattle.verdict.specs.Verdict.{Verdict, refusal, check, accepted, open′, Answer, firstEmpty, everyClause, standing, verdictOf, answerOf, Lengths, longEnough, fittingLength, ending, Stands, Reading, verdictGiven, stateGiven}
+use Rattle.verdict.proofs.Acceptance.{none-empty, first-lowest, some-first, cells-length, index-cell}
+use Rattle.verdict.proofs.Added.{step-adds}
+use Rattle.verdict.proofs.Conditions.{not-true, either-false, unequal, equal, at-most}
+use Rattle.verdict.proofs.Inversions.{entry-below}
+use Rattle.verdict.proofs.Reading.{reading-length, reading-tables, reading-records, read-refused, reached-seven, reached-ok, reached-refused, comes-ok, stands-ok, term-of-row, one-arity}
+use Rattle.verdict.proofs.Refusals.{refused-condition, condition-refused, refused-no-unifier, condition-number}
 use Rattle.verdict.proofs.Resolution.{resolvent-added, factor-added, unifiable-stands}
-use Rattle.verdict.proofs.Standing.{below, StateOk, order-of, inputs-of, known-of, held-links}
+use Rattle.verdict.proofs.Standing.{below, order-of, inputs-of, known-of, held-links}
 
 accepted-injective : {m n : ℕ} → accepted m ≡ accepted n → m ≡ n
 accepted-injective p = cc
@@ -40,43 +47,76 @@ refusal-injective e = (cc, cc)
 accepted-not-refusal : {n k : ℕ} {q : Reason} → accepted n ≡ refusal q k → ⊥
 accepted-not-refusal p = let z : _≡_ {A = ℕ} 0 1 = cc in omega arith
 
-undecided-not-refusal : {k : ℕ} {q : Reason} → undecided ≡ refusal q k → ⊥
-undecided-not-refusal p = let z : _≡_ {A = ℕ} 0 1 = cc in omega arith
+open-not-refusal : {k : ℕ} {q : Reason} → open′ ≡ refusal q k → ⊥
+open-not-refusal p = let z : _≡_ {A = ℕ} 0 1 = cc in omega arith
 
-undecided-not-accepted : {n : ℕ} → undecided ≡ accepted n → ⊥
-undecided-not-accepted p = let z : _≡_ {A = ℕ} 0 1 = cc in omega arith
+open-not-accepted : {n : ℕ} → open′ ≡ accepted n → ⊥
+open-not-accepted p = let z : _≡_ {A = ℕ} 0 1 = cc in omega arith
 
-refusal-not-accepted : {n k : ℕ} {q : Reason} → refusal q k ≡ accepted n → ⊥
-refusal-not-accepted p = let z : _≡_ {A = ℕ} 0 1 = cc in omega arith
+-- A number of a list, found by comparing.
+abbrev member : ℕ → List ℕ → Bool
+member n [] = false
+member n (m ∷ ms) = pick (eqb n m) true (member n ms)
+
+one-of : (n : ℕ) (ns : List ℕ) → member n ns ≡ true → OneOf n ns
+one-of n [] q = absurd (true-not-false q refl)
+one-of n (m ∷ ms) q = try (eqb n m) refl q (λ z. one-of n ms z)
+  where
+    try : (b : Bool) → eqb n m ≡ b → pick b true (member n ms) ≡ true → (member n ms ≡ true → OneOf n ms) → OneOf n (m ∷ ms)
+    try true p z k = inl (equal n m p)
+    try false p z k = inr (k z)
 
 module _ (file : List ℕ) (tables : Tables) where
   abbrev lengths : Lengths
   lengths = lengthsOf tables
 
-  -- The three ways that a check can go.
-  pub check-length : fittingLength (length file) ≡ false → check file (lengthsOf tables) ≡ answerOf (refusal badLength 0) start
-  unfolding check
-  check-length f = rw f
+  -- The answer and the tables, by how the reading goes.
+  abbrev answerGiven : Reading → Answer
+  answerGiven R = answerOf (verdictGiven R) (stateGiven R)
 
-  pub check-tables : fittingLength (length file) ≡ true → longEnough (lengthsOf tables) ≡ false → check file (lengthsOf tables) ≡ answerOf (refusal shortTable 0) start
+  pub check-length : fittingLength (length file) ≡ false → check file (lengthsOf tables) ≡ answerOf (refusal badLength 0) emptyState
   unfolding check
-  check-tables f l = rw (f, l)
+  check-length f = ap answerGiven (reading-length file lengths f)
+
+  pub check-tables : fittingLength (length file) ≡ true → longEnough (lengthsOf tables) ≡ false → check file (lengthsOf tables) ≡ answerOf (refusal shortTable 0) emptyState
+  unfolding check
+  check-tables f l = ap answerGiven (reading-tables file lengths f l)
 
   pub check-reads : fittingLength (length file) ≡ true → longEnough (lengthsOf tables) ≡ true → check file (lengthsOf tables) ≡ answerOf (verdictOf (ending file)) (stateOf (ending file))
   unfolding check
-  check-reads f l = rw (f, l)
+  check-reads f l = ap answerGiven (reading-records file lengths f l)
 
   pub tables-length : fittingLength (length file) ≡ false → tablesAfter file tables ≡ tables
   unfolding tablesAfter
-  tables-length f = rw f
+  tables-length f = ap (λ (R : Reading). tablesGiven R tables) (reading-length file lengths f)
 
   pub tables-short : fittingLength (length file) ≡ true → longEnough (lengthsOf tables) ≡ false → tablesAfter file tables ≡ tables
   unfolding tablesAfter
-  tables-short f l = rw (f, l)
+  tables-short f l = ap (λ (R : Reading). tablesGiven R tables) (reading-tables file lengths f l)
 
   pub tables-read : fittingLength (length file) ≡ true → longEnough (lengthsOf tables) ≡ true → tablesAfter file tables ≡ filledTables (stateOf (ending file)) tables
   unfolding tablesAfter
-  tables-read f l = rw (f, l)
+  tables-read f l = ap (λ (R : Reading). tablesGiven R tables) (reading-records file lengths f l)
+
+  -- A file that stands, with tables long enough: answer and tables are those of the state that it leaves.
+  pub stands-check : (S : State) → Stands file S → longEnough (lengthsOf tables) ≡ true → check file (lengthsOf tables) ≡ answerOf (verdictOf (allStand S)) S
+  stands-check S st l = check-reads (st .fits) l ∙ ap (λ (e : Ending). answerOf (verdictOf e) (stateOf e)) (st .reads)
+
+  pub stands-tables : (S : State) → Stands file S → longEnough (lengthsOf tables) ≡ true → tablesAfter file tables ≡ filledTables S tables
+  stands-tables S st l = tables-read (st .fits) l ∙ ap (λ (e : Ending). filledTables (stateOf e) tables) (st .reads)
+
+  -- A file that is not refused stands.
+  pub not-refused : ((q : Reason) (k : ℕ) → ¬ (check file (lengthsOf tables) .verdict ≡ refusal q k)) → (longEnough (lengthsOf tables) ≡ true) × ((S : State) × Stands file S)
+  not-refused h = try (fittingLength (length file)) refl (longEnough lengths) refl
+    where
+      by : fittingLength (length file) ≡ true → longEnough (lengthsOf tables) ≡ true → (e : Ending) → ending file ≡ e → (S : State) × Stands file S
+      by f l (allStand S) p = (S, record { fits = f; reads = p })
+      by f l (refusedAt S q k) p = absurd (h q k (ap (λ (a : Answer). a .verdict) (check-reads f l) ∙ ap verdictOf p))
+
+      try : (b : Bool) → fittingLength (length file) ≡ b → (c : Bool) → longEnough (lengthsOf tables) ≡ c → (longEnough (lengthsOf tables) ≡ true) × ((S : State) × Stands file S)
+      try false f c l = absurd (h badLength 0 (ap (λ (a : Answer). a .verdict) (check-length f)))
+      try true f false l = absurd (h shortTable 0 (ap (λ (a : Answer). a .verdict) (check-tables f l)))
+      try true f true l = (l, by f l (ending file) refl)
 
   -- A refusal at a record, found in the reading.
   record Found (q : Reason) (k : ℕ) : Type 0 where
@@ -86,22 +126,22 @@ module _ (file : List ℕ) (tables : Tables) where
     refusedBy : step state k refusedRecord ≡ refused q
     isEnding : ending file ≡ refusedAt state q k
 
-  found : (e : Ending) → ending file ≡ e → (q : Reason) (k : ℕ) → verdictOf e ≡ refusal q k → Found q k
+  found : fittingLength (length file) ≡ true → (e : Ending) → ending file ≡ e → (q : Reason) (k : ℕ) → verdictOf e ≡ refusal q k → Found q k
   unfolding ending
-  found (allStand S) p q k z = absurd (open-or-accepted (firstEmpty (derivations S)) z)
+  found f (allStand S) p q k z = absurd (open-or-accepted (firstEmpty everyClause (derivations S)) z)
     where
       open-or-accepted : (o : Option ℕ) → standing o ≡ refusal q k → ⊥
-      open-or-accepted none z = undecided-not-refusal z
+      open-or-accepted none z = open-not-refusal z
       open-or-accepted (some n) z = accepted-not-refusal z
-  found (refusedAt S p′ j) p q k z =
+  found f (refusedAt S p′ j) p q k z =
       let w = refusal-injective z in
-      let e : read start 0 (records file) ≡ refusedAt S q k = p ∙ ap₂ (λ (x : Reason) (i : ℕ). refusedAt S x i) (w .0) (w .1) in
-      let R = read-refused start 0 (records file) S q k e in
+      let e : read emptyState 0 (records file) ≡ refusedAt S q k = p ∙ ap₂ (λ (x : Reason) (i : ℕ). refusedAt S x i) (w .0) (w .1) in
+      let R = read-refused emptyState 0 (records file) S q k e in
       let i : k ≡ R .place = R .number ∙ zero-add (R .place) in
       record {
         state = S;
         refusedRecord = R .refusedRecord;
-        reached = record { before = ap (λ (i : ℕ). read start 0 (take i (records file))) i ∙ R .before; after = R .rest; here = ap (λ (i : ℕ). drop i (records file)) i ∙ R .here };
+        reached = record { fits = f; before = ap (λ (i : ℕ). read emptyState 0 (take i (records file))) i ∙ R .before; after = R .rest; here = ap (λ (i : ℕ). drop i (records file)) i ∙ R .here };
         refusedBy = R .refusedBy;
         isEnding = e;
       }
@@ -118,15 +158,86 @@ module _ (file : List ℕ) (tables : Tables) where
       try : (b : Bool) → fittingLength (length file) ≡ b → (c : Bool) → longEnough (lengthsOf tables) ≡ c → Refused q k
       try false f c l = let w = refusal-injective (sym (ap (λ (a : Answer). a .verdict) (check-length f)) ∙ z) in forLength (sym (w .0)) (sym (w .1)) f
       try true f false l = let w = refusal-injective (sym (ap (λ (a : Answer). a .verdict) (check-tables f l)) ∙ z) in forTables (sym (w .0)) (sym (w .1)) f l
-      try true f true l = forRecord f l (found (ending file) refl q k (sym (ap (λ (a : Answer). a .verdict) (check-reads f l)) ∙ z))
+      try true f true l = forRecord f l (found f (ending file) refl q k (sym (ap (λ (a : Answer). a .verdict) (check-reads f l)) ∙ z))
+
+  found-condition : (q : Reason) (k : ℕ) (F : Found q k) → Condition (take k (records file)) (F .state) (F .refusedRecord) (reasonNumber q)
+  found-condition q k F = refused-condition file k (F .state) (F .refusedRecord) (F .reached) q (F .refusedBy)
+
+  -- Reason 1 is given only for the length.
+  pub length-only : (k : ℕ) → check file (lengthsOf tables) .verdict ≡ refusal badLength k → fittingLength (length file) ≡ false
+  length-only k z = try (refused-by badLength k z)
+    where
+      try : Refused badLength k → fittingLength (length file) ≡ false
+      try (forLength a b f) = f
+      try (forTables a b f l) = let y : _≡_ {A = ℕ} 1 2 = ap reasonNumber a in absurd (omega arith)
+      try (forRecord f l F) = let y = condition-number 1 (found-condition badLength k F) .0 in absurd (omega arith)
+
+  -- The tests of lengths say what the conditions say.
+  length-unfit : fittingLength (length file) ≡ false → LengthUnfit file
+  length-unfit f = try (either-false (leb (length file) 65536) (eqb (length file % 16) 0) f)
+    where
+      try : (leb (length file) 65536 ≡ false) ⊎ (eqb (length file % 16) 0 ≡ false) → LengthUnfit file
+      try (inl p) = lengthOver (leb-false-lt (length file) 65536 p)
+      try (inr p) = notMultiple (unequal (length file % 16) 0 p)
+
+  length-fails : LengthUnfit file → fittingLength (length file) ≡ false
+  length-fails h = not-true (fittingLength (length file)) (λ t. let p = both-true (leb (length file) 65536) (eqb (length file % 16) 0) t in by h (at-most (length file) 65536 (p .0)) (equal (length file % 16) 0 (p .1)))
+    where
+      by : LengthUnfit file → length file ≤ 65536 → length file % 16 ≡ 0 → ⊥
+      by (lengthOver l) a b = omega arith
+      by (notMultiple n) a b = n b
+
+  abbrev four : Bool × Bool × Bool × Bool
+  four = (leb 4096 (length (tables .symbols)), leb 4096 (length (tables .rows)), leb 20480 (length (tables .clauses)), leb 32768 (length (tables .bindings)))
+
+  table-short : longEnough (lengthsOf tables) ≡ false → TableShort tables
+  table-short f = first (either-false (four .0 && four .1 && four .2) (four .3) f)
+    where
+      third : (four .0 ≡ false) ⊎ (four .1 ≡ false) → TableShort tables
+      third (inl p) = symbolsShort (leb-false-lt 4096 (length (tables .symbols)) p)
+      third (inr p) = rowsShort (leb-false-lt 4096 (length (tables .rows)) p)
+
+      second : ((four .0 && four .1) ≡ false) ⊎ (four .2 ≡ false) → TableShort tables
+      second (inl p) = third (either-false (four .0) (four .1) p)
+      second (inr p) = clausesShort (leb-false-lt 20480 (length (tables .clauses)) p)
+
+      first : ((four .0 && four .1 && four .2) ≡ false) ⊎ (four .3 ≡ false) → TableShort tables
+      first (inl p) = second (either-false (four .0 && four .1) (four .2) p)
+      first (inr p) = bindingsShort (leb-false-lt 32768 (length (tables .bindings)) p)
+
+  tables-fail : TableShort tables → longEnough (lengthsOf tables) ≡ false
+  tables-fail h = not-true (longEnough (lengthsOf tables)) (λ t.
+      let c = both-true (four .0 && four .1 && four .2) (four .3) t in
+      let b = both-true (four .0 && four .1) (four .2) (c .0) in
+      let a = both-true (four .0) (four .1) (b .0) in
+      by h (at-most 4096 (length (tables .symbols)) (a .0)) (at-most 4096 (length (tables .rows)) (a .1)) (at-most 20480 (length (tables .clauses)) (b .1)) (at-most 32768 (length (tables .bindings)) (c .1)))
+    where
+      by : TableShort tables → 4096 ≤ length (tables .symbols) → 4096 ≤ length (tables .rows) → 20480 ≤ length (tables .clauses) → 32768 ≤ length (tables .bindings) → ⊥
+      by (symbolsShort l) a b c d = omega arith
+      by (rowsShort l) a b c d = omega arith
+      by (clausesShort l) a b c d = omega arith
+      by (bindingsShort l) a b c d = omega arith
+
+  long-enough : ¬ TableShort tables → longEnough (lengthsOf tables) ≡ true
+  long-enough h = try (longEnough (lengthsOf tables)) refl
+    where
+      try : (b : Bool) → longEnough (lengthsOf tables) ≡ b → b ≡ true
+      try true p = refl
+      try false p = absurd (h (table-short p))
 
   pub demand1 : Demand1 file tables
-  demand1 = record { tablesOfRefusal = λ q k z. try q k (refused-by q k z) }
+  demand1 = record {
+    tablesOfStanding = λ S st h.
+        let c = stands-check S st (long-enough h) in
+        record { counts = c ∙ ap (λ (v : Verdict). answerOf v S) (sym (ap (λ (a : Answer). a .verdict) c)); tablesFilled = stands-tables S st (long-enough h) };
+    tablesOfRefusal = λ q k z. try q k (refused-by q k z);
+  }
     where
-      try : (q : Reason) (k : ℕ) → Refused q k → (((q ≡ badLength) ⊎ (q ≡ shortTable)) × Untouched file tables q k) ⊎ LeftBefore file tables q k
-      try q k (forLength a b f) = inl (inl a, record { record0 = b; counts = check-length f ∙ ap (λ (x : Reason). answerOf (refusal x 0) start) (sym a); tablesKept = tables-length f })
-      try q k (forTables a b f l) = inl (inr a, record { record0 = b; counts = check-tables f l ∙ ap (λ (x : Reason). answerOf (refusal x 0) start) (sym a); tablesKept = tables-short f l })
+      try : (q : Reason) (k : ℕ) → Refused q k → Untouched file tables q k ⊎ LeftBefore file tables q k
+      try q k (forLength a b f) = inl (record { number = inl (ap reasonNumber a); record0 = b; counts = check-length f ∙ ap (λ (x : Reason). answerOf (refusal x 0) emptyState) (sym a); tablesKept = tables-length f })
+      try q k (forTables a b f l) = inl (record { number = inr (inl (ap reasonNumber a)); record0 = b; counts = check-tables f l ∙ ap (λ (x : Reason). answerOf (refusal x 0) emptyState) (sym a); tablesKept = tables-short f l })
       try q k (forRecord f l F) = inr (record {
+        number = condition-number (reasonNumber q) (found-condition q k F) .0;
         state = F .state;
         refusedRecord = F .refusedRecord;
         reached = F .reached;
@@ -134,73 +245,153 @@ module _ (file : List ℕ) (tables : Tables) where
         tablesFilled = tables-read f l ∙ ap (λ (e : Ending). filledTables (stateOf e) tables) (F .isEnding);
       })
 
-  due-at : (q : Reason) (k : ℕ) → Refused q k → DueAt file tables q k
-  due-at q k (forLength a b f) = rw (a, b) (ofLength f)
-  due-at q k (forTables a b f l) = rw (a, b) (ofTables f l)
-  due-at q k (forRecord f l F) = ofRecord (F .reached) (refused-due (F .state) (reached-ok file f k (F .state) (F .refusedRecord) (F .reached)) k (F .refusedRecord) q (F .refusedBy))
+  condition-at : (q : Reason) (k : ℕ) → Refused q k → ConditionAt file tables (reasonNumber q) k
+  condition-at q k (forLength a b f) = rw (a, b) (ofLength (length-unfit f))
+  condition-at q k (forTables a b f l) = rw (a, b) (ofTables (table-short l))
+  condition-at q k (forRecord f l F) = ofRecord (F .reached) (found-condition q k F)
 
-  stated : (q : Reason) (k : ℕ) → DueAt file tables q k → (1 ≤ reasonNumber q) × (reasonNumber q ≤ 13)
-  stated q k (ofLength f) = omega arith
-  stated q k (ofTables f l) = omega arith
-  stated q j (ofRecord {reason} {k} {S} {r} R D) = let d = due-stated S r reason D in omega arith
+  -- Where a condition holds, the file is refused with a number no higher.
+  abbrev RefusedUpTo : ℕ → Type 0
+  RefusedUpTo n = (q : Reason) × (j : ℕ) × (check file (lengthsOf tables) .verdict ≡ refusal q j) × (reasonNumber q ≤ n)
 
-  -- An accepted file: every record stands, and the clause is the lowest empty one.
-  accepted-ends : (n : ℕ) → check file (lengthsOf tables) .verdict ≡ accepted n → (fittingLength (length file) ≡ true) × ((S : State) × (ending file ≡ allStand S) × (firstEmpty (derivations S) ≡ some n))
-  accepted-ends n z = try (fittingLength (length file)) refl (longEnough lengths) refl
+  for-length : (n : ℕ) → 1 ≤ n → fittingLength (length file) ≡ false → RefusedUpTo n
+  for-length n l f = (badLength, 0, ap (λ (a : Answer). a .verdict) (check-length f), l)
+
+  for-tables : (n : ℕ) → 2 ≤ n → longEnough (lengthsOf tables) ≡ false → RefusedUpTo n
+  for-tables n m l = try (fittingLength (length file)) refl
     where
-      stands-with : (e : Ending) → ending file ≡ e → verdictOf e ≡ accepted n → (S : State) × (ending file ≡ allStand S) × (firstEmpty (derivations S) ≡ some n)
-      stands-with (allStand S) p y = (S, p, which (firstEmpty (derivations S)) y)
-        where
-          which : (o : Option ℕ) → standing o ≡ accepted n → o ≡ some n
-          which none y = absurd (undecided-not-accepted y)
-          which (some m) y = ap some (accepted-injective y)
-      stands-with (refusedAt S q k) p y = absurd (refusal-not-accepted y)
+      try : (b : Bool) → fittingLength (length file) ≡ b → RefusedUpTo n
+      try true f = (shortTable, 0, ap (λ (a : Answer). a .verdict) (check-tables f l), m)
+      try false f = for-length n (omega arith) f
 
-      try : (b : Bool) → fittingLength (length file) ≡ b → (c : Bool) → longEnough (lengthsOf tables) ≡ c → (fittingLength (length file) ≡ true) × ((S : State) × (ending file ≡ allStand S) × (firstEmpty (derivations S) ≡ some n))
-      try false f c l = absurd (refusal-not-accepted (sym (ap (λ (a : Answer). a .verdict) (check-length f)) ∙ z))
-      try true f false l = absurd (refusal-not-accepted (sym (ap (λ (a : Answer). a .verdict) (check-tables f l)) ∙ z))
-      try true f true l = (f, stands-with (ending file) refl (sym (ap (λ (a : Answer). a .verdict) (check-reads f l)) ∙ z))
+  file-refused : (n k : ℕ) → ConditionAt file tables n k → RefusedUpTo n
+  file-refused n k (ofLength h) = for-length 1 (omega arith) (length-fails h)
+  file-refused n k (ofTables h) = for-tables 2 (omega arith) (tables-fail h)
+  file-refused n j (ofRecord {number} {k} {S} {r} R C) = try (longEnough lengths) refl
+    where
+      try : (b : Bool) → longEnough (lengthsOf tables) ≡ b → RefusedUpTo number
+      try false l = let c = condition-number number C .0 in for-tables number (omega arith) l
+      try true l =
+          let w = condition-refused file k S r R number C in
+          (w .0, k, ap (λ (a : Answer). a .verdict) (check-reads (R .fits) l) ∙ ap verdictOf (reached-refused file k S r R (w .0) (w .1)), w .2)
 
-  lowest-empty : (S : State) (n : ℕ) → firstEmpty (derivations S) ≡ some n → LowestEmpty S n
-  lowest-empty S n q =
-      let L = first-lowest (derivations S) n q in
-      record { clause = L .clause; isClause = L .isClause; empty = L .empty; lowest = L .lowest }
+  due : (q : Reason) (k : ℕ) → check file (lengthsOf tables) .verdict ≡ refusal q k → Due file tables (reasonNumber q) k
+  due q k z = record {
+    holds = condition-at q k (refused-by q k z);
+    lowest = λ n j C.
+        let w = file-refused n j C in
+        subst (λ (p : Reason). reasonNumber p ≤ n) (refusal-injective (sym (w .2) ∙ z) .0) (w .3);
+  }
 
-  accepted-if : fittingLength (length file) ≡ true → longEnough (lengthsOf tables) ≡ true → (S : State) → ending file ≡ allStand S → (i : ℕ) (c : Derivation) → clauseOf S i ≡ some c → literals c ≡ []
+  -- The numbers stated.
+  abbrev thirteen : List ℕ
+  thirteen = 1 ∷ 2 ∷ 3 ∷ 4 ∷ 5 ∷ 6 ∷ 7 ∷ 8 ∷ 9 ∷ 10 ∷ 11 ∷ 12 ∷ 13 ∷ []
+
+  condition-stated : {earlier : List Record} {S : State} {r : Record} (n : ℕ) → Condition earlier S r n → OneOf n thirteen
+  condition-stated n (unknownKind h) = one-of 3 thirteen refl
+  condition-stated n (outsideRange h) = one-of 4 thirteen refl
+  condition-stated n (nothingThere h) = one-of 5 thirteen refl
+  condition-stated n (rowAgain h) = one-of 6 thirteen refl
+  condition-stated n (variableAsLiteral h) = one-of 7 thirteen refl
+  condition-stated n (unfitSigns h) = one-of 8 thirteen refl
+  condition-stated n (largeResult h) = one-of 9 thirteen refl
+  condition-stated n (clashing h) = one-of 10 thirteen refl
+  condition-stated n (occurring h) = one-of 11 thirteen refl
+  condition-stated n (overworking h) = one-of 12 thirteen refl
+  condition-stated n (overfull h) = one-of 13 thirteen refl
+
+  stated : (n k : ℕ) → ConditionAt file tables n k → OneOf n thirteen
+  stated n k (ofLength h) = one-of 1 thirteen refl
+  stated n k (ofTables h) = one-of 2 thirteen refl
+  stated n k (ofRecord {number} R C) = condition-stated number C
+
+  -- A file that is not refused stands, and its verdict goes by the first empty clause.
+  verdict-ends : (v : Verdict) → ((q : Reason) (k : ℕ) → ¬ (v ≡ refusal q k)) → check file (lengthsOf tables) .verdict ≡ v
+      → (longEnough (lengthsOf tables) ≡ true) × ((S : State) × Stands file S × (standing (firstEmpty everyClause (derivations S)) ≡ v))
+  verdict-ends v h z =
+      let n = not-refused (λ q k y. h q k (sym z ∙ y)) in
+      let S = n .1 .0 in
+      let st = n .1 .1 in
+      (n .0, (S, st, sym (ap (λ (a : Answer). a .verdict) (stands-check S st (n .0))) ∙ z))
+
+  accepted-ends : (n : ℕ) → check file (lengthsOf tables) .verdict ≡ accepted n → (longEnough (lengthsOf tables) ≡ true) × ((S : State) × Stands file S × (firstEmpty everyClause (derivations S) ≡ some n))
+  accepted-ends n z =
+      let e = verdict-ends (accepted n) (λ q k y. accepted-not-refusal y) z in
+      (e .0, (e .1 .0, e .1 .1, which (firstEmpty everyClause (derivations (e .1 .0))) (e .1 .2)))
+    where
+      which : (o : Option ℕ) → standing o ≡ accepted n → o ≡ some n
+      which none y = absurd (open-not-accepted y)
+      which (some m) y = ap some (accepted-injective y)
+
+  open-ends : check file (lengthsOf tables) .verdict ≡ open′ → (S : State) × Stands file S × NoneEmpty everyClause S
+  open-ends z =
+      let e = verdict-ends open′ (λ q k y. open-not-refusal y) z .1 in
+      (e .0, e .1, none-empty everyClause (derivations (e .0)) (which (firstEmpty everyClause (derivations (e .0))) (e .2)))
+    where
+      which : (o : Option ℕ) → standing o ≡ open′ → o ≡ none
+      which none y = refl
+      which (some m) y = absurd (open-not-accepted (sym y))
+
+  lowest-empty : (test : Derivation → Bool) (S : State) (n : ℕ) → firstEmpty test (derivations S) ≡ some n → LowestEmpty test S n
+  lowest-empty test S n q =
+      let L = first-lowest test (derivations S) n q in
+      record { clause = L .clause; isClause = L .isClause; passes = L .passes; empty = L .empty; lowest = L .lowest }
+
+  accepted-if : ¬ TableShort tables → (S : State) → Stands file S → (i : ℕ) (c : Derivation) → clauseOf S i ≡ some c → everyClause c ≡ true → literals c ≡ []
       → (n : ℕ) × (check file (lengthsOf tables) .verdict ≡ accepted n)
-  accepted-if f l S e i c p q =
-      let s = some-first (derivations S) i c p q in
-      (s .0, ap (λ (a : Answer). a .verdict) (check-reads f l) ∙ ap verdictOf e ∙ ap standing (s .1))
+  accepted-if h S st i c p t q =
+      let s = some-first everyClause (derivations S) i c p t q in
+      (s .0, ap (λ (a : Answer). a .verdict) (stands-check S st (long-enough h)) ∙ ap standing (s .1))
+
+  open-if : ¬ TableShort tables → (S : State) → Stands file S → NoneEmpty everyClause S → check file (lengthsOf tables) .verdict ≡ open′
+  open-if h S st e = ap (λ (a : Answer). a .verdict) (stands-check S st (long-enough h)) ∙ ap standing (try (firstEmpty everyClause (derivations S)) refl)
+    where
+      try : (o : Option ℕ) → firstEmpty everyClause (derivations S) ≡ o → o ≡ none
+      try none p = refl
+      try (some n) p = let L = lowest-empty everyClause S n p in absurd (e n (L .clause) (L .isClause) (L .passes) (L .empty))
+
+  -- Following never runs out of links.
+  following-ends : (S : State) → ComesTo file S → (n : ℕ) (c : Derivation) → clauseOf S n ≡ some c → (e : Expression) → e .0 < length (rowsOf S) → Ends (follow (rowOf S) mostLinks (lookup c) e)
+  following-ends S C n c q e l =
+      let H = comes-ok file S C in
+      let O = order-of 4096 S H n c q in
+      short-le (λ r. r < length (rowsOf S)) (rowOf S) (held S) mostLinks (lookup c) (held-links 4096 S H) (O .chains) e l
 
   pub demand2 : (Y : Type 0) → Demand2 Y file tables
   demand2 Y = record {
-    writtenByLookup = λ f n c q.
-        let H = ending-ok file f in
-        let K = order-of 4096 (stateOf (ending file)) H n c q .valid in (
-          writes-out (rowOf (stateOf (ending file))) (termOf (stateOf (ending file))) (term-of-row (stateOf (ending file)) H) c K,
-          writes-out-unique (rowOf (stateOf (ending file))) (termOf (stateOf (ending file))) (term-of-row (stateOf (ending file)) H) c K,
-        );
-    resolvents = λ f k S T r R e q. resolvent-added S (reached-ok file f k S r R) k r Y T e q;
-    factors = λ f k S T r R e q. factor-added S (reached-ok file f k S r R) k r Y T e q;
-    noUnifier = λ f k S r g R z c. refused-no-unifier S (reached-ok file f k S r R) k r Y g z c;
-    nothingLost = λ f k S r R range s t A signs τ u. unifiable-stands S (reached-ok file f k S r R) k r Y range s t A signs τ u;
-    refusals = λ q k z. due-at q k (refused-by q k z);
-    statedNumbers = λ q k z. stated q k (due-at q k (refused-by q k z));
-    acceptedOnly = λ n z. let a = accepted-ends n z .1 in (a .0, a .1, lowest-empty (a .0) n (a .2));
+    declared = λ k S T r R q. step-adds S k r T (reached-seven file k S r R) q;
+    followingEnds = following-ends;
+    writtenByLookup = λ S C n c q.
+        let H = comes-ok file S C in
+        let K = order-of 4096 S H n c q .valid in
+        (writes-out (rowOf S) (termOf S) (term-of-row S H) c K, writes-out-unique (rowOf S) (termOf S) (term-of-row S H) c K);
+    resolvents = λ k S T r R e q. resolvent-added S (reached-ok file k S r R) k r Y T (ap kindNumbered e) q;
+    factors = λ k S T r R e q. factor-added S (reached-ok file k S r R) k r Y T (ap kindNumbered e) q;
+    noUnifier = λ k S r q R z m pairs A. refused-no-unifier file k S r R Y q z m pairs A;
+    nothingLost = λ k S r R range pairs A signs τ u. unifiable-stands S (reached-ok file k S r R) k r (reached-seven file k S r R) Y range pairs A signs τ u;
+    refusals = due;
+    statedNumbers = λ q k z. stated (reasonNumber q) k (condition-at q k (refused-by q k z));
+    recordRefused = λ k S r R n C. condition-refused file k S r R n C;
+    fileRefused = file-refused;
+    acceptedOnly = λ n z. let a = accepted-ends n z .1 in (a .0, a .1, lowest-empty everyClause (a .0) n (a .2));
     acceptedIf = accepted-if;
+    openOnly = open-ends;
+    openIf = open-if;
   }
 
-  pub following-ends : FollowingEnds file
-  following-ends = record {
-    ends = λ f n c q e l.
-        let H = ending-ok file f in
-        let O = order-of 4096 (stateOf (ending file)) H n c q in
-        short-le (λ r. r < length (rowsOf (stateOf (ending file)))) (rowOf (stateOf (ending file))) (held (stateOf (ending file))) mostLinks (lookup c) (held-links 4096 (stateOf (ending file)) H) (O .chains) e l;
-  }
+  -- The cell of a clause's maximum index in the table that the check leaves.
+  index-left : (S : State) → Stands file S → longEnough (lengthsOf tables) ≡ true → (n : ℕ) (c : Derivation) → clauseOf S n ≡ some c → getD (tablesAfter file tables .clauses) (5 * n + 2) 0 ≡ maximumIndex c
+  index-left S st l n c q =
+      let b : n < length (derivations S) = entry-below (derivations S) n c q in
+      let m : length (derivations S) ≡ length (S .clauses) = length-map (S .clauses) (λ (d : ℕ × Derivation). d .1) in
+      ap (λ (t : Tables). getD (t .clauses) (5 * n + 2) 0) (stands-tables S st l)
+      ∙ List·getD-append (clauseCells (S .clauses)) (replicate (20480 - length (clauseCells (S .clauses))) 0 ++ drop 20480 (tables .clauses)) 0 (5 * n + 2) (omega (arith, cells-length (S .clauses)))
+      ∙ index-cell (S .clauses) n c q
 
-  refutation : (S : State) → StateOk 4096 S → (n : ℕ) → firstEmpty (derivations S) ≡ some n → Refutation S n
-  refutation S H n q =
-      let L = lowest-empty S n q in
+  refutation : (test : Derivation → Bool) (S : State) → Stands file S → longEnough (lengthsOf tables) ≡ true → (n : ℕ) → firstEmpty test (derivations S) ≡ some n → Refutation test file tables S n
+  refutation test S st long n q =
+      let H = stands-ok file S st in
+      let L = lowest-empty test S n q in
       let c = L .clause in
       let O = order-of 4096 S H n c (L .isClause) in
       let law = term-of-row S H in
@@ -209,7 +400,7 @@ module _ (file : List ℕ) (tables : Tables) where
         first = L;
         inputs = inputs-of 4096 S H n c (L .isClause);
         count = uses-length c;
-        inTable = index-cell (S .clauses) n c (L .isClause) ∙ sym (uses-length c);
+        inTable = index-left S st long n c (L .isClause) ∙ sym (uses-length c);
         values = v;
         valuesUnique = values-unique (rowOf S) (termOf S) law c (O .valid);
         formed = instances-formed (arityOf S) (rowOf S) (termOf S) law (λ r. r < length (rowsOf S)) (λ r s xs l p. (row-there (arityOf S) (rowsOf S) (H .rowsOk) r s xs l p, below 4096 S H r s xs p l))
@@ -221,5 +412,5 @@ module _ (file : List ℕ) (tables : Tables) where
   demand3 = record {
     refuted = λ n z.
         let a = accepted-ends n z in
-        refutation (stateOf (ending file)) (ending-ok file (a .0)) n (ap (λ (e : Ending). firstEmpty (derivations (stateOf e))) (a .1 .1) ∙ a .1 .2);
+        (a .1 .0, a .1 .1, refutation everyClause (a .1 .0) (a .1 .1) (a .0) n (a .1 .2));
   }

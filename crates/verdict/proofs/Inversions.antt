@@ -1,4 +1,4 @@
--- What the tests of a record say once they have tests-passed, or failed.
+-- What the tests of a record say once they have passed, or failed.
 use mathlib.Core.Path.{_≡_, refl, sym, ap, _∙_, subst}
 use mathlib.Core.Logic.{_⊎_, inl, inr}
 use mathlib.Core.Bool.{Bool, true, false, not}
@@ -8,17 +8,16 @@ use Prim.Native.Nat.{ℕ, suc, _≤_, _<_}
 use native.Mathlib.Omega.{arith}
 use lib.Dec.{eqb, leb, ltb, T, eqb→eq, eqb-refl, leb→le, ltb→lt, lt→ltb}
 use lib.ListN.{length}
-use Rattle.record.specs.Record.{pick, Record, Kind}
+use Rattle.record.specs.Record.{pick, Record, otherKind, Kind, symbolKind, variableKind, applicationKind, inputKind, resolveKind, factorKind}
 use Rattle.unification.specs.Environment.{Binding}
 use Rattle.unification.specs.Unification.{Failure, Outcome, unified, failed}
 use Rattle.unification.proofs.Lists.{Each}
 use Rattle.unification.proofs.Rows.{Below, eqb-below}
 use Rattle.unification.proofs.Tests.{to-T, from-T, both-true, true-not-false, some-not-none, some-injective}
-use Rattle.derivation.specs.Derivation.{literals, Literal, RowLiteral, Derivation, numbered}
+use Rattle.derivation.specs.Derivation.{literals, Literal, RowLiteral, inputLiterals, Derivation, numbered}
 use Rattle.derivation.proofs.Literals.{leb-false-lt}
-use Rattle.verdict.specs.Demands.{FirstFailing, failsHere, passesHere, AllPass}
-use Rattle.verdict.specs.Refusal.{tests, Reason, unification, knownKind, inRange, literalIn, literalNamed, isThere, hasArity, allBelow, allThere, isNew, onApplications, equalSigns, fittingSigns, withinLimits}
-use Rattle.verdict.specs.State.{State, withClause, entry, clauseOf}
+use Rattle.verdict.specs.Refusal.{tests, Reason, reasonNumber, unification, inRange, literalIn, literalNamed, leftOf, rightOf, deletedOf, isThere, hasArity, allBelow, argumentsThere, literalRowsThere, bothThere, newRow, differsFromAll, allApplications, equalSigns, fittingSigns, resolventFits, factorFits}
+use Rattle.verdict.specs.State.{State, withClause, entry, rowsOf, clauseOf, rowOf}
 use Rattle.verdict.specs.Step.{stands, refused, Result, require, requireAll, step, addClause, onNamed}
 
 pub stands-same : {S T : State} → stands S ≡ stands T → S ≡ T
@@ -32,6 +31,15 @@ refused-not-stands p = let z : _≡_ {A = ℕ} 0 1 = cc in omega arith
 
 stands-not-refused : {q : Reason} {S : State} → stands S ≡ refused q → ⊥
 stands-not-refused p = let z : _≡_ {A = ℕ} 0 1 = cc in omega arith
+
+-- The test for a reason is the first of a list that fails; all tests of a list pass.
+pub data FirstFailing : List (Bool × Reason) → Reason → Type 0 where
+  failsHere : {t : Bool × Reason} {ts : List (Bool × Reason)} → t .0 ≡ false → FirstFailing (t ∷ ts) (t .1)
+  passesHere : {t : Bool × Reason} {ts : List (Bool × Reason)} {reason : Reason} → t .0 ≡ true → FirstFailing ts reason → FirstFailing (t ∷ ts) reason
+
+abbrev pub AllPass : List (Bool × Reason) → Type 0
+AllPass [] = Unit {0}
+AllPass (t ∷ ts) = (t .0 ≡ true) × AllPass ts
 
 pub all-stand : (ts : List (Bool × Reason)) (next : Result) (S : State) → requireAll ts next ≡ stands S → AllPass ts × (next ≡ stands S)
 unfolding require
@@ -163,18 +171,71 @@ clause-refused S k clause (failed f) q e = (f, refl, refused-injective e)
 pub never-both : {q : Reason} {S : State} (o : Result) → o ≡ stands S → o ≡ refused q → ⊥
 never-both o p e = stands-not-refused (sym p ∙ e)
 
--- All tests of a record have tests-passed, by name.
-pub record Passed (S : State) (kind : Kind) (r : Record) : Type 0 where
-  pub known : knownKind kind ≡ true
-  pub ranged : inRange kind r ≡ true
-  pub there : allThere S kind r ≡ true
-  pub fresh : isNew S kind r ≡ true
-  pub applications : onApplications S kind r ≡ true
-  pub signs : fittingSigns S kind r ≡ true
-  pub limits : withinLimits S kind r ≡ true
+-- The tests of a record of each kind have passed, by name.
+pub record PassedVariable (S : State) (r : Record) : Type 0 where
+  pub ranged : inRange variableKind r ≡ true
+  pub fresh : differsFromAll (newRow variableKind r) (rowsOf S) ≡ true
+
+pub record PassedApplication (S : State) (r : Record) : Type 0 where
+  pub ranged : inRange applicationKind r ≡ true
+  pub there : argumentsThere S r ≡ true
+  pub fresh : differsFromAll (newRow applicationKind r) (rowsOf S) ≡ true
+
+pub record PassedInput (S : State) (r : Record) : Type 0 where
+  pub ranged : inRange inputKind r ≡ true
+  pub there : literalRowsThere S r ≡ true
+  pub applications : allApplications (rowOf S) (inputLiterals r) ≡ true
+
+pub record PassedResolve (S : State) (r : Record) : Type 0 where
+  pub ranged : inRange resolveKind r ≡ true
+  pub there : bothThere (leftOf S r) (rightOf S r) ≡ true
+  pub signs : fittingSigns S resolveKind r ≡ true
+  pub limits : resolventFits S r ≡ true
+
+pub record PassedFactor (S : State) (r : Record) : Type 0 where
+  pub ranged : inRange factorKind r ≡ true
+  pub there : bothThere (leftOf S r) (deletedOf S r) ≡ true
+  pub signs : fittingSigns S factorKind r ≡ true
+  pub limits : factorFits S r ≡ true
+
+abbrev pub Passed : State → Kind → Record → Type 0
+Passed S symbolKind r = inRange symbolKind r ≡ true
+Passed S variableKind r = PassedVariable S r
+Passed S applicationKind r = PassedApplication S r
+Passed S inputKind r = PassedInput S r
+Passed S resolveKind r = PassedResolve S r
+Passed S factorKind r = PassedFactor S r
+Passed S otherKind r = ⊥
+
+-- The test that a list has for a number; true where it has none.
+abbrev pub testFor : List (Bool × Reason) → ℕ → Bool
+testFor [] n = true
+testFor (t ∷ ts) n = pick (eqb (reasonNumber (t .1)) n) (t .0) (testFor ts n)
+
+pub passed-for : (ts : List (Bool × Reason)) → AllPass ts → (n : ℕ) → testFor ts n ≡ true
+passed-for [] a n = refl
+passed-for (t ∷ ts) a n = try (eqb (reasonNumber (t .1)) n) (passed-for ts (a .1) n)
+  where
+    try : (b : Bool) → testFor ts n ≡ true → pick b (t .0) (testFor ts n) ≡ true
+    try true k = a .0
+    try false k = k
 
 pub tests-passed : (S : State) (kind : Kind) (r : Record) → AllPass (tests S kind r) → Passed S kind r
-tests-passed S kind r a = record { known = a .0; ranged = a .1 .0; there = a .1 .1 .0; fresh = a .1 .1 .1 .0; applications = a .1 .1 .1 .1 .0; signs = a .1 .1 .1 .1 .1 .0; limits = a .1 .1 .1 .1 .1 .1 .0 }
+tests-passed S symbolKind r a = passed-for (tests S symbolKind r) a 4
+tests-passed S variableKind r a = record { ranged = passed-for (tests S variableKind r) a 4; fresh = passed-for (tests S variableKind r) a 6 }
+tests-passed S applicationKind r a =
+    let p = passed-for (tests S applicationKind r) a in
+    record { ranged = p 4; there = p 5; fresh = p 6 }
+tests-passed S inputKind r a =
+    let p = passed-for (tests S inputKind r) a in
+    record { ranged = p 4; there = p 5; applications = p 7 }
+tests-passed S resolveKind r a =
+    let p = passed-for (tests S resolveKind r) a in
+    record { ranged = p 4; there = p 5; signs = p 8; limits = p 9 }
+tests-passed S factorKind r a =
+    let p = passed-for (tests S factorKind r) a in
+    record { ranged = p 4; there = p 5; signs = p 8; limits = p 9 }
+tests-passed S otherKind r a = true-not-false (passed-for (tests S otherKind r) a 3) refl
 
 pub not-below : (i n : ℕ) → ltb i n ≡ false → n ≤ i
 not-below i n q = try (leb n i) refl

@@ -2,7 +2,10 @@ pub mod Inversions
 pub mod Standing
 pub mod Steps
 pub mod Reading
+pub mod Declared
 pub mod Acceptance
+pub mod Conditions
+pub mod Added
 pub mod Resolution
 pub mod Refusals
 pub mod Demanded

@@ -1,25 +1,35 @@
 -- Reading a file record by record: every state on the way is in order, and a refusal leaves the state of the records before it.
 use mathlib.Core.Path.{_≡_, refl, sym, ap, ap₂, _∙_, subst}
-use mathlib.Core.Bool.{true}
-use mathlib.Core.List.{List, [], _∷_}
+use mathlib.Core.Bool.{true, false}
+use mathlib.Core.List.{List, [], _∷_, _++_}
 use Prim.Native.Nat.{ℕ, zero, suc, _+_, _%_, _≤_}
-use native.Mathlib.Nat.{add-zero, add-suc, suc-add}
+use native.Mathlib.Nat.{add-zero, add-suc, suc-add, zero-add}
 use native.Mathlib.Omega.{arith}
-use lib.Dec.{eqb, leb, T, leb→le}
-use lib.ListN.{length, take, drop, length-take}
+use lib.Dec.{eqb, leb, leb→le}
+use lib.ListN.{length, take, drop, length-take, length-drop, take-append-drop}
 use Rattle.record.specs.Record.{Record, records}
 use Rattle.record.proofs.Records.{Shaped, records-length, records-shaped}
 use Rattle.unification.specs.Row.{application, noSymbol, rowTerm}
 use Rattle.unification.proofs.Rows.{term-law, row-arities}
 use Rattle.unification.proofs.Tests.{to-T, both-true}
-use Rattle.verdict.specs.Demands.{Reached}
-use Rattle.verdict.specs.Refusal.{Reason}
-use Rattle.verdict.specs.State.{arities, State, start, rowsOf, arityOf, rowOf, termOf}
+use Rattle.verdict.specs.Demands.{Reached, ComesTo, beforeRecord, lastState}
+use Rattle.verdict.specs.Refusal.{Reason, badLength, shortTable}
+use Rattle.verdict.specs.State.{arities, State, emptyState, rowsOf, arityOf, rowOf, termOf}
 use Rattle.verdict.specs.Step.{stands, refused, Result, step, read, allStand, refusedAt, stateOf}
-use Rattle.verdict.specs.Verdict.{fittingLength, ending}
+use Rattle.verdict.specs.Verdict.{Lengths, longEnough, fittingLength, ending, Stands, untouched, readTo, reading}
 use Rattle.verdict.proofs.Inversions.{entry-none}
 use Rattle.verdict.proofs.Standing.{StateOk, held-start}
 use Rattle.verdict.proofs.Steps.{step-ok}
+
+-- The three ways that the reading of a file can go.
+pub reading-length : (file : List ℕ) (n : Lengths) → fittingLength (length file) ≡ false → reading file n ≡ untouched badLength
+reading-length file n f = rw f
+
+pub reading-tables : (file : List ℕ) (n : Lengths) → fittingLength (length file) ≡ true → longEnough n ≡ false → reading file n ≡ untouched shortTable
+reading-tables file n f l = rw (f, l)
+
+pub reading-records : (file : List ℕ) (n : Lengths) → fittingLength (length file) ≡ true → longEnough n ≡ true → reading file n ≡ readTo (ending file)
+reading-records file n f l = rw (f, l)
 
 pub ending-stands : {S T : State} → allStand S ≡ allStand T → S ≡ T
 ending-stands p = cc
@@ -42,8 +52,22 @@ read-ok n S k (r ∷ rs) H h = try (step S k r) refl (λ T g. read-ok (suc n) T 
     try (stands T) q ih = rw (add-suc, ← suc-add) (ih T (step-ok n S h k r T (H .0) q))
     try (refused p) q ih = state-more n (n + suc (length rs)) S (omega arith) h
 
-pub start-ok : StateOk 0 start
+pub start-ok : StateOk 0 emptyState
 start-ok = record { rowsOk = tt; few = omega arith; heldOk = rw held-start (omega arith); clausesOk = tt; inputsOk = tt }
+
+-- Reading goes on where it stopped.
+pub read-on : (S : State) (j : ℕ) (xs ys : List Record) (T : State) → read S j xs ≡ allStand T → read S j (xs ++ ys) ≡ read T (j + length xs) ys
+read-on S j [] ys T q = ap₂ (λ (U : State) (i : ℕ). read U i ys) (ending-stands q) (sym (add-zero j))
+read-on S j (x ∷ xs) ys T q = try (step S j x) refl q (λ U p. read-on U (suc j) xs ys T p)
+  where
+    no : {p : Reason} → refusedAt S p j ≡ allStand T → ⊥
+    no e = let z : _≡_ {A = ℕ} 0 1 = cc in omega arith
+
+    try : (o : Result) → step S j x ≡ o → elim o [ stands U ↦ read U (suc j) xs | refused p ↦ refusedAt S p j ] ≡ allStand T
+        → ((U : State) → read U (suc j) xs ≡ allStand T → read U (suc j) (xs ++ ys) ≡ read T (suc j + length xs) ys)
+        → elim o [ stands U ↦ read U (suc j) (xs ++ ys) | refused p ↦ refusedAt S p j ] ≡ read T (j + suc (length xs)) ys
+    try (stands U) e p ih = ih U p ∙ ap (λ (i : ℕ). read T i ys) (suc-add j (length xs) ∙ sym (add-suc j (length xs)))
+    try (refused p) e q ih = absurd (no q)
 
 -- Where reading is refused, the record and the state before it.
 pub record RefusedThere (S : State) (k : ℕ) (rs : List Record) (T : State) (q : Reason) (j : ℕ) : Type 0 where
@@ -98,17 +122,40 @@ module _ (file : List ℕ) (fit : fittingLength (length file) ≡ true) where
       let l : length file ≤ 65536 = leb→le (length file) 65536 (to-T (leb (length file) 65536) (p .0)) in
       rw (records-length file) (omega arith)
 
-  pub reached-ok : (k : ℕ) (S : State) (r : Record) → Reached file k S r → StateOk 4096 S
-  reached-ok k S r R =
-      let h : StateOk (0 + length (take k (records file))) S = rw (R .before) at (read-ok 0 start 0 (take k (records file)) (shaped-take k (records file) (records-shaped file)) start-ok) in
-      state-more (0 + length (take k (records file))) 4096 S (simp length-take (omega (arith, few-records))) h
-
-  pub reached-seven : (k : ℕ) (S : State) (r : Record) → Reached file k S r → length (r .fields) ≡ 7
-  reached-seven k S r R = shaped-here k (records file) r (R .after) (R .here) (records-shaped file)
-
   pub ending-ok : StateOk 4096 (stateOf (ending file))
   unfolding ending
-  ending-ok = state-more (0 + length (records file)) 4096 (stateOf (ending file)) (omega (arith, few-records)) (read-ok 0 start 0 (records file) (records-shaped file) start-ok)
+  ending-ok = state-more (0 + length (records file)) 4096 (stateOf (ending file)) (omega (arith, few-records)) (read-ok 0 emptyState 0 (records file) (records-shaped file) start-ok)
+
+-- A record that reading comes to.
+module _ (file : List ℕ) (k : ℕ) (S : State) (r : Record) (R : Reached file k S r) where
+  pub reached-shaped : Shaped (take k (records file))
+  reached-shaped = shaped-take k (records file) (records-shaped file)
+
+  pub reached-seven : length (r .fields) ≡ 7
+  reached-seven = shaped-here k (records file) r (R .after) (R .here) (records-shaped file)
+
+  pub reached-ok : StateOk 4096 S
+  reached-ok =
+      let h : StateOk (0 + length (take k (records file))) S = rw (R .before) at (read-ok 0 emptyState 0 (take k (records file)) reached-shaped start-ok) in
+      state-more (0 + length (take k (records file))) 4096 S (simp length-take (omega (arith, few-records file (R .fits)))) h
+
+  -- Where it is refused, reading ends there.
+  pub reached-refused : (q : Reason) → step S k r ≡ refused q → ending file ≡ refusedAt S q k
+  unfolding ending
+  reached-refused q z =
+      let l : length (drop k (records file)) ≡ suc (length (R .after)) = ap (λ (l : List Record). length l) (R .here) in
+      let n : length (take k (records file)) ≡ k = let m = length-drop k (records file) in simp length-take (omega arith) in
+      ap (read emptyState 0) (sym (take-append-drop k (records file)) ∙ ap (λ (l : List Record). take k (records file) ++ l) (R .here))
+      ∙ read-on emptyState 0 (take k (records file)) (r ∷ R .after) S (R .before)
+      ∙ ap (λ (i : ℕ). read S i (r ∷ R .after)) (zero-add (length (take k (records file))) ∙ n)
+      ∙ ap (λ (o : Result). elim o [ stands U ↦ read U (suc k) (R .after) | refused p ↦ refusedAt S p k ]) z
+
+pub comes-ok : (file : List ℕ) (S : State) → ComesTo file S → StateOk 4096 S
+comes-ok file S (beforeRecord {k} {S = U} {r} R) = reached-ok file k U r R
+comes-ok file S (lastState f) = ending-ok file f
+
+pub stands-ok : (file : List ℕ) (S : State) → Stands file S → StateOk 4096 S
+stands-ok file S st = subst (StateOk 4096) (ap stateOf (st .reads)) (ending-ok file (st .fits))
 
 -- A state in order: its terms, and one number of arguments for each symbol.
 module _ (S : State) (H : StateOk 4096 S) where

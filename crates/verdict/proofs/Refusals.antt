@@ -1,154 +1,312 @@
--- A record is refused only where the condition stated for its number holds.
-use mathlib.Core.Path.{_≡_, refl, sym, ap, _∙_, subst}
+-- A record is refused exactly where the condition stated for a number holds, and with the lowest such number.
+use mathlib.Core.Path.{_≡_, refl, sym, ap, _∙_, subst, subst₂}
 use mathlib.Core.Logic.{_⊎_, inl, inr}
-use mathlib.Core.Bool.{Bool, true, _&&_, not}
-use mathlib.Core.Option.{Option, some}
+use mathlib.Core.Bool.{Bool, true, false, not}
+use mathlib.Core.Option.{some}
 use mathlib.Core.List.{List, [], _∷_}
-use Prim.Native.Nat.{ℕ, _≤_, _<_}
+use Prim.Native.Nat.{ℕ, _+_, _≤_, _<_}
 use native.Mathlib.Omega.{arith}
-use Rattle.record.specs.Record.{Record, otherKind, Kind, symbolKind, variableKind, applicationKind, inputKind, resolveKind, factorKind, fieldB, fieldC, fieldD}
+use lib.Dec.{eqb, leb, eqb→eq}
+use lib.ListN.{length, take}
+use Rattle.record.specs.Record.{pick, Record, records, otherKind, Kind, kindNumbered, symbolKind, variableKind, applicationKind, inputKind, resolveKind, factorKind, fieldB, fieldC, fieldD}
 use Rattle.unification.specs.Environment.{Binding, Environment}
-use Rattle.unification.specs.Failing.{Failing, symbolsDiffer, variableOccurs, workDone, bindingsHeld}
-use Rattle.unification.specs.Row.{Row, Variable}
-use Rattle.unification.specs.Term.{Term, apply}
-use Rattle.unification.specs.Unification.{mostWork, mostLinks, endless, Failure, clash, occurs, overwork, full, failureNumber, failed, Task, unifying, noRoom}
-use Rattle.unification.specs.Unifier.{NoUnifier}
-use Rattle.unification.proofs.Failures.{fails}
-use Rattle.unification.proofs.Lists.{Each}
-use Rattle.unification.proofs.Tests.{both-true, true-not-false}
+use Rattle.unification.specs.Failing.{Failing}
+use Rattle.unification.specs.Term.{apply}
+use Rattle.unification.specs.Unification.{mostWork, mostLinks, endless, Failure, clash, occurs, overwork, full, failureNumber, Outcome, failed, Pair, unifying, noRoom}
+use Rattle.unification.specs.Unifier.{TermPair, NoUnifier}
+use Rattle.unification.proofs.Failures.{fails, failing-fails}
+use Rattle.unification.proofs.Limits.{bindings-8192, work-16384}
+use Rattle.unification.proofs.Tests.{to-T, true-not-false, some-injective}
 use Rattle.derivation.specs.Derivation.{Literal, Derivation, resolve, factor, raise, maximumIndex, joined, lookup}
 use Rattle.derivation.specs.Written.{renamed}
-use Rattle.verdict.specs.Demands.{atomOf, StepAtoms, ofResolve, ofFactor, FirstFailing, failsHere, passesHere, AllPass, Due, byTest, inResolve, inFactor}
-use Rattle.verdict.specs.Refusal.{tests, Reason, unification, badKind, outOfRange, notThere, repeatedRow, variableLiteral, wrongSigns, tooLarge, reasonNumber, kindOfRecord, leftOf, rightOf, deletedOf, isThere}
-use Rattle.verdict.specs.State.{State, rowOf, held, nextClause}
-use Rattle.verdict.specs.Step.{stands, refused, step, unifyResolve, unifyFactor, enter}
-use Rattle.verdict.proofs.Inversions.{tests-passed, all-refused, is-there, clause-refused, never-both}
-use Rattle.verdict.proofs.Resolution.{enter-resolve, enter-factor, resolve-no-unifier, factor-no-unifier, resolve-not-endless, factor-not-endless}
-use Rattle.verdict.proofs.Standing.{StateOk}
+use Rattle.verdict.specs.Conditions.{OneOf, RowRepeated, Fails, StepFails, resolveFails, factorFails, Condition, unknownKind, outsideRange, nothingThere, rowAgain, variableAsLiteral, unfitSigns, largeResult, clashing, occurring, overworking, overfull}
+use Rattle.verdict.specs.Demands.{Reached, atomOf, StepAtoms, resolveAtoms, factorAtoms}
+use Rattle.verdict.specs.Refusal.{tests, Reason, unification, reasonNumber, kindOfRecord, inRange, leftOf, rightOf, deletedOf, newRow, differsFromAll}
+use Rattle.verdict.specs.State.{State, emptyState, rowsOf, rowOf, held, nextClause}
+use Rattle.verdict.specs.Step.{stands, refused, Result, require, requireAll, step, addClause, unifyResolve, unifyFactor, enter}
+use Rattle.verdict.proofs.Conditions.{of-kind, other-kind, range-over, out-of-range, arguments-absent, literal-rows-absent, resolve-absent, factor-absent, not-there, row-repeated, repeated-fails, literal-on-variable, on-variable-fails, resolves-left, resolves-right, factors-kept, factors-deleted, resolves, factors, both-named, resolve-signs, factor-signs, signs-fail, resolvent-over, factor-over, result-fails}
+use Rattle.verdict.proofs.Declared.{IsRow, variableRow, applicationRow, all-declared, declared-there}
+use Rattle.verdict.proofs.Inversions.{FirstFailing, failsHere, passesHere, AllPass, all-refused, clause-refused, never-both, refused-injective, Passed, tests-passed, testFor}
+use Rattle.verdict.proofs.Reading.{reached-shaped, reached-seven, reached-ok}
+use Rattle.verdict.proofs.Resolution.{at-kind, enter-resolve, enter-factor, resolve-no-unifier, factor-no-unifier, resolve-not-endless, factor-not-endless}
 use Rattle.verdict.proofs.Steps.{signs-resolve, signs-factor}
 
--- What holds of every reason of a list of tests holds of the first that fails.
-pub first-each : (P : Reason → Type 0) (ts : List (Bool × Reason)) (q : Reason) → Each (λ (t : Bool × Reason). P (t .1)) ts → FirstFailing ts q → P q
-first-each P ts q h (failsHere p) = h .0
-first-each P ts q h (passesHere {ts = us} p f) = first-each P us q (h .1) f
+-- The numbers of tests rise, from m on, and are below 10.
+abbrev Rising : ℕ → List (Bool × Reason) → Type 0
+Rising m [] = Unit {0}
+Rising m (t ∷ ts) = (m ≤ reasonNumber (t .1)) × (reasonNumber (t .1) < 10) × Rising (reasonNumber (t .1)) ts
 
-abbrev NotUnification : Reason → Type 0
-NotUnification q = (f : Failure) → ¬ (unification f ≡ q)
+tests-rising : (S : State) (kind : Kind) (r : Record) → Rising 3 (tests S kind r)
+tests-rising S symbolKind r = (omega arith, omega arith, tt)
+tests-rising S variableKind r = (omega arith, omega arith, (omega arith, omega arith, tt))
+tests-rising S applicationKind r = (omega arith, omega arith, (omega arith, omega arith, (omega arith, omega arith, tt)))
+tests-rising S inputKind r = (omega arith, omega arith, (omega arith, omega arith, (omega arith, omega arith, tt)))
+tests-rising S resolveKind r = (omega arith, omega arith, (omega arith, omega arith, (omega arith, omega arith, (omega arith, omega arith, tt))))
+tests-rising S factorKind r = (omega arith, omega arith, (omega arith, omega arith, (omega arith, omega arith, (omega arith, omega arith, tt))))
+tests-rising S otherKind r = (omega arith, omega arith, tt)
 
-by-number : (q : Reason) → reasonNumber q < 10 → 0 < reasonNumber q → NotUnification q
-by-number q l m f e = try f (ap reasonNumber e)
+rising-first : (m : ℕ) (ts : List (Bool × Reason)) (q : Reason) → Rising m ts → FirstFailing ts q → (m ≤ reasonNumber q) × (reasonNumber q < 10)
+rising-first m ts q h (failsHere p) = (h .0, h .1)
+rising-first m ts q h (passesHere {t} {ts = us} p f) = let z = rising-first (reasonNumber (t .1)) us q (h .2) f in let y = h .0 in (omega arith, z .1)
+
+-- A test that fails: the first that does has a number no higher.
+first-failing : (m : ℕ) (ts : List (Bool × Reason)) (n : ℕ) → Rising m ts → testFor ts n ≡ false → (q : Reason) × FirstFailing ts q × (m ≤ reasonNumber q) × (reasonNumber q ≤ n)
+first-failing m [] n h e = absurd (true-not-false refl e)
+first-failing m (t ∷ ts) n h e = try (t .0) refl (eqb (reasonNumber (t .1)) n) refl e (λ z. first-failing (reasonNumber (t .1)) ts n (h .2) z)
   where
-    try : (f : Failure) → failureNumber f ≡ reasonNumber q → ⊥
-    try clash z = omega arith
-    try occurs z = omega arith
-    try overwork z = omega arith
-    try full z = omega arith
-    try endless z = omega arith
+    Later : Type 0
+    Later = (q : Reason) × FirstFailing ts q × (reasonNumber (t .1) ≤ reasonNumber q) × (reasonNumber q ≤ n)
 
-pub tests-not-unification : (S : State) (kind : Kind) (r : Record) → Each (λ (t : Bool × Reason). NotUnification (t .1)) (tests S kind r)
-tests-not-unification S kind r = (
-  by-number badKind (omega arith) (omega arith),
-  (
-    by-number outOfRange (omega arith) (omega arith),
-    (
-      by-number notThere (omega arith) (omega arith),
-      (
-        by-number repeatedRow (omega arith) (omega arith),
-        (by-number variableLiteral (omega arith) (omega arith), (by-number wrongSigns (omega arith) (omega arith), (by-number tooLarge (omega arith) (omega arith), tt))),
-      ),
-    ),
-  ),
-)
+    at : eqb (reasonNumber (t .1)) n ≡ true → reasonNumber (t .1) ≡ n
+    at p = eqb→eq (reasonNumber (t .1)) n (to-T (eqb (reasonNumber (t .1)) n) p)
 
-abbrev Stated : Reason → Type 0
-Stated q = (3 ≤ reasonNumber q) × (reasonNumber q ≤ 13)
+    try : (b : Bool) → t .0 ≡ b → (c : Bool) → eqb (reasonNumber (t .1)) n ≡ c → pick c (t .0) (testFor ts n) ≡ false → (testFor ts n ≡ false → Later) → (q : Reason) × FirstFailing (t ∷ ts) q × (m ≤ reasonNumber q) × (reasonNumber q ≤ n)
+    try true p true c z k = absurd (true-not-false p z)
+    try true p false c z k = let l = k z in (l .0, passesHere p (l .1), let a = h .0 in let b = l .2 in omega arith, l .3)
+    try false p true c z k = (t .1, failsHere p, h .0, let a = at c in omega arith)
+    try false p false c z k = let l = k z in (t .1, failsHere p, h .0, let a = l .2 in let b = l .3 in omega arith)
 
-tests-stated : (S : State) (kind : Kind) (r : Record) → Each (λ (t : Bool × Reason). Stated (t .1)) (tests S kind r)
-tests-stated S kind r = (omega arith, (omega arith, (omega arith, (omega arith, (omega arith, (omega arith, (omega arith, tt)))))))
+first-refused : (ts : List (Bool × Reason)) (next : Result) (q : Reason) → FirstFailing ts q → requireAll ts next ≡ refused q
+unfolding require
+first-refused ts next q (failsHere {t} {ts = us} p) = ap (λ (b : Bool). require b (t .1) (requireAll us next)) p
+first-refused ts next q (passesHere {t} {ts = us} p f) = ap (λ (b : Bool). require b (t .1) (requireAll us next)) p ∙ first-refused us next q f
 
--- A failure of unification by its own number.
-failing-stated : (row : ℕ → Row) (links : ℕ) (isFull : List Binding → Bool) (ρ : Environment) (n : ℕ) (s : Task) (f : Failure) → Failing row links isFull ρ n s f → Stated (unification f)
-failing-stated row links isFull ρ n s f (symbolsDiffer a b c d e) = omega arith
-failing-stated row links isFull ρ n s f (variableOccurs a b c) = omega arith
-failing-stated row links isFull ρ n s f (workDone a b) = omega arith
-failing-stated row links isFull ρ n s f (bindingsHeld a b c d) = omega arith
+pass-or-fail : (ts : List (Bool × Reason)) → AllPass ts ⊎ ((q : Reason) × FirstFailing ts q)
+pass-or-fail [] = inl tt
+pass-or-fail (t ∷ ts) = try (t .0) refl (pass-or-fail ts)
+  where
+    try : (b : Bool) → t .0 ≡ b → AllPass ts ⊎ ((q : Reason) × FirstFailing ts q) → AllPass (t ∷ ts) ⊎ ((q : Reason) × FirstFailing (t ∷ ts) q)
+    try true p (inl a) = inl (p, a)
+    try true p (inr f) = inr (f .0, passesHere p (f .1))
+    try false p h = inr (t .1, failsHere p)
 
-pub due-stated : (S : State) (r : Record) (q : Reason) → Due S r q → (3 ≤ reasonNumber q) × (reasonNumber q ≤ 13)
-due-stated S r q (byTest {reason} f) = first-each Stated (tests S (kindOfRecord r) r) reason (tests-stated S (kindOfRecord r) r) f
-due-stated S r q (inResolve {x} {y} {f} a b c d e) = failing-stated (rowOf S) mostLinks (noRoom (held S)) (joined (maximumIndex (x .0)) (lookup (x .0)) (lookup (y .0))) mostWork (unifying [] ((x .1 .1, raise (maximumIndex (x .0)) (y .1 .1)) ∷ [])) f e
-due-stated S r q (inFactor {x} {y} {f} a b c d e) = failing-stated (rowOf S) mostLinks (noRoom (held S)) (lookup (x .0)) mostWork (unifying [] ((x .1 .1, y .1 .1) ∷ [])) f e
+all-passed : (ts : List (Bool × Reason)) (next : Result) → AllPass ts → requireAll ts next ≡ next
+unfolding require
+all-passed [] next a = refl
+all-passed (t ∷ ts) next a = ap (λ (b : Bool). require b (t .1) (requireAll ts next)) (a .0) ∙ all-passed ts next (a .1)
 
 stands-refused : {S : State} {q : Reason} → stands S ≡ refused q → ⊥
 stands-refused p = never-both (stands _) refl p
 
--- Which literals a step names whose tests have tests-passed.
-named-both : (o p : Option (Derivation × Literal)) → (isThere o && isThere p) ≡ true → (x y : Derivation × Literal) × (o ≡ some x) × (p ≡ some y)
-named-both o p q =
-    let b = both-true (isThere o) (isThere p) q in
-    let x = is-there o (b .0) in
-    let y = is-there p (b .1) in
-    (x .0, y .0, x .1, y .1)
+-- The limits by their numbers.
+stated : (S : State) (ρ : Environment) (pairs : List Pair) (f : Failure) → Failing (rowOf S) mostLinks (noRoom (held S)) ρ mostWork (unifying [] pairs) f → Fails S ρ pairs f
+stated S ρ pairs f h = subst₂ (λ (b w : ℕ). Failing (rowOf S) mostLinks (λ bs. leb b (held S + length bs)) ρ w (unifying [] pairs) f) bindings-8192 work-16384 h
 
--- A refusal by unification: the atoms' unification fails.
-pub data ByUnification (S : State) (r : Record) (f : Failure) : Type 0 where
-  resolving : {x y : Derivation × Literal} → kindOfRecord r ≡ resolveKind → leftOf S r ≡ some x → rightOf S r ≡ some y → y .1 .0 ≡ not (x .1 .0) → unifyResolve S x y ≡ failed f → ByUnification S r f
-  factoring : {x y : Derivation × Literal} → kindOfRecord r ≡ factorKind → leftOf S r ≡ some x → deletedOf S r ≡ some y → y .1 .0 ≡ x .1 .0 → unifyFactor S x y ≡ failed f → ByUnification S r f
+unstated : (S : State) (ρ : Environment) (pairs : List Pair) (f : Failure) → Fails S ρ pairs f → Failing (rowOf S) mostLinks (noRoom (held S)) ρ mostWork (unifying [] pairs) f
+unstated S ρ pairs f h = subst₂ (λ (b w : ℕ). Failing (rowOf S) mostLinks (λ bs. leb b (held S + length bs)) ρ w (unifying [] pairs) f) (sym bindings-8192) (sym work-16384) h
 
-pub by-unification : (S : State) (k : ℕ) (r : Record) (kind : Kind) (q : Reason) → kindOfRecord r ≡ kind → AllPass (tests S kind r) → enter S k kind r ≡ refused q → (f : Failure) × (unification f ≡ q) × ByUnification S r f
-by-unification S k r symbolKind q e a z = absurd (stands-refused z)
-by-unification S k r variableKind q e a z = absurd (stands-refused z)
-by-unification S k r applicationKind q e a z = absurd (stands-refused z)
-by-unification S k r inputKind q e a z = absurd (stands-refused z)
-by-unification S k r resolveKind q e a z =
-    let P = tests-passed S resolveKind r a in
-    let n = named-both (leftOf S r) (rightOf S r) (P .there) in
-    let c = clause-refused S k (resolve (nextClause S) (n .0 .0) (fieldB r) (n .1 .0) (fieldD r)) (unifyResolve S (n .0) (n .1)) q (sym (enter-resolve S k r (n .0) (n .1) (n .2) (n .3)) ∙ z) in
-    (c .0, c .2, resolving e (n .2) (n .3) (signs-resolve S r (n .0) (n .1) (n .2) (n .3) (P .signs)) (c .1))
-by-unification S k r factorKind q e a z =
-    let P = tests-passed S factorKind r a in
-    let n = named-both (leftOf S r) (deletedOf S r) (P .there) in
-    let c = clause-refused S k (factor (nextClause S) (n .0 .0) (fieldB r) (fieldC r)) (unifyFactor S (n .0) (n .1)) q (sym (enter-factor S k r (n .0) (n .1) (n .2) (n .3)) ∙ z) in
-    (c .0, c .2, factoring e (n .2) (n .3) (signs-factor S r (n .0) (n .1) (n .2) (n .3) (P .signs) .0) (c .1))
-by-unification S k r otherKind q e a z = absurd (true-not-false (a .0) refl)
+module _ (file : List ℕ) (k : ℕ) (S : State) (r : Record) (R : Reached file k S r) where
+  abbrev earlier : List Record
+  earlier = take k (records file)
 
-module _ (S : State) (H : StateOk 4096 S) (k : ℕ) (r : Record) where
-  failing-due : AllPass (tests S (kindOfRecord r) r) → (f : Failure) → ByUnification S r f → Due S r (unification f)
-  failing-due a f (resolving {x} {y} e p q s u) =
-      inResolve a e p q (fails (rowOf S) mostLinks (noRoom (held S)) (joined (maximumIndex (x .0)) (lookup (x .0)) (lookup (y .0))) mostWork (unifying [] ((x .1 .1, raise (maximumIndex (x .0)) (y .1 .1)) ∷ [])) f u (λ z. resolve-not-endless S H k r x y p q (u ∙ ap failed z)))
-  failing-due a f (factoring {x} {y} e p q s u) =
-      inFactor a e p q (fails (rowOf S) mostLinks (noRoom (held S)) (lookup (x .0)) mostWork (unifying [] ((x .1 .1, y .1 .1) ∷ [])) f u (λ z. factor-not-endless S H k r x y p q (u ∙ ap failed z)))
+  seven : length (r .fields) ≡ 7
+  seven = reached-seven file k S r R
 
-  pub refused-due : (q : Reason) → step S k r ≡ refused q → Due S r q
-  refused-due q z = try (all-refused (tests S (kindOfRecord r) r) (enter S k (kindOfRecord r) r) q z)
+  abbrev Holds : ℕ → Type 0
+  Holds n = Condition (take k (records file)) S r n
+
+  -- ── A test that is the first to fail: its condition holds ──
+  abbrev Sound : List (Bool × Reason) → Type 0
+  Sound [] = Unit {0}
+  Sound (t ∷ ts) = (t .0 ≡ false → Holds (reasonNumber (t .1))) × (t .0 ≡ true → Sound ts)
+
+  sound-first : (ts : List (Bool × Reason)) (q : Reason) → Sound ts → FirstFailing ts q → Holds (reasonNumber q)
+  sound-first ts q h (failsHere p) = h .0 p
+  sound-first ts q h (passesHere {ts = us} p f) = sound-first us q (h .1 p) f
+
+  again : (kind : Kind) → kindOfRecord r ≡ kind → IsRow kind → inRange kind r ≡ true → differsFromAll (newRow kind r) (rowsOf S) ≡ false → RowRepeated earlier r
+  again = row-repeated earlier (reached-shaped file k S r R) S (all-declared emptyState 0 earlier S refl (R .before)) r seven
+
+  tests-sound : (kind : Kind) → kindOfRecord r ≡ kind → Sound (tests S kind r)
+  tests-sound symbolKind e = (λ p. outsideRange (range-over r symbolKind e p), λ ranged. tt)
+  tests-sound variableKind e = (λ p. outsideRange (range-over r variableKind e p), λ ranged. (λ p. rowAgain (again variableKind e variableRow ranged p), λ fresh. tt))
+  tests-sound applicationKind e = (λ p. outsideRange (range-over r applicationKind e p), λ ranged. (λ p. nothingThere (arguments-absent S r seven e p), λ there. (λ p. rowAgain (again applicationKind e applicationRow ranged p), λ fresh. tt)))
+  tests-sound inputKind e = (λ p. outsideRange (range-over r inputKind e p), λ ranged. (λ p. nothingThere (literal-rows-absent S r seven e p), λ there. (λ p. variableAsLiteral (literal-on-variable S r seven e p), λ _. tt)))
+  tests-sound resolveKind e = (λ p. outsideRange (range-over r resolveKind e p), λ ranged. (λ p. nothingThere (resolve-absent S r seven e p), λ there. (λ p. unfitSigns (resolve-signs S r seven e there p), λ signs. (λ p. largeResult (resolvent-over S r seven e there p), λ fits. tt))))
+  tests-sound factorKind e = (λ p. outsideRange (range-over r factorKind e p), λ ranged. (λ p. nothingThere (factor-absent S r seven e p), λ there. (λ p. unfitSigns (factor-signs S r seven e there p), λ signs. (λ p. largeResult (factor-over S r seven e there p), λ fits. tt))))
+  tests-sound otherKind e = (λ p. unknownKind (of-kind r otherKind e), λ p. tt)
+
+  -- ── A refusal by unification ──
+  data ByUnification (f : Failure) : Type 0 where
+    resolving : {x y : Derivation × Literal} → kindOfRecord r ≡ resolveKind → leftOf S r ≡ some x → rightOf S r ≡ some y → y .1 .0 ≡ not (x .1 .0) → unifyResolve S x y ≡ failed f → ByUnification f
+    factoring : {x y : Derivation × Literal} → kindOfRecord r ≡ factorKind → leftOf S r ≡ some x → deletedOf S r ≡ some y → y .1 .0 ≡ x .1 .0 → unifyFactor S x y ≡ failed f → ByUnification f
+
+  by-unification : (kind : Kind) (q : Reason) → kindOfRecord r ≡ kind → Passed S kind r → enter S k kind r ≡ refused q → (f : Failure) × (unification f ≡ q) × ByUnification f
+  by-unification symbolKind q e a z = absurd (stands-refused z)
+  by-unification variableKind q e a z = absurd (stands-refused z)
+  by-unification applicationKind q e a z = absurd (stands-refused z)
+  by-unification inputKind q e a z = absurd (stands-refused z)
+  by-unification resolveKind q e a z =
+      let n = both-named S r seven (leftOf S r) (rightOf S r) (a .there) in
+      let c = clause-refused S k (resolve (nextClause S) (n .0 .0) (fieldB r) (n .1 .0) (fieldD r)) (unifyResolve S (n .0) (n .1)) q (sym (enter-resolve S k r (n .0) (n .1) (n .2) (n .3)) ∙ z) in
+      (c .0, c .2, resolving e (n .2) (n .3) (signs-resolve S r (n .0) (n .1) (n .2) (n .3) (a .signs)) (c .1))
+  by-unification factorKind q e a z =
+      let n = both-named S r seven (leftOf S r) (deletedOf S r) (a .there) in
+      let c = clause-refused S k (factor (nextClause S) (n .0 .0) (fieldB r) (fieldC r)) (unifyFactor S (n .0) (n .1)) q (sym (enter-factor S k r (n .0) (n .1) (n .2) (n .3)) ∙ z) in
+      (c .0, c .2, factoring e (n .2) (n .3) (signs-factor S r (n .0) (n .1) (n .2) (n .3) (a .signs) .0) (c .1))
+  by-unification otherKind q e a z = absurd a
+
+  not-endless : (f : Failure) → ByUnification f → ¬ (f ≡ endless)
+  not-endless f (resolving {x} {y} e p q s u) z = resolve-not-endless S (reached-ok file k S r R) k r x y p q (u ∙ ap failed z)
+  not-endless f (factoring {x} {y} e p q s u) z = factor-not-endless S (reached-ok file k S r R) k r x y p q (u ∙ ap failed z)
+
+  step-fails : (f : Failure) → ByUnification f → StepFails S r f
+  step-fails f (resolving {x} {y} e p q s u) =
+      resolveFails (resolves S r seven x y e p q) (stated S (joined (maximumIndex (x .0)) (lookup (x .0)) (lookup (y .0))) ((x .1 .1, raise (maximumIndex (x .0)) (y .1 .1)) ∷ []) f
+      (fails (rowOf S) mostLinks (noRoom (held S)) (joined (maximumIndex (x .0)) (lookup (x .0)) (lookup (y .0))) mostWork (unifying [] ((x .1 .1, raise (maximumIndex (x .0)) (y .1 .1)) ∷ [])) f u (not-endless f (resolving e p q s u))))
+  step-fails f (factoring {x} {y} e p q s u) =
+      factorFails (factors S r seven x y e p q) (stated S (lookup (x .0)) ((x .1 .1, y .1 .1) ∷ []) f
+      (fails (rowOf S) mostLinks (noRoom (held S)) (lookup (x .0)) mostWork (unifying [] ((x .1 .1, y .1 .1) ∷ [])) f u (not-endless f (factoring e p q s u))))
+
+  failure-condition : (f : Failure) → ByUnification f → Holds (failureNumber f)
+  failure-condition clash b = clashing (step-fails clash b)
+  failure-condition occurs b = occurring (step-fails occurs b)
+  failure-condition overwork b = overworking (step-fails overwork b)
+  failure-condition full b = overfull (step-fails full b)
+  failure-condition endless b = absurd (not-endless endless b refl)
+
+  -- How a record comes to be refused: by its first failing test, or by unification.
+  data RefusedBy (q : Reason) : Type 0 where
+    byTest : FirstFailing (tests S (kindOfRecord r) r) q → RefusedBy q
+    byFailure : {f : Failure} → unification f ≡ q → ByUnification f → RefusedBy q
+
+  refused-by : (q : Reason) → step S k r ≡ refused q → RefusedBy q
+  refused-by q z = try (all-refused (tests S (kindOfRecord r) r) (enter S k (kindOfRecord r) r) q z)
     where
-      try : FirstFailing (tests S (kindOfRecord r) r) q ⊎ (AllPass (tests S (kindOfRecord r) r) × (enter S k (kindOfRecord r) r ≡ refused q)) → Due S r q
+      try : FirstFailing (tests S (kindOfRecord r) r) q ⊎ (AllPass (tests S (kindOfRecord r) r) × (enter S k (kindOfRecord r) r ≡ refused q)) → RefusedBy q
       try (inl f) = byTest f
       try (inr a) =
-          let b = by-unification S k r (kindOfRecord r) q refl (a .0) (a .1) in
-          subst (Due S r) (b .1) (failing-due (a .0) (b .0) (b .2))
+          let b = by-unification (kindOfRecord r) q refl (tests-passed S (kindOfRecord r) r (a .0)) (a .1) in
+          byFailure (b .1) (b .2)
 
-  unification-injective : {f g : Failure} → unification f ≡ unification g → f ≡ g
-  unification-injective p = cc
+  pub refused-condition : (q : Reason) → step S k r ≡ refused q → Condition (take k (records file)) S r (reasonNumber q)
+  refused-condition q z = try (refused-by q z)
+    where
+      try : RefusedBy q → Holds (reasonNumber q)
+      try (byTest f) = sound-first (tests S (kindOfRecord r) r) q (tests-sound (kindOfRecord r) refl) f
+      try (byFailure {f} e b) = subst (λ (p : Reason). Holds (reasonNumber p)) e (failure-condition f b)
 
-  atoms-apart : (Y : Type 0) (f : Failure) → (f ≡ clash) ⊎ (f ≡ occurs) → ByUnification S r f → (s t : Term Variable) × StepAtoms S r s t × NoUnifier Y s t
-  atoms-apart Y f c (resolving {x} {y} e p q s u) =
-      (atomOf S x, apply (renamed (maximumIndex (x .0))) (atomOf S y), ofResolve e p q, resolve-no-unifier S H k r Y x y p q s (which c))
-    where
-      which : (f ≡ clash) ⊎ (f ≡ occurs) → (unifyResolve S x y ≡ failed clash) ⊎ (unifyResolve S x y ≡ failed occurs)
-      which (inl z) = inl (u ∙ ap failed z)
-      which (inr z) = inr (u ∙ ap failed z)
-  atoms-apart Y f c (factoring {x} {y} e p q s u) =
-      (atomOf S x, atomOf S y, ofFactor e p q, factor-no-unifier S H k r Y x y p q s (which c))
-    where
-      which : (f ≡ clash) ⊎ (f ≡ occurs) → (unifyFactor S x y ≡ failed clash) ⊎ (unifyFactor S x y ≡ failed occurs)
-      which (inl z) = inl (u ∙ ap failed z)
-      which (inr z) = inr (u ∙ ap failed z)
+  -- ── A condition that holds: the record is refused with a number no higher ──
+  abbrev RefusedUpTo : ℕ → Type 0
+  RefusedUpTo n = (q : Reason) × (step S k r ≡ refused q) × (reasonNumber q ≤ n)
 
-  pub refused-no-unifier : (Y : Type 0) (f : Failure) → step S k r ≡ refused (unification f) → (f ≡ clash) ⊎ (f ≡ occurs) → (s t : Term Variable) × StepAtoms S r s t × NoUnifier Y s t
-  refused-no-unifier Y f z c = try (all-refused (tests S (kindOfRecord r) r) (enter S k (kindOfRecord r) r) (unification f) z)
+  test-refuses : (n : ℕ) → testFor (tests S (kindOfRecord r) r) n ≡ false → RefusedUpTo n
+  test-refuses n e =
+      let z = first-failing 3 (tests S (kindOfRecord r) r) n (tests-rising S (kindOfRecord r) r) e in
+      (z .0, first-refused (tests S (kindOfRecord r) r) (enter S k (kindOfRecord r) r) (z .0) (z .1), z .3)
+
+  two-refuse : (m n : ℕ) → m ≤ n → (testFor (tests S (kindOfRecord r) r) m ≡ false) ⊎ (testFor (tests S (kindOfRecord r) r) n ≡ false) → RefusedUpTo n
+  two-refuse m n l (inl e) = let z = test-refuses m e in (z .0, z .1, let a = z .2 in omega arith)
+  two-refuse m n l (inr e) = test-refuses n e
+
+  enter-refused : (S : State) (k : ℕ) (clause : List Binding → Derivation) (f : Failure) → addClause S k clause (failed f) ≡ refused (unification f)
+  unfolding addClause
+  enter-refused S k clause f = refl
+
+  tests-or : (n : ℕ) → 10 ≤ n → (kind : Kind) → kindOfRecord r ≡ kind → (f : Failure) → failureNumber f ≡ n → enter S k kind r ≡ refused (unification f) → RefusedUpTo n
+  tests-or n l kind e f g z = try (pass-or-fail (tests S kind r))
     where
-      try : FirstFailing (tests S (kindOfRecord r) r) (unification f) ⊎ (AllPass (tests S (kindOfRecord r) r) × (enter S k (kindOfRecord r) r ≡ refused (unification f))) → (s t : Term Variable) × StepAtoms S r s t × NoUnifier Y s t
-      try (inl g) = absurd (first-each NotUnification (tests S (kindOfRecord r) r) (unification f) (tests-not-unification S (kindOfRecord r) r) g f refl)
-      try (inr a) =
-          let b = by-unification S k r (kindOfRecord r) (unification f) refl (a .0) (a .1) in
-          atoms-apart Y f c (subst (ByUnification S r) (unification-injective (b .1)) (b .2))
+      try : AllPass (tests S kind r) ⊎ ((q : Reason) × FirstFailing (tests S kind r) q) → RefusedUpTo n
+      try (inl a) = (unification f, at-kind S k r kind e ∙ all-passed (tests S kind r) (enter S k kind r) a ∙ z, omega arith)
+      try (inr h) =
+          let y = rising-first 3 (tests S kind r) (h .0) (tests-rising S kind r) (h .1) .1 in
+          (h .0, at-kind S k r kind e ∙ first-refused (tests S kind r) (enter S k kind r) (h .0) (h .1), omega arith)
+
+  failure-refuses : (n : ℕ) → 10 ≤ n → (f : Failure) → failureNumber f ≡ n → StepFails S r f → RefusedUpTo n
+  failure-refuses n least f g (resolveFails {left} {right} {l = c} {m = d} N h) =
+      let ρ = joined (maximumIndex left) (lookup left) (lookup right) in
+      tests-or n least resolveKind (ap kindNumbered (N .isResolve)) f g
+      (enter-resolve S k r (left, c) (right, d) (resolves-left S r seven N) (resolves-right S r seven N)
+      ∙ ap (addClause S k (resolve (nextClause S) left (fieldB r) right (fieldD r))) (failing-fails (rowOf S) mostLinks (noRoom (held S)) ρ mostWork (unifying [] ((c .1, raise (maximumIndex left) (d .1)) ∷ [])) f (unstated S ρ ((c .1, raise (maximumIndex left) (d .1)) ∷ []) f h))
+      ∙ enter-refused S k (resolve (nextClause S) left (fieldB r) right (fieldD r)) f)
+  failure-refuses n least f g (factorFails {parent} {l = c} {m = d} N h) =
+      tests-or n least factorKind (ap kindNumbered (N .isFactor)) f g
+      (enter-factor S k r (parent, c) (parent, d) (factors-kept S r seven N) (factors-deleted S r seven N)
+      ∙ ap (addClause S k (factor (nextClause S) parent (fieldB r) (fieldC r))) (failing-fails (rowOf S) mostLinks (noRoom (held S)) (lookup parent) mostWork (unifying [] ((c .1, d .1) ∷ [])) f (unstated S (lookup parent) ((c .1, d .1) ∷ []) f h))
+      ∙ enter-refused S k (factor (nextClause S) parent (fieldB r) (fieldC r)) f)
+
+  ranges-differ : (kind : Kind) → inRange kind r ≡ false → testFor (tests S kind r) 4 ≡ false
+  ranges-differ symbolKind q = q
+  ranges-differ variableKind q = q
+  ranges-differ applicationKind q = q
+  ranges-differ inputKind q = q
+  ranges-differ resolveKind q = q
+  ranges-differ factorKind q = q
+  ranges-differ otherKind q = absurd (true-not-false refl q)
+
+  pub condition-refused : (n : ℕ) → Condition (take k (records file)) S r n → (q : Reason) × (step S k r ≡ refused q) × (reasonNumber q ≤ n)
+  condition-refused n (unknownKind h) = test-refuses 3 (subst (λ (kind : Kind). testFor (tests S kind r) 3 ≡ false) (sym (other-kind r h)) refl)
+  condition-refused n (outsideRange h) = test-refuses 4 (ranges-differ (kindOfRecord r) (out-of-range r h))
+  condition-refused n (nothingThere h) = two-refuse 4 5 (omega arith) (not-there S r seven h)
+  condition-refused n (rowAgain h) = test-refuses 6 (repeated-fails earlier (reached-shaped file k S r R) S (all-declared emptyState 0 earlier S refl (R .before)) r seven (declared-there emptyState 0 earlier S (R .before)) h)
+  condition-refused n (variableAsLiteral h) = two-refuse 4 7 (omega arith) (on-variable-fails S r seven h)
+  condition-refused n (unfitSigns h) = test-refuses 8 (signs-fail S r seven h)
+  condition-refused n (largeResult h) = test-refuses 9 (result-fails S r seven h)
+  condition-refused n (clashing h) = failure-refuses 10 (omega arith) clash refl h
+  condition-refused n (occurring h) = failure-refuses 11 (omega arith) occurs refl h
+  condition-refused n (overworking h) = failure-refuses 12 (omega arith) overwork refl h
+  condition-refused n (overfull h) = failure-refuses 13 (omega arith) full refl h
+
+  -- A refused record's number is that of no later condition.
+  pub refused-lowest : (q : Reason) → step S k r ≡ refused q → (n : ℕ) → Condition (take k (records file)) S r n → reasonNumber q ≤ n
+  refused-lowest q z n h =
+      let w = condition-refused n h in
+      subst (λ (p : Reason). reasonNumber p ≤ n) (refused-injective (sym (w .1) ∙ z)) (w .2)
+
+  -- ── No unifier where 10 or 11 is given ──
+  clash-or-occurs : (f : Failure) → OneOf (failureNumber f) (10 ∷ 11 ∷ []) → (f ≡ clash) ⊎ (f ≡ occurs)
+  clash-or-occurs clash m = inl refl
+  clash-or-occurs occurs m = inr refl
+  clash-or-occurs overwork (inl e) = absurd (omega arith)
+  clash-or-occurs overwork (inr (inl e)) = absurd (omega arith)
+  clash-or-occurs overwork (inr (inr e)) = absurd e
+  clash-or-occurs full (inl e) = absurd (omega arith)
+  clash-or-occurs full (inr (inl e)) = absurd (omega arith)
+  clash-or-occurs full (inr (inr e)) = absurd e
+  clash-or-occurs endless (inl e) = absurd (omega arith)
+  clash-or-occurs endless (inr (inl e)) = absurd (omega arith)
+  clash-or-occurs endless (inr (inr e)) = absurd e
+
+  which : {o : Outcome} {f : Failure} → o ≡ failed f → (f ≡ clash) ⊎ (f ≡ occurs) → (o ≡ failed clash) ⊎ (o ≡ failed occurs)
+  which u (inl z) = inl (u ∙ ap failed z)
+  which u (inr z) = inr (u ∙ ap failed z)
+
+  atoms-apart : (Y : Type 0) (f : Failure) → (f ≡ clash) ⊎ (f ≡ occurs) → ByUnification f → (pairs : List TermPair) → StepAtoms S r pairs → NoUnifier Y pairs
+  atoms-apart Y f c (resolving {x} {y} e p q s u) pairs (resolveAtoms {left} {right} {l} {m} N) =
+      let a : x ≡ (left, l) = some-injective (sym p ∙ resolves-left S r seven N) in
+      let b : y ≡ (right, m) = some-injective (sym q ∙ resolves-right S r seven N) in
+      subst₂ (λ (x y : Derivation × Literal). NoUnifier Y ((atomOf S (x .0) (x .1), apply (renamed (maximumIndex (x .0))) (atomOf S (y .0) (y .1))) ∷ [])) a b
+      (resolve-no-unifier S (reached-ok file k S r R) k r Y x y p q s (which u c))
+  atoms-apart Y f c (resolving e p q s u) pairs (factorAtoms N) = let a = of-kind r resolveKind e in let b = N .isFactor in absurd (omega arith)
+  atoms-apart Y f c (factoring e p q s u) pairs (resolveAtoms N) = let a = of-kind r factorKind e in let b = N .isResolve in absurd (omega arith)
+  atoms-apart Y f c (factoring {x} {y} e p q s u) pairs (factorAtoms {parent} {l} {m} N) =
+      let a : x ≡ (parent, l) = some-injective (sym p ∙ factors-kept S r seven N) in
+      let b : y ≡ (parent, m) = some-injective (sym q ∙ factors-deleted S r seven N) in
+      subst₂ (λ (x y : Derivation × Literal). NoUnifier Y ((atomOf S (x .0) (x .1), atomOf S (y .0) (y .1)) ∷ [])) a b
+      (factor-no-unifier S (reached-ok file k S r R) k r Y x y p q s (which u c))
+
+  pub refused-no-unifier : (Y : Type 0) (q : Reason) → step S k r ≡ refused q → OneOf (reasonNumber q) (10 ∷ 11 ∷ []) → (pairs : List TermPair) → StepAtoms S r pairs → NoUnifier Y pairs
+  refused-no-unifier Y q z m pairs A = try (refused-by q z)
+    where
+      late : OneOf (reasonNumber q) (10 ∷ 11 ∷ []) → 10 ≤ reasonNumber q
+      late (inl e) = omega arith
+      late (inr (inl e)) = omega arith
+      late (inr (inr e)) = absurd e
+
+      try : RefusedBy q → NoUnifier Y pairs
+      try (byTest f) = let a = rising-first 3 (tests S (kindOfRecord r) r) q (tests-rising S (kindOfRecord r) r) f .1 in let b = late m in absurd (omega arith)
+      try (byFailure {f} e b) = atoms-apart Y f (clash-or-occurs f (subst (λ (p : Reason). OneOf (reasonNumber p) (10 ∷ 11 ∷ [])) (sym e) m)) b pairs A
+
+-- The numbers of conditions.
+pub condition-number : {earlier : List Record} {S : State} {r : Record} (n : ℕ) → Condition earlier S r n → (3 ≤ n) × (n ≤ 13)
+condition-number n (unknownKind h) = omega arith
+condition-number n (outsideRange h) = omega arith
+condition-number n (nothingThere h) = omega arith
+condition-number n (rowAgain h) = omega arith
+condition-number n (variableAsLiteral h) = omega arith
+condition-number n (unfitSigns h) = omega arith
+condition-number n (largeResult h) = omega arith
+condition-number n (clashing h) = omega arith
+condition-number n (occurring h) = omega arith
+condition-number n (overworking h) = omega arith
+condition-number n (overfull h) = omega arith

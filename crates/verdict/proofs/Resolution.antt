@@ -3,24 +3,25 @@ use mathlib.Core.Path.{_≡_, refl, sym, ap, _∙_, subst}
 use mathlib.Core.Logic.{_⊎_, inl, inr}
 use mathlib.Core.Bool.{Bool, true, false, not}
 use mathlib.Core.Option.{some}
-use mathlib.Core.List.{List}
+use mathlib.Core.List.{List, [], _∷_}
 use Prim.Native.Nat.{ℕ}
-use lib.Dec.{T}
 use lib.ListN.{length}
-use Rattle.record.specs.Record.{Record, Kind, resolveKind, factorKind, fieldA, fieldB, fieldC, fieldD}
+use Rattle.record.specs.Record.{Record, Kind, kindNumbered, resolveKind, factorKind, fieldA, fieldB, fieldC, fieldD}
 use Rattle.unification.specs.Environment.{Binding}
 use Rattle.unification.specs.Row.{application, Variable, rowTerm, writtenOut}
 use Rattle.unification.specs.Term.{Term, apply}
 use Rattle.unification.specs.Unification.{endless, clash, occurs, overwork, full, Outcome, unified, failed}
-use Rattle.unification.specs.Unifier.{Unifies, NoUnifier}
+use Rattle.unification.specs.Unifier.{TermPair, Unifies, NoUnifier}
 use Rattle.unification.proofs.Tests.{true-not-false}
 use Rattle.derivation.specs.Derivation.{literals, Literal, Derivation, resolve, factor, numbered, maximumIndex, joined, lookup}
 use Rattle.derivation.specs.Written.{substitution, renamed}
-use Rattle.derivation.proofs.Resolvents.{no-resolvent, is-resolvent, no-factor, is-factor, standardized-apart}
-use Rattle.verdict.specs.Demands.{atomOf, StepAtoms, ofResolve, ofFactor, ResolventAdded, FactorAdded, StandsOrLimit, itStands, resultTooLarge, workAllDone, bindingsAllHeld}
-use Rattle.verdict.specs.Refusal.{tests, Reason, badKind, outOfRange, notThere, repeatedRow, variableLiteral, wrongSigns, tooLarge, kindOfRecord, knownKind, inRange, leftOf, rightOf, deletedOf, allThere, isNew, onApplications, fittingSigns, withinLimits}
+use Rattle.derivation.proofs.Resolvents.{no-resolvent, is-resolvent, no-factor, is-factor}
+use Rattle.verdict.specs.Conditions.{OutOfRange, SignsUnfit}
+use Rattle.verdict.specs.Demands.{atomOf, StepAtoms, resolveAtoms, factorAtoms, ResolventAdded, FactorAdded, StandsOrLimit, itStands, limitMet}
+use Rattle.verdict.specs.Refusal.{tests, Reason, outOfRange, notThere, wrongSigns, tooLarge, kindOfRecord, inRange, leftOf, rightOf, deletedOf, bothThere, fittingSigns, resolventFits, factorFits}
 use Rattle.verdict.specs.State.{State, rowOf, termOf, held, nextClause}
 use Rattle.verdict.specs.Step.{stands, refused, Result, require, requireAll, step, addClause, unifyResolve, unifyFactor, enter}
+use Rattle.verdict.proofs.Conditions.{range-over, resolves-left, resolves-right, factors-kept, factors-deleted, resolve-signs, factor-signs}
 use Rattle.verdict.proofs.Inversions.{tests-passed, all-stand, named-stands, literal-named, clause-added}
 use Rattle.verdict.proofs.Reading.{term-of-row, one-arity}
 use Rattle.verdict.proofs.Standing.{StateOk, order-of, ChainsAfter, resolve-chains, factor-chains}
@@ -29,6 +30,15 @@ use Rattle.verdict.proofs.Steps.{NamedResolve, NamedFactor, signs-resol
 -- A step's kind, put in place of its number.
 pub at-kind : (S : State) (k : ℕ) (r : Record) (kind : Kind) → kindOfRecord r ≡ kind → step S k r ≡ requireAll (tests S kind r) (enter S k kind r)
 at-kind S k r kind e = ap (λ (z : Kind). requireAll (tests S z r) (enter S k z r)) e
+
+-- A step is its tests, one after the other, and then what it enters.
+pub step-resolve : (S : State) (k : ℕ) (r : Record) → kindOfRecord r ≡ resolveKind
+    → step S k r ≡ require (inRange resolveKind r) outOfRange (require (bothThere (leftOf S r) (rightOf S r)) notThere (require (fittingSigns S resolveKind r) wrongSigns (require (resolventFits S r) tooLarge (enter S k resolveKind r))))
+step-resolve S k r e = at-kind S k r resolveKind e
+
+pub step-factor : (S : State) (k : ℕ) (r : Record) → kindOfRecord r ≡ factorKind
+    → step S k r ≡ require (inRange factorKind r) outOfRange (require (bothThere (leftOf S r) (deletedOf S r)) notThere (require (fittingSigns S factorKind r) wrongSigns (require (factorFits S r) tooLarge (enter S k factorKind r))))
+step-factor S k r e = at-kind S k r factorKind e
 
 -- On the literals that it names, a step is its unification.
 pub enter-resolve : (S : State) (k : ℕ) (r : Record) (x y : Derivation × Literal) → leftOf S r ≡ some x → rightOf S r ≡ some y → enter S k resolveKind r ≡ addClause S k (resolve (nextClause S) (x .0) (fieldB r) (y .0) (fieldD r)) (unifyResolve S x y)
@@ -62,7 +72,6 @@ module _ (S : State) (H : StateOk 4096 S) (k : ℕ) (r : Record) where
             isRight = N .isRight;
             clause = resolve (nextClause S) (x .0) (fieldB r) (y .0) (fieldD r) (c .0);
             added = sym (c .3);
-            apart = standardized-apart (rowOf S) (termOf S) law (x .0) (y .0) L R;
             resolvent = is-resolvent (rowOf S) (termOf S) law (x .0) (y .0) L R (fieldB r) (fieldD r) (x .1 .0) (x .1 .1) (y .1 .1) (N .isLeftLiteral) (N .isRightLiteral ∙ ap (λ (b : Bool). some (b, y .1 .1)) (N .signs)) one (c .0) (held S, c .1, c .2) Y (nextClause S);
           }
 
@@ -85,20 +94,20 @@ module _ (S : State) (H : StateOk 4096 S) (k : ℕ) (r : Record) where
 
   -- The atoms of a resolve whose unification clashes or meets an occurrence.
   pub resolve-no-unifier : (Y : Type 0) (x y : Derivation × Literal) → leftOf S r ≡ some x → rightOf S r ≡ some y → y .1 .0 ≡ not (x .1 .0) → (unifyResolve S x y ≡ failed clash) ⊎ (unifyResolve S x y ≡ failed occurs)
-      → NoUnifier Y (atomOf S x) (apply (renamed (maximumIndex (x .0))) (atomOf S y))
+      → NoUnifier Y ((atomOf S (x .0) (x .1), apply (renamed (maximumIndex (x .0))) (atomOf S (y .0) (y .1))) ∷ [])
   resolve-no-unifier Y x y p q s f =
       let l = literal-named S (fieldA r) (fieldB r) x p in
       let m = literal-named S (fieldC r) (fieldD r) y q in
       no-resolvent (rowOf S) (termOf S) law (x .0) (y .0) (order-of 4096 S H (fieldA r) (x .0) (l .0) .valid) (order-of 4096 S H (fieldC r) (y .0) (m .0) .valid) (fieldB r) (fieldD r) (x .1 .0) (x .1 .1) (y .1 .1) (l .1) (m .1 ∙ ap (λ (b : Bool). some (b, y .1 .1)) s) Y (held S) f
 
   pub factor-no-unifier : (Y : Type 0) (x y : Derivation × Literal) → leftOf S r ≡ some x → deletedOf S r ≡ some y → y .1 .0 ≡ x .1 .0 → (unifyFactor S x y ≡ failed clash) ⊎ (unifyFactor S x y ≡ failed occurs)
-      → NoUnifier Y (atomOf S x) (atomOf S y)
+      → NoUnifier Y ((atomOf S (x .0) (x .1), atomOf S (y .0) (y .1)) ∷ [])
   factor-no-unifier Y x y p q s f =
       let l = literal-named S (fieldA r) (fieldB r) x p in
       let m = literal-named S (fieldA r) (fieldC r) y q in
       let e = same-parent S r x y p q in
       let n = subst (λ (c : Derivation). numbered (literals c) (fieldC r) ≡ some (y .1)) e (m .1) in
-      subst (λ (c : Derivation). NoUnifier Y (atomOf S x) (writtenOut (termOf S) (substitution (termOf S) c) (y .1 .1))) (sym e)
+      subst (λ (c : Derivation). NoUnifier Y ((atomOf S (x .0) (x .1), writtenOut (termOf S) (substitution (termOf S) c) (y .1 .1)) ∷ [])) (sym e)
       (no-factor (rowOf S) (termOf S) law (x .0) (order-of 4096 S H (fieldA r) (x .0) (l .0) .valid) (fieldB r) (fieldC r) (x .1 .0) (x .1 .1) (y .1 .1) (l .1) (n ∙ ap (λ (b : Bool). some (b, y .1 .1)) s) Y (held S) f)
 
   -- Following never runs out.
@@ -117,7 +126,7 @@ module _ (S : State) (H : StateOk 4096 S) (k : ℕ) (r : Record) where
       subst (ChainsAfter 4096 S H (lookup (x .0))) f
       (factor-chains 4096 S H x y (order-of 4096 S H (fieldA r) (x .0) (l .0)) (fieldB r) (fieldC r) (l .1) n)
 
-  -- The seven tests one after the other.
+  -- The tests one after the other.
   require-true : (b : Bool) (q : Reason) (next : Result) → b ≡ true → require b q next ≡ next
   unfolding require
   require-true true q next e = refl
@@ -129,40 +138,58 @@ module _ (S : State) (H : StateOk 4096 S) (k : ℕ) (r : Record) where
   require-false false q next e = refl
 
   -- A step whose tests but the last hold.
-  to-limits : (kind : Kind) → knownKind kind ≡ true → inRange kind r ≡ true → allThere S kind r ≡ true → isNew S kind r ≡ true → onApplications S kind r ≡ true → fittingSigns S kind r ≡ true
-      → requireAll (tests S kind r) (enter S k kind r) ≡ require (withinLimits S kind r) tooLarge (enter S k kind r)
-  to-limits kind a b c d e f =
-      require-true (knownKind kind) badKind _ a ∙ require-true (inRange kind r) outOfRange _ b ∙ require-true (allThere S kind r) notThere _ c
-      ∙ require-true (isNew S kind r) repeatedRow _ d ∙ require-true (onApplications S kind r) variableLiteral _ e ∙ require-true (fittingSigns S kind r) wrongSigns _ f
+  to-limits : (a b c d : Bool) (next : Result) → a ≡ true → b ≡ true → c ≡ true → require a outOfRange (require b notThere (require c wrongSigns (require d tooLarge next))) ≡ require d tooLarge next
+  to-limits a b c d next p q s = require-true a outOfRange _ p ∙ require-true b notThere _ q ∙ require-true c wrongSigns _ s
 
   -- From the outcome of unification to the result of the step.
-  outcome : (kind : Kind) (clause : List Binding → Derivation) (o : Outcome) → step S k r ≡ require (withinLimits S kind r) tooLarge (addClause S k clause o)
+  outcome : (fits : Bool) (clause : List Binding → Derivation) (o : Outcome) → step S k r ≡ require fits tooLarge (addClause S k clause o)
       → ¬ (o ≡ failed clash) → ¬ (o ≡ failed occurs) → ¬ (o ≡ failed endless) → StandsOrLimit S k r
   unfolding addClause
-  outcome kind clause o e c u n = limits (withinLimits S kind r) refl
+  outcome fits clause o e c u n = limits fits refl
     where
       ends : (o : Outcome) → ¬ (o ≡ failed clash) → ¬ (o ≡ failed occurs) → ¬ (o ≡ failed endless) → step S k r ≡ addClause S k clause o → StandsOrLimit S k r
       ends (unified bs m) c u n z = itStands z
       ends (failed clash) c u n z = absurd (c refl)
       ends (failed occurs) c u n z = absurd (u refl)
-      ends (failed overwork) c u n z = workAllDone z
-      ends (failed full) c u n z = bindingsAllHeld z
+      ends (failed overwork) c u n z = limitMet z (inr (inl refl))
+      ends (failed full) c u n z = limitMet z (inr (inr (inl refl)))
       ends (failed endless) c u n z = absurd (n refl)
 
-      limits : (b : Bool) → withinLimits S kind r ≡ b → StandsOrLimit S k r
-      limits true q = ends o c u n (e ∙ require-true (withinLimits S kind r) tooLarge (addClause S k clause o) q)
-      limits false q = resultTooLarge (e ∙ require-false (withinLimits S kind r) tooLarge (addClause S k clause o) q)
+      limits : (b : Bool) → fits ≡ b → StandsOrLimit S k r
+      limits true q = ends o c u n (e ∙ require-true fits tooLarge (addClause S k clause o) q)
+      limits false q = limitMet (e ∙ require-false fits tooLarge (addClause S k clause o) q) (inl refl)
 
-  pub unifiable-stands : (Y : Type 0) → inRange (kindOfRecord r) r ≡ true → (s t : Term Variable) → StepAtoms S r s t → fittingSigns S (kindOfRecord r) r ≡ true → (τ : Variable → Term Y) → Unifies τ s t → StandsOrLimit S k r
-  unifiable-stands Y range s t (ofResolve {x} {y} e p q) signs τ z =
-      let f = subst (λ (kind : Kind). fittingSigns S kind r ≡ true) e signs in
+  resolve-stands : (Y : Type 0) (x y : Derivation × Literal) → kindOfRecord r ≡ resolveKind → leftOf S r ≡ some x → rightOf S r ≡ some y → inRange resolveKind r ≡ true → fittingSigns S resolveKind r ≡ true
+      → (τ : Variable → Term Y) → Unifies τ ((atomOf S (x .0) (x .1), apply (renamed (maximumIndex (x .0))) (atomOf S (y .0) (y .1))) ∷ []) → StandsOrLimit S k r
+  resolve-stands Y x y e p q range f τ z =
       let g = signs-resolve S r x y p q f in
-      outcome resolveKind (resolve (nextClause S) (x .0) (fieldB r) (y .0) (fieldD r)) (unifyResolve S x y)
-      (at-kind S k r resolveKind e ∙ to-limits resolveKind refl (subst (λ (kind : Kind). inRange kind r ≡ true) e range) (rw (p, q)) refl refl f ∙ ap (require (withinLimits S resolveKind r) tooLarge) (enter-resolve S k r x y p q))
+      outcome (resolventFits S r) (resolve (nextClause S) (x .0) (fieldB r) (y .0) (fieldD r)) (unifyResolve S x y)
+      (step-resolve S k r e ∙ to-limits (inRange resolveKind r) (bothThere (leftOf S r) (rightOf S r)) (fittingSigns S resolveKind r) (resolventFits S r) _ range (rw (p, q)) f ∙ ap (require (resolventFits S r) tooLarge) (enter-resolve S k r x y p q))
       (λ w. resolve-no-unifier Y x y p q g (inl w) τ z) (λ w. resolve-no-unifier Y x y p q g (inr w) τ z) (resolve-not-endless x y p q)
-  unifiable-stands Y range s t (ofFactor {x} {y} e p q) signs τ z =
-      let f = subst (λ (kind : Kind). fittingSigns S kind r ≡ true) e signs in
+
+  factor-stands : (Y : Type 0) (x y : Derivation × Literal) → kindOfRecord r ≡ factorKind → leftOf S r ≡ some x → deletedOf S r ≡ some y → inRange factorKind r ≡ true → fittingSigns S factorKind r ≡ true
+      → (τ : Variable → Term Y) → Unifies τ ((atomOf S (x .0) (x .1), atomOf S (y .0) (y .1)) ∷ []) → StandsOrLimit S k r
+  factor-stands Y x y e p q range f τ z =
       let g = signs-factor S r x y p q f .0 in
-      outcome factorKind (factor (nextClause S) (x .0) (fieldB r) (fieldC r)) (unifyFactor S x y)
-      (at-kind S k r factorKind e ∙ to-limits factorKind refl (subst (λ (kind : Kind). inRange kind r ≡ true) e range) (rw (p, q)) refl refl f ∙ ap (require (withinLimits S factorKind r) tooLarge) (enter-factor S k r x y p q))
+      outcome (factorFits S r) (factor (nextClause S) (x .0) (fieldB r) (fieldC r)) (unifyFactor S x y)
+      (step-factor S k r e ∙ to-limits (inRange factorKind r) (bothThere (leftOf S r) (deletedOf S r)) (fittingSigns S factorKind r) (factorFits S r) _ range (rw (p, q)) f ∙ ap (require (factorFits S r) tooLarge) (enter-factor S k r x y p q))
       (λ w. factor-no-unifier Y x y p q g (inl w) τ z) (λ w. factor-no-unifier Y x y p q g (inr w) τ z) (factor-not-endless x y p q)
+
+  module _ (seven : length (r .fields) ≡ 7) where
+    holds : (b : Bool) → (b ≡ false → ⊥) → b ≡ true
+    holds true h = refl
+    holds false h = absurd (h refl)
+
+    pub unifiable-stands : (Y : Type 0) → ¬ OutOfRange r → (pairs : List TermPair) → StepAtoms S r pairs → ¬ SignsUnfit S r → (τ : Variable → Term Y) → Unifies τ pairs → StandsOrLimit S k r
+    unifiable-stands Y range pairs (resolveAtoms {left} {right} {l} {m} N) signs τ z =
+        let e : kindOfRecord r ≡ resolveKind = ap kindNumbered (N .isResolve) in
+        let p = resolves-left S r seven N in
+        let q = resolves-right S r seven N in
+        resolve-stands Y (left, l) (right, m) e p q (holds (inRange resolveKind r) (λ w. range (range-over r resolveKind e w)))
+        (holds (fittingSigns S resolveKind r) (λ w. signs (resolve-signs S r seven e (rw (p, q) refl) w))) τ z
+    unifiable-stands Y range pairs (factorAtoms {parent} {l} {m} N) signs τ z =
+        let e : kindOfRecord r ≡ factorKind = ap kindNumbered (N .isFactor) in
+        let p = factors-kept S r seven N in
+        let q = factors-deleted S r seven N in
+        factor-stands Y (parent, l) (parent, m) e p q (holds (inRange factorKind r) (λ w. range (range-over r factorKind e w)))
+        (holds (fittingSigns S factorKind r) (λ w. signs (factor-signs S r seven e (rw (p, q) refl) w))) τ z

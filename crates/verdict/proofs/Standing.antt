@@ -25,7 +25,7 @@ use Rattle.derivation.proofs.Literals.{leb-false-lt}
 use Rattle.derivation.proofs.Validity.{Valid, lookup-in}
 use Rattle.verdict.specs.Demands.{InputsOf}
 use Rattle.verdict.specs.Refusal.{mostLiterals, mostIndex}
-use Rattle.verdict.specs.State.{arities, State, start, withSymbol, withRow, withClause, entry, rowsOf, derivations, arityOf, clauseOf, rowOf, held}
+use Rattle.verdict.specs.State.{arities, State, emptyState, withSymbol, withRow, withClause, entry, rowsOf, derivations, arityOf, clauseOf, rowOf, held}
 use Rattle.verdict.specs.Step.{unifyResolve, unifyFactor}
 use Rattle.verdict.proofs.Inversions.{not-equal, entry-more, entry-each}
 
@@ -48,7 +48,7 @@ pub record StateOk (n : ℕ) (S : State) : Type 0 where
   pub inputsOk : Each (λ (c : Derivation). InputsOf (derivations S) (uses c)) (derivations S)
 
 -- How many bindings are held.
-pub held-start : held start ≡ 0
+pub held-start : held emptyState ≡ 0
 unfolding held
 held-start = refl
 

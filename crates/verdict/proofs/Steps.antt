@@ -5,20 +5,20 @@ use mathlib.Core.Option.{some}
 use mathlib.Core.List.{List, [], _++_}
 use Prim.Native.Nat.{ℕ, suc, _+_, _≤_}
 use native.Mathlib.Omega.{arith}
-use lib.Dec.{eqb, leb, T, leb→le}
+use lib.Dec.{eqb, leb, leb→le}
 use lib.ListN.{length, drop, length-take, length-drop, length-map}
 use Rattle.record.specs.Record.{Record, otherKind, Kind, symbolKind, variableKind, applicationKind, inputKind, resolveKind, factorKind, fieldA, fieldB, fieldC, fieldD}
 use Rattle.unification.specs.Environment.{Binding}
 use Rattle.unification.specs.Row.{variable, Row, application}
 use Rattle.unification.specs.Unification.{mostBindings, unified}
 use Rattle.unification.proofs.Room.{bindings-fit}
-use Rattle.unification.proofs.Tests.{to-T, both-true, true-not-false, some-injective}
+use Rattle.unification.proofs.Tests.{to-T, both-true, some-injective}
 use Rattle.derivation.specs.Derivation.{literals, input, Literal, inputLiterals, Derivation, resolve, factor, numbered, raise, placed, maximumIndex, joined, lookup, uses}
 use Rattle.derivation.proofs.Validity.{Valid}
 use Rattle.verdict.specs.Refusal.{tests, mostLiterals, mostIndex, kindOfRecord, zeros, argumentRows, leftOf, rightOf, deletedOf, hasArity, allBelow, equalSigns, fittingSigns, resultFits}
 use Rattle.verdict.specs.State.{State, rowsOf, derivations, arityOf, clauseOf, rowOf, held, nextClause}
 use Rattle.verdict.specs.Step.{stands, step, addClause, unifyResolve, unifyFactor, enter}
-use Rattle.verdict.proofs.Inversions.{tests-passed, stands-same, all-stand, named-stands, literal-named, has-arity, all-below, rows-below, opposite-signs, equal-signs, not-equal, entry-new, clause-added, Passed}
+use Rattle.verdict.proofs.Inversions.{tests-passed, stands-same, all-stand, named-stands, literal-named, has-arity, all-below, rows-below, opposite-signs, equal-signs, not-equal, entry-new, clause-added, PassedResolve, PassedFactor, Passed}
 use Rattle.verdict.proofs.Standing.{StateOk, literals-enough, index-enough, inputs-append, inputs-kept, no-chains, symbol-added, row-added, clause-entered, order-of, inputs-of, ChainsAfter, resolve-chains, factor-chains}
 
 -- What a resolve or a factor that came to its unification has named.
@@ -58,14 +58,14 @@ signs-factor S r x y p q s =
 pub same-parent : (S : State) (r : Record) (x y : Derivation × Literal) → leftOf S r ≡ some x → deletedOf S r ≡ some y → y .0 ≡ x .0
 same-parent S r x y p q = some-injective (sym (literal-named S (fieldA r) (fieldC r) y q .0) ∙ literal-named S (fieldA r) (fieldB r) x p .0)
 
-pub named-resolve : (S : State) (r : Record) (x y : Derivation × Literal) → leftOf S r ≡ some x → rightOf S r ≡ some y → Passed S resolveKind r → NamedResolve S r x y
+pub named-resolve : (S : State) (r : Record) (x y : Derivation × Literal) → leftOf S r ≡ some x → rightOf S r ≡ some y → PassedResolve S r → NamedResolve S r x y
 named-resolve S r x y p q a =
     let l = literal-named S (fieldA r) (fieldB r) x p in
     let m = literal-named S (fieldC r) (fieldD r) y q in
     let f = fits (resolve (nextClause S) (x .0) (fieldB r) (y .0) (fieldD r) []) (rw (p, q) at (a .limits)) in
     record { isLeft = l .0; isLeftLiteral = l .1; isRight = m .0; isRightLiteral = m .1; signs = signs-resolve S r x y p q (a .signs); literalsFit = f .0; indexFits = f .1 }
 
-pub named-factor : (S : State) (r : Record) (x y : Derivation × Literal) → leftOf S r ≡ some x → deletedOf S r ≡ some y → Passed S factorKind r → NamedFactor S r x y
+pub named-factor : (S : State) (r : Record) (x y : Derivation × Literal) → leftOf S r ≡ some x → deletedOf S r ≡ some y → PassedFactor S r → NamedFactor S r x y
 named-factor S r x y p q a =
     let l = literal-named S (fieldA r) (fieldB r) x p in
     let m = literal-named S (fieldA r) (fieldC r) y q in
@@ -147,7 +147,7 @@ module _ (n : ℕ) (S : State) (H : StateOk n S) (k : ℕ) (r : Record) (T : Sta
   entered factorKind l a q =
       let s = named-stands _ (leftOf S r) (deletedOf S r) T q in
       factor-entered (s .0) (s .1) (named-factor S r (s .0) (s .1) (s .2) (s .3) a) (s .4)
-  entered otherKind l a q = absurd (true-not-false (a .known) refl)
+  entered otherKind l a q = absurd a
 
   pub step-ok : length (r .fields) ≡ 7 → step S k r ≡ stands T → StateOk (suc n) T
   step-ok l q =

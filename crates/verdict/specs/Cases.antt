@@ -16,7 +16,7 @@ use Rattle.unification.specs.Unification.{mostWork, Outcome, unified, failed}
 use Rattle.derivation.specs.Derivation.{Literal, Derivation}
 use Rattle.verdict.specs.Readout.{readout}
 use Rattle.verdict.specs.Refusal.{badLength, leftOf, rightOf, deletedOf}
-use Rattle.verdict.specs.State.{State, start}
+use Rattle.verdict.specs.State.{State, emptyState}
 use Rattle.verdict.specs.Step.{stands, refused, step, unifyResolve, unifyFactor}
 use Rattle.verdict.specs.Tables.{Tables, lengthsOf, tablesAfter}
 use Rattle.verdict.specs.Verdict.{refusal, check, answerNumbers, Lengths, fittingLength}
@@ -109,7 +109,7 @@ caseOf file = record {
   file = file;
   answer = answerNumbers (check file (lengthsOf nines));
   tables = tablesAfter file nines;
-  work = pick (fittingLength (length file)) (works start 0 (records file)) [];
+  work = pick (fittingLength (length file)) (works emptyState 0 (records file)) [];
   readout = readout file (lengthsOf nines);
 }
 

@@ -1,71 +1,98 @@
 -- The mission's three demands, stated of the definitions, for every file and every four tables.
 use mathlib.Core.Path.{_≡_}
 use mathlib.Core.Logic.{_⊎_}
-use mathlib.Core.Bool.{Bool, true, false}
+use mathlib.Core.Bool.{Bool, true}
 use mathlib.Core.Option.{some}
 use mathlib.Core.List.{List, [], _∷_}
 use Prim.Native.Nat.{ℕ, _+_, _*_, _≤_, _<_}
-use lib.Dec.{T}
 use lib.ListN.{length, getD, take, drop}
-use Rattle.record.specs.Record.{Record, records, resolveKind, factorKind, fieldA, fieldB, fieldC, fieldD}
-use Rattle.unification.specs.Environment.{follow, Environment, Ends}
-use Rattle.unification.specs.Failing.{Failing}
-use Rattle.unification.specs.Row.{Expression, Variable, writtenOut}
+use Rattle.record.specs.Record.{pick, Record, records, fieldA, fieldB, fieldC, fieldD}
+use Rattle.unification.specs.Environment.{follow, Binding, Ends}
+use Rattle.unification.specs.Row.{variable, application, Expression, Variable, writtenOut}
 use Rattle.unification.specs.Term.{Term, apply}
-use Rattle.unification.specs.Unification.{mostWork, mostLinks, Failure, clash, occurs, overwork, full, unifying, noRoom}
-use Rattle.unification.specs.Unifier.{Unifies, NoUnifier}
-use Rattle.derivation.specs.Derivation.{literals, input, Literal, Derivation, raise, maximumIndex, joined, lookup, Use, uses}
+use Rattle.unification.specs.Unification.{mostLinks}
+use Rattle.unification.specs.Unifier.{TermPair, Unifies, NoUnifier}
+use Rattle.derivation.specs.Derivation.{literals, input, Literal, RowLiteral, Derivation, resolve, factor, numbered, maximumIndex, lookup, Use, uses}
 use Rattle.derivation.specs.Ground.{instances, Ground, Values, valueIn, WellFormedInstances, Assignment, AllTrue}
-use Rattle.derivation.specs.Textbook.{Resolvent, Factor, StandardizedApart}
+use Rattle.derivation.specs.Textbook.{Resolvent, Factor}
 use Rattle.derivation.specs.Written.{written, substitution, renamed, WritesOut}
-use Rattle.verdict.specs.Refusal.{tests, Reason, unification, badLength, shortTable, tooLarge, reasonNumber, kindOfRecord, inRange, leftOf, rightOf, deletedOf, fittingSigns}
-use Rattle.verdict.specs.State.{State, start, withClause, entry, rowsOf, derivations, arityOf, clauseOf, rowOf, termOf, held}
+use Rattle.verdict.specs.Conditions.{OneOf, fieldNumbered, LengthUnfit, TableShort, OutOfRange, Resolves, Factors, SignsUnfit, Condition}
+use Rattle.verdict.specs.Refusal.{Reason, reasonNumber}
+use Rattle.verdict.specs.State.{State, emptyState, withSymbol, withRow, withClause, entry, rowsOf, derivations, nextClause, arityOf, clauseOf, rowOf, termOf}
 use Rattle.verdict.specs.Step.{stands, refused, step, read, allStand, stateOf}
-use Rattle.verdict.specs.Tables.{Tables, lengthsOf, clauseCells, filledTables, tablesAfter}
-use Rattle.verdict.specs.Verdict.{refusal, check, accepted, answerOf, longEnough, fittingLength, ending}
+use Rattle.verdict.specs.Tables.{Tables, lengthsOf, filledTables, tablesAfter}
+use Rattle.verdict.specs.Verdict.{refusal, check, accepted, open′, everyClause, answerOf, fittingLength, ending, Stands}
 
--- ── Demand 1: an honest verdict on every file ──
--- That the program ends, stays inside what it was lent and answers by `check` and `tablesAfter` is its contract. Here: what these say
--- of a refused file.
-
--- Record k of a file is r, and the records before it stand and leave the state S.
+-- Reading comes to record k, which is r: the file's length fits, and the records before it stand and leave the state S.
 pub record Reached (file : List ℕ) (k : ℕ) (S : State) (r : Record) : Type 0 where
-  pub before : read start 0 (take k (records file)) ≡ allStand S
+  pub fits : fittingLength (length file) ≡ true
+  pub before : read emptyState 0 (take k (records file)) ≡ allStand S
   pub after : List Record
   pub here : drop k (records file) ≡ r ∷ after
 
--- Refused for its length or the tables' lengths: record 0, counts 0, tables untouched.
+-- A state that reading comes to: before a record, or the one that it leaves.
+pub data ComesTo (file : List ℕ) : State → Type 0 where
+  beforeRecord : {k : ℕ} {S : State} {r : Record} → Reached file k S r → ComesTo file S
+  lastState : fittingLength (length file) ≡ true → ComesTo file (stateOf (ending file))
+
+-- ── Demand 1: an honest verdict on every file ──
+-- That the program ends, stays inside what it was lent and answers by `check` and `tablesAfter` is its contract. Here: what these say
+-- of a file that is refused, and of one that is not.
+
+-- Refused with 1 or 2, for its length or the tables' lengths: record 0, counts 0, tables untouched.
 pub record Untouched (file : List ℕ) (tables : Tables) (reason : Reason) (k : ℕ) : Type 0 where
+  pub number : OneOf (reasonNumber reason) (1 ∷ 2 ∷ [])
   pub record0 : k ≡ 0
-  pub counts : check file (lengthsOf tables) ≡ answerOf (refusal reason 0) start
+  pub counts : check file (lengthsOf tables) ≡ answerOf (refusal reason 0) emptyState
   pub tablesKept : tablesAfter file tables ≡ tables
 
--- Refused at a record: counts and tables are those of the state that the records before it leave, and of nothing else.
+-- Refused at a record, with 3 or more: counts and tables are those of the state that the records before it leave, and of nothing else.
 pub record LeftBefore (file : List ℕ) (tables : Tables) (reason : Reason) (k : ℕ) : Type 0 where
+  pub number : 3 ≤ reasonNumber reason
   pub state : State
   pub refusedRecord : Record
   pub reached : Reached file k state refusedRecord
   pub counts : check file (lengthsOf tables) ≡ answerOf (refusal reason k) state
   pub tablesFilled : tablesAfter file tables ≡ filledTables state tables
 
+-- Not refused: counts and tables are those of the state that all records leave.
+pub record LeftByAll (file : List ℕ) (tables : Tables) (S : State) : Type 0 where
+  pub counts : check file (lengthsOf tables) ≡ answerOf (check file (lengthsOf tables) .verdict) S
+  pub tablesFilled : tablesAfter file tables ≡ filledTables S tables
+
 pub record Demand1 (file : List ℕ) (tables : Tables) : Type 0 where
-  -- A refusal leaves the tables untouched (reasons 1 and 2), or with exactly the records before it.
-  pub tablesOfRefusal : (reason : Reason) (k : ℕ) → check file (lengthsOf tables) .verdict ≡ refusal reason k
-      → (((reason ≡ badLength) ⊎ (reason ≡ shortTable)) × Untouched file tables reason k) ⊎ LeftBefore file tables reason k
+  -- A file that stands, with tables long enough, leaves the tables with exactly its records.
+  pub tablesOfStanding : (S : State) → Stands file S → ¬ TableShort tables → LeftByAll file tables S
+  -- A refusal leaves the tables with exactly the records before it, or for reasons 1 and 2 untouched.
+  pub tablesOfRefusal : (reason : Reason) (k : ℕ) → check file (lengthsOf tables) .verdict ≡ refusal reason k → Untouched file tables reason k ⊎ LeftBefore file tables reason k
 
 -- ── Demand 2: the textbook's resolution, and refusals only where they are due ──
 
--- An atom of a clause, written out.
-abbrev pub atomOf : State → Derivation × Literal → Term Variable
-atomOf S x = writtenOut (termOf S) (substitution (termOf S) (x .0)) (x .1 .1)
+-- What a record that stands adds to the state, as the table of kinds has it: a symbol with its arity; a row; an input clause with its
+-- literals, each 2 × row, plus 1 if positive; the clause of a step, over its parents.
+pub data Adds (S : State) (k : ℕ) (r : Record) (T : State) : Type 0 where
+  addsSymbol : r .kind ≡ 1 → T ≡ withSymbol S k (r .count) → Adds S k r T
+  addsVariable : r .kind ≡ 2 → T ≡ withRow S k (variable (fieldA r)) → Adds S k r T
+  addsApplication : {xs : List ℕ} → r .kind ≡ 3 → length xs ≡ r .count → ((i : ℕ) → i < r .count → getD xs i 0 ≡ fieldNumbered r (1 + i))
+      → T ≡ withRow S k (application (fieldA r) xs) → Adds S k r T
+  addsInput : {ls : List RowLiteral} → r .kind ≡ 4 → length ls ≡ r .count
+      → ((i : ℕ) (l : RowLiteral) → numbered ls (1 + i) ≡ some l → 2 * l .1 + pick (l .0) 1 0 ≡ fieldNumbered r i)
+      → T ≡ withClause S k (input (nextClause S) ls) → Adds S k r T
+  addsResolvent : {left right : Derivation} {l m : Literal} {bs : List Binding} → Resolves S r left right l m
+      → T ≡ withClause S k (resolve (nextClause S) left (fieldB r) right (fieldD r) bs) → Adds S k r T
+  addsFactor : {parent : Derivation} {l m : Literal} {bs : List Binding} → Factors S r parent l m
+      → T ≡ withClause S k (factor (nextClause S) parent (fieldB r) (fieldC r) bs) → Adds S k r T
 
--- The two atoms that a step unifies. In a resolve the right one is standardized apart: its indices are raised by the left clause's
--- maximum index.
-pub data StepAtoms (S : State) (r : Record) : Term Variable → Term Variable → Type 0 where
-  ofResolve : {x y : Derivation × Literal} → kindOfRecord r ≡ resolveKind → leftOf S r ≡ some x → rightOf S r ≡ some y
-      → StepAtoms S r (atomOf S x) (apply (renamed (maximumIndex (x .0))) (atomOf S y))
-  ofFactor : {x y : Derivation × Literal} → kindOfRecord r ≡ factorKind → leftOf S r ≡ some x → deletedOf S r ≡ some y
-      → StepAtoms S r (atomOf S x) (atomOf S y)
+-- An atom of a clause, written out.
+abbrev pub atomOf : State → Derivation → Literal → Term Variable
+atomOf S c l = writtenOut (termOf S) (substitution (termOf S) c) (l .1)
+
+-- The atoms that a step unifies, as a list of pairs: a resolve and a factor have one pair. In a resolve the right atom is standardized
+-- apart: its indices are raised by the left clause's maximum index.
+pub data StepAtoms (S : State) (r : Record) : List TermPair → Type 0 where
+  resolveAtoms : {left right : Derivation} {l m : Literal} → Resolves S r left right l m
+      → StepAtoms S r ((atomOf S left l, apply (renamed (maximumIndex left)) (atomOf S right m)) ∷ [])
+  factorAtoms : {parent : Derivation} {l m : Literal} → Factors S r parent l m → StepAtoms S r ((atomOf S parent l, atomOf S parent m) ∷ [])
 
 -- (a) A resolve that stands adds one clause: the resolvent of the clauses that it names.
 pub record ResolventAdded (Y : Type 0) (S : State) (k : ℕ) (r : Record) (T : State) : Type 0 where
@@ -75,7 +102,6 @@ pub record ResolventAdded (Y : Type 0) (S : State) (k : ℕ) (r : Record) (T : S
   pub isRight : clauseOf S (fieldC r) ≡ some right
   pub clause : Derivation
   pub added : T ≡ withClause S k clause
-  pub apart : StandardizedApart (maximumIndex left) (written (termOf S) left) (written (termOf S) right)
   pub resolvent : Resolvent Y (renamed (maximumIndex left)) (written (termOf S) left) (fieldB r) (written (termOf S) right) (fieldD r) (written (termOf S) clause)
 
 -- A factor that stands adds one clause: the factor of the clause that it names.
@@ -86,74 +112,69 @@ pub record FactorAdded (Y : Type 0) (S : State) (k : ℕ) (r : Record) (T : Stat
   pub added : T ≡ withClause S k clause
   pub factored : Factor Y (written (termOf S) parent) (fieldB r) (fieldC r) (written (termOf S) clause)
 
--- (c) What may become of a step that has a unifier: it stands, or it is refused with 9, 12 or 13.
+-- (c) What may become of a step that has a unifier: it stands, or it is refused by a limit, with 9, 12 or 13.
 pub data StandsOrLimit (S : State) (k : ℕ) (r : Record) : Type 0 where
   itStands : {T : State} → step S k r ≡ stands T → StandsOrLimit S k r
-  resultTooLarge : step S k r ≡ refused tooLarge → StandsOrLimit S k r
-  workAllDone : step S k r ≡ refused (unification overwork) → StandsOrLimit S k r
-  bindingsAllHeld : step S k r ≡ refused (unification full) → StandsOrLimit S k r
+  limitMet : {reason : Reason} → step S k r ≡ refused reason → OneOf (reasonNumber reason) (9 ∷ 12 ∷ 13 ∷ []) → StandsOrLimit S k r
 
--- (d) The test for a reason is the first in the order of numbers that fails.
-pub data FirstFailing : List (Bool × Reason) → Reason → Type 0 where
-  failsHere : {t : Bool × Reason} {ts : List (Bool × Reason)} → t .0 ≡ false → FirstFailing (t ∷ ts) (t .1)
-  passesHere : {t : Bool × Reason} {ts : List (Bool × Reason)} {reason : Reason} → t .0 ≡ true → FirstFailing ts reason → FirstFailing (t ∷ ts) reason
+-- (d) The condition stated for a number holds of the file, of the tables, or of a record that reading comes to.
+pub data ConditionAt (file : List ℕ) (tables : Tables) : (number k : ℕ) → Type 0 where
+  ofLength : LengthUnfit file → ConditionAt file tables 1 0
+  ofTables : TableShort tables → ConditionAt file tables 2 0
+  ofRecord : {number k : ℕ} {S : State} {r : Record} → Reached file k S r → Condition (take k (records file)) S r number → ConditionAt file tables number k
 
-abbrev pub AllPass : List (Bool × Reason) → Type 0
-AllPass [] = Unit {0}
-AllPass (t ∷ ts) = (t .0 ≡ true) × AllPass ts
+-- It does, and that of no lower number holds, of whatever it may be.
+pub record Due (file : List ℕ) (tables : Tables) (number k : ℕ) : Type 0 where
+  pub holds : ConditionAt file tables number k
+  pub lowest : (other j : ℕ) → ConditionAt file tables other j → number ≤ other
 
--- Unification of the two expressions that a step names fails as stated for its number.
-abbrev pub UnificationFails : State → Environment → Expression → Expression → Failure → Type 0
-UnificationFails S ρ e d f = Failing (rowOf S) mostLinks (noRoom (held S)) ρ mostWork (unifying [] ((e, d) ∷ [])) f
-
--- The condition stated for a reason holds of a record, in the state before it, and none with a lower number does.
-pub data Due (S : State) (r : Record) : Reason → Type 0 where
-  byTest : {reason : Reason} → FirstFailing (tests S (kindOfRecord r) r) reason → Due S r reason
-  inResolve : {x y : Derivation × Literal} {f : Failure} → AllPass (tests S (kindOfRecord r) r) → kindOfRecord r ≡ resolveKind → leftOf S r ≡ some x → rightOf S r ≡ some y
-      → UnificationFails S (joined (maximumIndex (x .0)) (lookup (x .0)) (lookup (y .0))) (x .1 .1) (raise (maximumIndex (x .0)) (y .1 .1)) f → Due S r (unification f)
-  inFactor : {x y : Derivation × Literal} {f : Failure} → AllPass (tests S (kindOfRecord r) r) → kindOfRecord r ≡ factorKind → leftOf S r ≡ some x → deletedOf S r ≡ some y
-      → UnificationFails S (lookup (x .0)) (x .1 .1) (y .1 .1) f → Due S r (unification f)
-
--- The condition stated for a reason holds of the file, of the tables, or of the record named.
-pub data DueAt (file : List ℕ) (tables : Tables) : Reason → ℕ → Type 0 where
-  ofLength : fittingLength (length file) ≡ false → DueAt file tables badLength 0
-  ofTables : fittingLength (length file) ≡ true → longEnough (lengthsOf tables) ≡ false → DueAt file tables shortTable 0
-  ofRecord : {reason : Reason} {k : ℕ} {S : State} {r : Record} → Reached file k S r → Due S r reason → DueAt file tables reason k
-
--- (e) Clause n is empty, and no clause with a lower number is.
-pub record LowestEmpty (S : State) (n : ℕ) : Type 0 where
+-- (e) Clause n is empty, and no clause with a lower number is. Only clauses whose derivation passes the test count.
+pub record LowestEmpty (test : Derivation → Bool) (S : State) (n : ℕ) : Type 0 where
   pub clause : Derivation
   pub isClause : clauseOf S n ≡ some clause
+  pub passes : test clause ≡ true
   pub empty : literals clause ≡ []
-  pub lowest : (i : ℕ) (c : Derivation) → i < n → clauseOf S i ≡ some c → ¬ (literals c ≡ [])
+  pub lowest : (i : ℕ) (c : Derivation) → i < n → clauseOf S i ≡ some c → test c ≡ true → ¬ (literals c ≡ [])
+
+-- No clause whose derivation passes the test is empty.
+abbrev pub NoneEmpty : (Derivation → Bool) → State → Type 0
+NoneEmpty test S = (n : ℕ) (c : Derivation) → clauseOf S n ≡ some c → test c ≡ true → ¬ (literals c ≡ [])
 
 -- Unifiers have values that are terms over Y; the textbook's own are those with Y = Variable. It is proved for every Y.
 pub record Demand2 (Y : Type 0) (file : List ℕ) (tables : Tables) : Type 0 where
-  -- Clauses are written out by what looking up gives, and by nothing else.
-  pub writtenByLookup : fittingLength (length file) ≡ true → (n : ℕ) (c : Derivation) → clauseOf (stateOf (ending file)) n ≡ some c
-      → WritesOut (termOf (stateOf (ending file))) (lookup c) (substitution (termOf (stateOf (ending file))) c)
-      × ((τ : Variable → Term Variable) → WritesOut (termOf (stateOf (ending file))) (lookup c) τ → (x : Variable) → substitution (termOf (stateOf (ending file))) c x ≡ τ x)
-  -- (a)
-  pub resolvents : fittingLength (length file) ≡ true → (k : ℕ) (S T : State) (r : Record) → Reached file k S r → kindOfRecord r ≡ resolveKind → step S k r ≡ stands T → ResolventAdded Y S k r T
-  pub factors : fittingLength (length file) ≡ true → (k : ℕ) (S T : State) (r : Record) → Reached file k S r → kindOfRecord r ≡ factorKind → step S k r ≡ stands T → FactorAdded Y S k r T
-  -- (b)
-  pub noUnifier : fittingLength (length file) ≡ true → (k : ℕ) (S : State) (r : Record) (f : Failure) → Reached file k S r → step S k r ≡ refused (unification f) → (f ≡ clash) ⊎ (f ≡ occurs)
-      → (s t : Term Variable) × StepAtoms S r s t × NoUnifier Y s t
-  -- (c)
-  pub nothingLost : fittingLength (length file) ≡ true → (k : ℕ) (S : State) (r : Record) → Reached file k S r → inRange (kindOfRecord r) r ≡ true → (s t : Term Variable) → StepAtoms S r s t
-      → fittingSigns S (kindOfRecord r) r ≡ true → (τ : Variable → Term Y) → Unifies τ s t → StandsOrLimit S k r
-  -- (d)
-  pub refusals : (reason : Reason) (k : ℕ) → check file (lengthsOf tables) .verdict ≡ refusal reason k → DueAt file tables reason k
-  pub statedNumbers : (reason : Reason) (k : ℕ) → check file (lengthsOf tables) .verdict ≡ refusal reason k → (1 ≤ reasonNumber reason) × (reasonNumber reason ≤ 13)
-  -- (e)
-  pub acceptedOnly : (n : ℕ) → check file (lengthsOf tables) .verdict ≡ accepted n → (S : State) × (ending file ≡ allStand S) × LowestEmpty S n
-  pub acceptedIf : fittingLength (length file) ≡ true → longEnough (lengthsOf tables) ≡ true → (S : State) → ending file ≡ allStand S → (i : ℕ) (c : Derivation) → clauseOf S i ≡ some c → literals c ≡ []
+  -- What stands is what the file says.
+  pub declared : (k : ℕ) (S T : State) (r : Record) → Reached file k S r → step S k r ≡ stands T → Adds S k r T
+  -- Following an expression over rows that exist ends, in every clause of every state that reading comes to.
+  pub followingEnds : (S : State) → ComesTo file S → (n : ℕ) (c : Derivation) → clauseOf S n ≡ some c → (e : Expression) → e .0 < length (rowsOf S)
+      → Ends (follow (rowOf S) mostLinks (lookup c) e)
+  -- Clauses are written out by what looking up gives, and by nothing else, in every such state.
+  pub writtenByLookup : (S : State) → ComesTo file S → (n : ℕ) (c : Derivation) → clauseOf S n ≡ some c
+      → WritesOut (termOf S) (lookup c) (substitution (termOf S) c)
+      × ((τ : Variable → Term Variable) → WritesOut (termOf S) (lookup c) τ → (x : Variable) → substitution (termOf S) c x ≡ τ x)
+  -- (a) Every derived clause is the resolvent or factor of the textbook.
+  pub resolvents : (k : ℕ) (S T : State) (r : Record) → Reached file k S r → r .kind ≡ 5 → step S k r ≡ stands T → ResolventAdded Y S k r T
+  pub factors : (k : ℕ) (S T : State) (r : Record) → Reached file k S r → r .kind ≡ 6 → step S k r ≡ stands T → FactorAdded Y S k r T
+  -- (b) A step is refused for a symbol clash or a variable inside its own value only if no unifier exists.
+  pub noUnifier : (k : ℕ) (S : State) (r : Record) (reason : Reason) → Reached file k S r → step S k r ≡ refused reason → OneOf (reasonNumber reason) (10 ∷ 11 ∷ [])
+      → (pairs : List TermPair) → StepAtoms S r pairs → NoUnifier Y pairs
+  -- (c) A well-formed step on existing literals of fitting signs, two different ones in a factor, that has a unifier is refused only by a limit.
+  pub nothingLost : (k : ℕ) (S : State) (r : Record) → Reached file k S r → ¬ OutOfRange r → (pairs : List TermPair) → StepAtoms S r pairs → ¬ SignsUnfit S r
+      → (τ : Variable → Term Y) → Unifies τ pairs → StandsOrLimit S k r
+  -- (d) No record and no file is refused unless the condition stated for the number given holds of it, and none with a lower number.
+  pub refusals : (reason : Reason) (k : ℕ) → check file (lengthsOf tables) .verdict ≡ refusal reason k → Due file tables (reasonNumber reason) k
+  pub statedNumbers : (reason : Reason) (k : ℕ) → check file (lengthsOf tables) .verdict ≡ refusal reason k
+      → OneOf (reasonNumber reason) (1 ∷ 2 ∷ 3 ∷ 4 ∷ 5 ∷ 6 ∷ 7 ∷ 8 ∷ 9 ∷ 10 ∷ 11 ∷ 12 ∷ 13 ∷ [])
+  -- Where a condition holds, the record is refused, and the file too, with a number no higher.
+  pub recordRefused : (k : ℕ) (S : State) (r : Record) → Reached file k S r → (number : ℕ) → Condition (take k (records file)) S r number
+      → (reason : Reason) × (step S k r ≡ refused reason) × (reasonNumber reason ≤ number)
+  pub fileRefused : (number k : ℕ) → ConditionAt file tables number k → (reason : Reason) × (j : ℕ) × (check file (lengthsOf tables) .verdict ≡ refusal reason j) × (reasonNumber reason ≤ number)
+  -- (e) With length and tables as stated, a file is accepted exactly if every record stands and some clause is empty; it is open exactly if
+  -- every record stands and none is.
+  pub acceptedOnly : (n : ℕ) → check file (lengthsOf tables) .verdict ≡ accepted n → (S : State) × Stands file S × LowestEmpty everyClause S n
+  pub acceptedIf : ¬ TableShort tables → (S : State) → Stands file S → (i : ℕ) (c : Derivation) → clauseOf S i ≡ some c → everyClause c ≡ true → literals c ≡ []
       → (n : ℕ) × (check file (lengthsOf tables) .verdict ≡ accepted n)
-
--- Following an expression over rows that exist ends, in every clause that stands.
-pub record FollowingEnds (file : List ℕ) : Type 0 where
-  pub ends : fittingLength (length file) ≡ true → (n : ℕ) (c : Derivation) → clauseOf (stateOf (ending file)) n ≡ some c → (e : Expression) → e .0 < length (rowsOf (stateOf (ending file)))
-      → Ends (follow (rowOf (stateOf (ending file))) mostLinks (lookup c) e)
+  pub openOnly : check file (lengthsOf tables) .verdict ≡ open′ → (S : State) × Stands file S × NoneEmpty everyClause S
+  pub openIf : ¬ TableShort tables → (S : State) → Stands file S → NoneEmpty everyClause S → check file (lengthsOf tables) .verdict ≡ open′
 
 -- ── Demand 3: a variable-free refutation behind every acceptance ──
 
@@ -162,18 +183,21 @@ abbrev pub InputsOf : List Derivation → List Use → Type 0
 InputsOf cs [] = Unit {0}
 InputsOf cs (u ∷ us) = (entry cs (u .0) ≡ some (input (u .0) (u .1))) × InputsOf cs us
 
-pub record Refutation (S : State) (n : ℕ) : Type 0 where
-  pub first : LowestEmpty S n
-  -- m, the number of uses, is the maximum index, and the check leaves it in its table as such.
+-- What holds of the first empty clause, clause n, of a file that stands and leaves S; m is the number of its uses.
+pub record Refutation (test : Derivation → Bool) (file : List ℕ) (tables : Tables) (S : State) (n : ℕ) : Type 0 where
+  pub first : LowestEmpty test S n
+  -- The uses are input clauses of the file, each counted as often as it is used.
   pub inputs : InputsOf (derivations S) (uses (first .clause))
+  -- m equals the clause's maximum index, and the check leaves it in its table as such.
   pub count : length (uses (first .clause)) ≡ maximumIndex (first .clause)
-  pub inTable : getD (clauseCells (S .clauses)) (5 * n + 2) 0 ≡ length (uses (first .clause))
+  pub inTable : getD (tablesAfter file tables .clauses) (5 * n + 2) 0 ≡ length (uses (first .clause))
   -- The values of its variables are those of the two rules, and no others are.
   pub values : Values (termOf S) (lookup (first .clause)) (valueIn (termOf S) (first .clause))
   pub valuesUnique : (γ : Variable → Ground) → Values (termOf S) (lookup (first .clause)) γ → (x : Variable) → valueIn (termOf S) (first .clause) x ≡ γ x
-  -- The instances are variable-free over the file's symbols at their arities and the extra constant, and cannot all be true.
+  -- The m instances, the k-th use's at index k, are variable-free over the file's symbols at their arities and the extra constant, and
+  -- no assignment makes them all true.
   pub formed : WellFormedInstances (arityOf S) (instances (termOf S) (valueIn (termOf S) (first .clause)) 1 (uses (first .clause)))
   pub unsatisfiable : (A : Assignment) → ¬ AllTrue A (instances (termOf S) (valueIn (termOf S) (first .clause)) 1 (uses (first .clause)))
 
 pub record Demand3 (file : List ℕ) (tables : Tables) : Type 0 where
-  pub refuted : (n : ℕ) → check file (lengthsOf tables) .verdict ≡ accepted n → Refutation (stateOf (ending file)) n
+  pub refuted : (n : ℕ) → check file (lengthsOf tables) .verdict ≡ accepted n → (S : State) × Stands file S × Refutation everyClause file tables S n

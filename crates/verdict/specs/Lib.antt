@@ -5,6 +5,7 @@ pub mod Verdict
 pub mod Tables
 pub mod Text
 pub mod Readout
+pub mod Conditions
 pub mod Demands
 pub mod Cases
 pub mod Edges

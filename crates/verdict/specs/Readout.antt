@@ -2,13 +2,11 @@
 use mathlib.Core.List.{List, [], _∷_, _++_}
 use Prim.Native.Nat.{ℕ}
 use lib.ListN.{length}
-use Rattle.record.specs.Record.{pick}
 use Rattle.derivation.specs.Derivation.{Derivation, maximumIndex}
 use Rattle.derivation.specs.Written.{written}
-use Rattle.verdict.specs.Refusal.{badLength, shortTable, reasonNumber}
-use Rattle.verdict.specs.State.{State, start, derivations, rowOf, termOf}
-use Rattle.verdict.specs.Step.{stateOf}
-use Rattle.verdict.specs.Verdict.{Verdict, refusal, accepted, undecided, verdictOf, Lengths, longEnough, fittingLength, ending}
+use Rattle.verdict.specs.Refusal.{reasonNumber}
+use Rattle.verdict.specs.State.{State, derivations, rowOf, termOf}
+use Rattle.verdict.specs.Verdict.{Verdict, refusal, accepted, open′, Lengths, reading, verdictGiven, stateGiven}
 use Rattle.verdict.specs.Text.{decimal, literalsText}
 
 -- `accepted N`, `open`, or `refused R at K`.
@@ -23,7 +21,7 @@ refusedText r k = (114 ∷ 101 ∷ 102 ∷ 117 ∷ 115 ∷ 101 ∷ 100 ∷ 32 �
 
 abbrev pub verdictText : Verdict → List ℕ
 verdictText (accepted n) = acceptedText n
-verdictText undecided = openText
+verdictText open′ = openText
 verdictText (refusal reason k) = refusedText (reasonNumber reason) k
 
 abbrev pub verdictLine : Verdict → List ℕ
@@ -43,12 +41,7 @@ linesOf v S = verdictLine v ∷ clauseLines S (derivations S)
 
 -- The readout of a file, line by line and as a whole. It goes by the check of the file, whatever the tables held before.
 unfoldable pub readoutLines : List ℕ → Lengths → List (List ℕ)
-readoutLines file lengths =
-    pick (fittingLength (length file))
-    (pick (longEnough lengths)
-    (linesOf (verdictOf (ending file)) (stateOf (ending file)))
-    (linesOf (refusal shortTable 0) start))
-    (linesOf (refusal badLength 0) start)
+readoutLines file lengths = linesOf (verdictGiven (reading file lengths)) (stateGiven (reading file lengths))
 
 abbrev pub joinedLines : List (List ℕ) → List ℕ
 joinedLines [] = []

@@ -38,16 +38,6 @@ mostIndex = 4096
 abbrev pub kindOfRecord : Record → Kind
 kindOfRecord r = kindNumbered (r .kind)
 
--- 3: the kind is 1 to 6.
-abbrev pub knownKind : Kind → Bool
-knownKind symbolKind = true
-knownKind variableKind = true
-knownKind applicationKind = true
-knownKind inputKind = true
-knownKind resolveKind = true
-knownKind factorKind = true
-knownKind otherKind = false
-
 -- 4: byte 1 and the variable number are in range, and unused fields are zero.
 abbrev pub zeros : List ℕ → Bool
 zeros [] = true
@@ -60,6 +50,7 @@ inRange applicationKind r = leb (r .count) 6 && zeros (drop (1 + r .count) (r .f
 inRange inputKind r = leb (r .count) 7 && zeros (drop (r .count) (r .fields))
 inRange resolveKind r = eqb (r .count) 0 && zeros (drop 4 (r .fields))
 inRange factorKind r = eqb (r .count) 0 && zeros (drop 3 (r .fields))
+-- Any other kind is refused with 3, before its range matters.
 inRange otherKind r = true
 
 -- The argument rows of an application.
@@ -84,7 +75,7 @@ rightOf S r = literalNamed S (fieldC r) (fieldD r)
 abbrev pub deletedOf : State → Record → Option (Derivation × Literal)
 deletedOf S r = literalNamed S (fieldA r) (fieldC r)
 
--- 5: every symbol, row, clause and literal named exists, and the number of arguments is the symbol's arity.
+-- 5: every symbol, row, clause and literal named exists, and the number of arguments is the symbol's arity. First its parts.
 abbrev pub isThere {ℓ} : {A : Type ℓ} → Option A → Bool
 isThere none = false
 isThere (some a) = true
@@ -97,16 +88,17 @@ abbrev pub allBelow : ℕ → List ℕ → Bool
 allBelow n [] = true
 allBelow n (a ∷ xs) = ltb a n && allBelow n xs
 
-abbrev pub allThere : State → Kind → Record → Bool
-allThere S symbolKind r = true
-allThere S variableKind r = true
-allThere S applicationKind r = hasArity (r .count) (arityOf S (fieldA r)) && allBelow (length (rowsOf S)) (argumentRows r)
-allThere S inputKind r = allBelow (length (rowsOf S)) (map (λ l. l .1) (inputLiterals r))
-allThere S resolveKind r = isThere (leftOf S r) && isThere (rightOf S r)
-allThere S factorKind r = isThere (leftOf S r) && isThere (deletedOf S r)
-allThere S otherKind r = true
+-- 5, of an application, of an input clause, and of a step.
+abbrev pub argumentsThere : State → Record → Bool
+argumentsThere S r = hasArity (r .count) (arityOf S (fieldA r)) && allBelow (length (rowsOf S)) (argumentRows r)
 
--- 6: the row differs from every earlier row in kind, byte 1 or a field.
+abbrev pub literalRowsThere : State → Record → Bool
+literalRowsThere S r = allBelow (length (rowsOf S)) (map (λ l. l .1) (inputLiterals r))
+
+abbrev pub bothThere : Option (Derivation × Literal) → Option (Derivation × Literal) → Bool
+bothThere x y = isThere x && isThere y
+
+-- The row that a record of kind 2 or 3 declares; records of other kinds declare none.
 abbrev pub newRow : Kind → Record → Row
 newRow variableKind r = variable (fieldA r)
 newRow applicationKind r = application (fieldA r) (argumentRows r)
@@ -116,6 +108,7 @@ newRow resolveKind r = application noSymbol []
 newRow factorKind r = application noSymbol []
 newRow otherKind r = application noSymbol []
 
+-- 6: the row differs from every earlier row.
 abbrev pub equalLists : List ℕ → List ℕ → Bool
 equalLists [] [] = true
 equalLists [] (y ∷ ys) = false
@@ -132,15 +125,6 @@ abbrev pub differsFromAll : Row → List Row → Bool
 differsFromAll w [] = true
 differsFromAll w (u ∷ us) = not (equalRows u w) && differsFromAll w us
 
-abbrev pub isNew : State → Kind → Record → Bool
-isNew S symbolKind r = true
-isNew S variableKind r = differsFromAll (newRow variableKind r) (rowsOf S)
-isNew S applicationKind r = differsFromAll (newRow applicationKind r) (rowsOf S)
-isNew S inputKind r = true
-isNew S resolveKind r = true
-isNew S factorKind r = true
-isNew S otherKind r = true
-
 -- 7: no literal's row is a variable.
 abbrev pub isApplication : Row → Bool
 isApplication (variable v) = false
@@ -150,16 +134,7 @@ abbrev pub allApplications : (ℕ → Row) → List RowLiteral → Bool
 allApplications row [] = true
 allApplications row (l ∷ ls) = isApplication (row (l .1)) && allApplications row ls
 
-abbrev pub onApplications : State → Kind → Record → Bool
-onApplications S symbolKind r = true
-onApplications S variableKind r = true
-onApplications S applicationKind r = true
-onApplications S inputKind r = allApplications (rowOf S) (inputLiterals r)
-onApplications S resolveKind r = true
-onApplications S factorKind r = true
-onApplications S otherKind r = true
-
--- 8: a resolve is on opposite signs; a factor is on equal signs and on two literals.
+-- 8: a resolve is on opposite signs; a factor is on equal signs and on two literals. No other kind compares signs.
 abbrev pub equalSigns : Bool → Bool → Bool
 equalSigns true b = b
 equalSigns false b = not b
@@ -171,35 +146,47 @@ onBoth test (some x) none = true
 onBoth test (some x) (some y) = test x y
 
 abbrev pub fittingSigns : State → Kind → Record → Bool
+fittingSigns S resolveKind r = onBoth (λ x y. not (equalSigns (x .1 .0) (y .1 .0))) (leftOf S r) (rightOf S r)
+fittingSigns S factorKind r = onBoth (λ x y. equalSigns (x .1 .0) (y .1 .0)) (leftOf S r) (deletedOf S r) && not (eqb (fieldB r) (fieldC r))
 fittingSigns S symbolKind r = true
 fittingSigns S variableKind r = true
 fittingSigns S applicationKind r = true
 fittingSigns S inputKind r = true
-fittingSigns S resolveKind r = onBoth (λ x y. not (equalSigns (x .1 .0) (y .1 .0))) (leftOf S r) (rightOf S r)
-fittingSigns S factorKind r = onBoth (λ x y. equalSigns (x .1 .0) (y .1 .0)) (leftOf S r) (deletedOf S r) && not (eqb (fieldB r) (fieldC r))
 fittingSigns S otherKind r = true
 
 -- 9: the result has at most 128 literals and a maximum index of at most 4,096. Neither depends on its bindings.
 abbrev pub resultFits : Derivation → Bool
 resultFits c = leb (length (literals c)) mostLiterals && leb (maximumIndex c) mostIndex
 
-abbrev pub withinLimits : State → Kind → Record → Bool
-withinLimits S symbolKind r = true
-withinLimits S variableKind r = true
-withinLimits S applicationKind r = true
-withinLimits S inputKind r = true
-withinLimits S resolveKind r = onBoth (λ x y. resultFits (resolve (nextClause S) (x .0) (fieldB r) (y .0) (fieldD r) [])) (leftOf S r) (rightOf S r)
-withinLimits S factorKind r = onBoth (λ x y. resultFits (factor (nextClause S) (x .0) (fieldB r) (fieldC r) [])) (leftOf S r) (deletedOf S r)
-withinLimits S otherKind r = true
+abbrev pub resolventFits : State → Record → Bool
+resolventFits S r = onBoth (λ x y. resultFits (resolve (nextClause S) (x .0) (fieldB r) (y .0) (fieldD r) [])) (leftOf S r) (rightOf S r)
 
--- The tests of a record, in the order of their numbers.
+abbrev pub factorFits : State → Record → Bool
+factorFits S r = onBoth (λ x y. resultFits (factor (nextClause S) (x .0) (fieldB r) (fieldC r) [])) (leftOf S r) (deletedOf S r)
+
+-- The tests that a record of each kind has, in the order of their numbers.
 abbrev pub tests : State → Kind → Record → List (Bool × Reason)
-tests S kind r =
-    (knownKind kind, badKind)
-    ∷ (inRange kind r, outOfRange)
-    ∷ (allThere S kind r, notThere)
-    ∷ (isNew S kind r, repeatedRow)
-    ∷ (onApplications S kind r, variableLiteral)
-    ∷ (fittingSigns S kind r, wrongSigns)
-    ∷ (withinLimits S kind r, tooLarge)
-    ∷ []
+tests S symbolKind r = (inRange symbolKind r, outOfRange) ∷ []
+tests S variableKind r =
+    (inRange variableKind r, outOfRange)
+    ∷ (differsFromAll (newRow variableKind r) (rowsOf S), repeatedRow) ∷ []
+tests S applicationKind r =
+    (inRange applicationKind r, outOfRange)
+    ∷ (argumentsThere S r, notThere)
+    ∷ (differsFromAll (newRow applicationKind r) (rowsOf S), repeatedRow) ∷ []
+tests S inputKind r =
+    (inRange inputKind r, outOfRange)
+    ∷ (literalRowsThere S r, notThere)
+    ∷ (allApplications (rowOf S) (inputLiterals r), variableLiteral) ∷ []
+tests S resolveKind r =
+    (inRange resolveKind r, outOfRange)
+    ∷ (bothThere (leftOf S r) (rightOf S r), notThere)
+    ∷ (fittingSigns S resolveKind r, wrongSigns)
+    ∷ (resolventFits S r, tooLarge) ∷ []
+tests S factorKind r =
+    (inRange factorKind r, outOfRange)
+    ∷ (bothThere (leftOf S r) (deletedOf S r), notThere)
+    ∷ (fittingSigns S factorKind r, wrongSigns)
+    ∷ (factorFits S r, tooLarge) ∷ []
+-- 3: the kind is none of these.
+tests S otherKind r = (false, badKind) ∷ []

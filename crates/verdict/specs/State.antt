@@ -15,8 +15,9 @@ pub record State : Type 0 where
   pub rows : List (ℕ × Row)
   pub clauses : List (ℕ × Derivation)
 
-abbrev pub start : State
-start = record { symbols = []; rows = []; clauses = [] }
+-- Before any record.
+abbrev pub emptyState : State
+emptyState = record { symbols = []; rows = []; clauses = [] }
 
 abbrev pub withSymbol : State → ℕ → ℕ → State
 withSymbol S k arity = record { symbols = (k, arity) ∷ S .symbols; rows = S .rows; clauses = S .clauses }

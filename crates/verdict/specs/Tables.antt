@@ -1,14 +1,12 @@
 -- Document 01, "Verdict, tables and refusals": the four tables as the check leaves them.
-use mathlib.Core.Bool.{_&&_}
 use mathlib.Core.List.{List, [], _∷_, _++_, map, reverse}
 use Prim.Native.Nat.{ℕ, _-_}
 use lib.ListN.{length, drop, replicate}
-use Rattle.record.specs.Record.{pick}
 use Rattle.unification.specs.Environment.{Binding}
 use Rattle.derivation.specs.Derivation.{literals, Derivation, maximumIndex, ownBindings}
 use Rattle.verdict.specs.State.{State, derivations, bindingsOf}
 use Rattle.verdict.specs.Step.{stateOf}
-use Rattle.verdict.specs.Verdict.{Lengths, named, longEnough, fittingLength, ending}
+use Rattle.verdict.specs.Verdict.{Lengths, named, Reading, untouched, readTo, reading}
 
 -- The tables, as lists of cells.
 pub record Tables : Type 0 where
@@ -56,7 +54,10 @@ filledTables S t = record {
   bindings = filled (named .bindings) (bindingCells (derivations S)) (t .bindings);
 }
 
--- The tables after the check: untouched for reasons 1 and 2.
+-- The tables after the check: untouched where no record was read, else filled with what the records read have left.
+abbrev pub tablesGiven : Reading → Tables → Tables
+tablesGiven (untouched reason) t = t
+tablesGiven (readTo e) t = filledTables (stateOf e) t
+
 unfoldable pub tablesAfter : List ℕ → Tables → Tables
-tablesAfter file t =
-    pick (fittingLength (length file) && longEnough (lengthsOf t)) (filledTables (stateOf (ending file)) t) t
+tablesAfter file t = tablesGiven (reading file (lengthsOf t)) t

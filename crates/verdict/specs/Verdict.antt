@@ -1,4 +1,5 @@
 -- Document 01, "Verdict, tables and refusals": the answer to a whole file.
+use mathlib.Core.Path.{_≡_}
 use mathlib.Core.Bool.{Bool, true, false, _&&_}
 use mathlib.Core.Option.{Option, none, some}
 use mathlib.Core.List.{List, [], _∷_, _++_}
@@ -8,17 +9,17 @@ use lib.ListN.{length}
 use Rattle.record.specs.Record.{pick, records}
 use Rattle.derivation.specs.Derivation.{literals, Derivation}
 use Rattle.verdict.specs.Refusal.{Reason, badLength, shortTable, reasonNumber}
-use Rattle.verdict.specs.State.{State, start, derivations, held}
+use Rattle.verdict.specs.State.{State, emptyState, derivations, held}
 use Rattle.verdict.specs.Step.{read, Ending, allStand, refusedAt, stateOf}
 
 -- The verdict, with its numbers: 0 open; 1 accepted, and the clause; 2 refused, the reason and the record.
 pub data Verdict : Type 0 where
   accepted : ℕ → Verdict
-  undecided : Verdict
+  open′ : Verdict
   refusal : Reason → ℕ → Verdict
 
 abbrev pub verdictNumbers : Verdict → List ℕ
-verdictNumbers undecided = 0 ∷ 0 ∷ 0 ∷ []
+verdictNumbers open′ = 0 ∷ 0 ∷ 0 ∷ []
 verdictNumbers (accepted n) = 1 ∷ n ∷ 0 ∷ []
 verdictNumbers (refusal reason k) = 2 ∷ reasonNumber reason ∷ k ∷ []
 
@@ -34,21 +35,26 @@ pub record Answer : Type 0 where
 abbrev pub answerNumbers : Answer → List ℕ
 answerNumbers a = verdictNumbers (a .verdict) ++ (a .symbols ∷ a .rows ∷ a .clauses ∷ a .bindings ∷ [])
 
--- The lowest number of a clause without literals.
+-- A list without elements.
 abbrev pub isEmpty {ℓ} : {A : Type ℓ} → List A → Bool
 isEmpty [] = true
 isEmpty (x ∷ xs) = false
 
-abbrev pub firstEmpty : List Derivation → Option ℕ
-firstEmpty [] = none
-firstEmpty (c ∷ cs) = elim (firstEmpty cs) [ some n ↦ some n | none ↦ pick (isEmpty (literals c)) (some (length cs)) none ]
+-- The lowest clause number that has no literals, among the clauses whose derivation passes the test.
+abbrev pub firstEmpty : (Derivation → Bool) → List Derivation → Option ℕ
+firstEmpty test [] = none
+firstEmpty test (c ∷ cs) = elim (firstEmpty test cs) [ some n ↦ some n | none ↦ pick (test c && isEmpty (literals c)) (some (length cs)) none ]
+
+-- Every derivation may make a file accepted.
+abbrev pub everyClause : Derivation → Bool
+everyClause c = true
 
 abbrev pub standing : Option ℕ → Verdict
-standing none = undecided
+standing none = open′
 standing (some n) = accepted n
 
 abbrev pub verdictOf : Ending → Verdict
-verdictOf (allStand S) = standing (firstEmpty (derivations S))
+verdictOf (allStand S) = standing (firstEmpty everyClause (derivations S))
 verdictOf (refusedAt S reason k) = refusal reason k
 
 abbrev pub answerOf : Verdict → State → Answer
@@ -68,19 +74,40 @@ abbrev pub longEnough : Lengths → Bool
 longEnough n =
     leb (named .symbols) (n .symbols) && leb (named .rows) (n .rows) && leb (named .clauses) (n .clauses) && leb (named .bindings) (n .bindings)
 
--- 1: the length is at most 65,536 and a multiple of 16.
+-- The length is at most 65,536 and a multiple of 16.
 abbrev pub fittingLength : ℕ → Bool
 fittingLength n = leb n 65536 && eqb (n % 16) 0
 
 -- The whole file is read, also after an empty clause; only a refusal ends the reading.
 unfoldable pub ending : List ℕ → Ending
-ending file = read start 0 (records file)
+ending file = read emptyState 0 (records file)
+
+-- The file stands and leaves S: its length fits, and every record of it stands. Tables do not come in: the check refuses a file that
+-- stands only where a table is too short, and one that it does not refuse stands.
+pub record Stands (file : List ℕ) (S : State) : Type 0 where
+  pub fits : fittingLength (length file) ≡ true
+  pub reads : ending file ≡ allStand S
+
+-- What becomes of a file: it is refused before any record, with 1 or 2, and nothing is touched; or its records are read.
+pub data Reading : Type 0 where
+  untouched : Reason → Reading
+  readTo : Ending → Reading
 
 -- 1 comes before 2, and both before any record.
-unfoldable pub check : List ℕ → Lengths → Answer
-check file lengths =
+abbrev pub reading : List ℕ → Lengths → Reading
+reading file lengths =
     pick (fittingLength (length file))
-    (pick (longEnough lengths)
-    (answerOf (verdictOf (ending file)) (stateOf (ending file)))
-    (answerOf (refusal shortTable 0) start))
-    (answerOf (refusal badLength 0) start)
+    (pick (longEnough lengths) (readTo (ending file)) (untouched shortTable))
+    (untouched badLength)
+
+-- The verdict, and the state that the records read have left.
+abbrev pub verdictGiven : Reading → Verdict
+verdictGiven (untouched reason) = refusal reason 0
+verdictGiven (readTo e) = verdictOf e
+
+abbrev pub stateGiven : Reading → State
+stateGiven (untouched reason) = emptyState
+stateGiven (readTo e) = stateOf e
+
+unfoldable pub check : List ℕ → Lengths → Answer
+check file lengths = answerOf (verdictGiven (reading file lengths)) (stateGiven (reading file lengths))

@@ -1,0 +1,144 @@
+-- Document 01, "Verdict, tables and refusals": the condition stated for each number of the table, in the paper's words, by quantifiers.
+-- Nothing here goes by the tests of `Refusal`; that the check refuses exactly where a condition holds is part of demand 2.
+use mathlib.Core.Path.{_≡_}
+use mathlib.Core.Logic.{_⊎_}
+use mathlib.Core.Option.{some}
+use mathlib.Core.List.{List, [], _∷_}
+use Prim.Native.Nat.{ℕ, _+_, _/_, _%_, _≤_, _<_}
+use lib.Dec.{leb}
+use lib.ListN.{length, getD}
+use Rattle.record.specs.Record.{Record, fieldA, fieldB, fieldC, fieldD}
+use Rattle.unification.specs.Environment.{Environment}
+use Rattle.unification.specs.Failing.{Failing}
+use Rattle.unification.specs.Row.{variable}
+use Rattle.unification.specs.Unification.{mostLinks, Failure, clash, occurs, overwork, full, Pair, unifying}
+use Rattle.derivation.specs.Derivation.{literals, Literal, Derivation, numbered, without, raise, maximumIndex, joined, lookup}
+use Rattle.verdict.specs.State.{State, arityOf, clauseOf, rowOf, held}
+use Rattle.verdict.specs.Tables.{Tables}
+
+-- x is an element of a list.
+abbrev pub OneOf : {A : Type 0} → A → List A → Type 0
+OneOf x [] = ⊥
+OneOf x (y ∷ ys) = (x ≡ y) ⊎ OneOf x ys
+
+-- Field number i of a record, from 0 for field a.
+abbrev pub fieldNumbered : Record → ℕ → ℕ
+fieldNumbered r i = getD (r .fields) i 0
+
+-- 1: length over 65,536 or not a multiple of 16.
+pub data LengthUnfit (file : List ℕ) : Type 0 where
+  lengthOver : 65536 < length file → LengthUnfit file
+  notMultiple : ¬ (length file % 16 ≡ 0) → LengthUnfit file
+
+-- 2: a table too short.
+pub data TableShort (tables : Tables) : Type 0 where
+  symbolsShort : length (tables .symbols) < 4096 → TableShort tables
+  rowsShort : length (tables .rows) < 4096 → TableShort tables
+  clausesShort : length (tables .clauses) < 20480 → TableShort tables
+  bindingsShort : length (tables .bindings) < 32768 → TableShort tables
+
+-- "The file", the table of kinds: byte 1 goes up to `most`, and fields from number `used` on are unused.
+pub data Layout (r : Record) : (most used : ℕ) → Type 0 where
+  ofSymbol : r .kind ≡ 1 → Layout r 6 0
+  ofVariable : r .kind ≡ 2 → Layout r 0 1
+  ofApplication : r .kind ≡ 3 → Layout r 6 (1 + r .count)
+  ofInput : r .kind ≡ 4 → Layout r 7 (r .count)
+  ofResolve : r .kind ≡ 5 → Layout r 0 4
+  ofFactor : r .kind ≡ 6 → Layout r 0 3
+
+-- 4: byte 1 or variable number out of its range, or an unused field not zero.
+pub data OutOfRange (r : Record) : Type 0 where
+  countOver : {most used : ℕ} → Layout r most used → most < r .count → OutOfRange r
+  variableOver : r .kind ≡ 2 → 63 < fieldA r → OutOfRange r
+  unusedField : {most used : ℕ} → Layout r most used → (i : ℕ) → used ≤ i → ¬ (fieldNumbered r i ≡ 0) → OutOfRange r
+
+-- The clauses and literals that a step names: in a resolve those of a, b and of c, d; in a factor those of a, b and of a, c.
+pub data Names (r : Record) : (clause literal : ℕ) → Type 0 where
+  leftLiteral : r .kind ≡ 5 → Names r (fieldA r) (fieldB r)
+  rightLiteral : r .kind ≡ 5 → Names r (fieldC r) (fieldD r)
+  keptLiteral : r .kind ≡ 6 → Names r (fieldA r) (fieldB r)
+  deletedLiteral : r .kind ≡ 6 → Names r (fieldA r) (fieldC r)
+
+-- 5: a symbol, row, clause or literal that does not exist, or an argument count that is not the symbol's arity. Numbers start at 0, those
+-- of literals at 1.
+pub data NotThere (S : State) (r : Record) : Type 0 where
+  noSymbolThere : r .kind ≡ 3 → length (S .symbols) ≤ fieldA r → NotThere S r
+  otherArity : {n : ℕ} → r .kind ≡ 3 → arityOf S (fieldA r) ≡ some n → ¬ (r .count ≡ n) → NotThere S r
+  noArgumentRow : r .kind ≡ 3 → (i : ℕ) → 1 ≤ i → i ≤ r .count → length (S .rows) ≤ fieldNumbered r i → NotThere S r
+  noLiteralRow : r .kind ≡ 4 → (i : ℕ) → i < r .count → length (S .rows) ≤ fieldNumbered r i / 2 → NotThere S r
+  noClause : {c n : ℕ} → Names r c n → length (S .clauses) ≤ c → NotThere S r
+  noLiteral : {c n : ℕ} {d : Derivation} → Names r c n → clauseOf S c ≡ some d → (n ≡ 0) ⊎ (length (literals d) < n) → NotThere S r
+
+-- 6: a row equal to an earlier row in kind, byte 1 and every field.
+pub record RowRepeated (earlier : List Record) (r : Record) : Type 0 where
+  pub isRow : (r .kind ≡ 2) ⊎ (r .kind ≡ 3)
+  pub other : Record
+  pub isEarlier : OneOf other earlier
+  pub sameKind : other .kind ≡ r .kind
+  pub sameCount : other .count ≡ r .count
+  pub sameFields : (i : ℕ) → fieldNumbered other i ≡ fieldNumbered r i
+
+-- 7: a literal whose row is a variable.
+pub record LiteralOnVariable (S : State) (r : Record) : Type 0 where
+  pub isInput : r .kind ≡ 4
+  pub literal : ℕ
+  pub isLiteral : literal < r .count
+  pub number : ℕ
+  pub onVariable : rowOf S (fieldNumbered r literal / 2) ≡ variable number
+
+-- A resolve on literals that exist, and a factor on such.
+pub record Resolves (S : State) (r : Record) (left right : Derivation) (l m : Literal) : Type 0 where
+  pub isResolve : r .kind ≡ 5
+  pub isLeft : clauseOf S (fieldA r) ≡ some left
+  pub isLeftLiteral : numbered (literals left) (fieldB r) ≡ some l
+  pub isRight : clauseOf S (fieldC r) ≡ some right
+  pub isRightLiteral : numbered (literals right) (fieldD r) ≡ some m
+
+pub record Factors (S : State) (r : Record) (parent : Derivation) (l m : Literal) : Type 0 where
+  pub isFactor : r .kind ≡ 6
+  pub isParent : clauseOf S (fieldA r) ≡ some parent
+  pub isKept : numbered (literals parent) (fieldB r) ≡ some l
+  pub isDeleted : numbered (literals parent) (fieldC r) ≡ some m
+
+-- 8: resolve on equal signs; factor on opposite signs or on one literal twice.
+pub data SignsUnfit (S : State) (r : Record) : Type 0 where
+  equalInResolve : {left right : Derivation} {l m : Literal} → Resolves S r left right l m → l .0 ≡ m .0 → SignsUnfit S r
+  oppositeInFactor : {parent : Derivation} {l m : Literal} → Factors S r parent l m → ¬ (l .0 ≡ m .0) → SignsUnfit S r
+  oneLiteralTwice : r .kind ≡ 6 → fieldB r ≡ fieldC r → SignsUnfit S r
+
+-- 9: result of over 128 literals or maximum index over 4,096.
+pub data ResultOver (S : State) (r : Record) : Type 0 where
+  resolventLiterals : {left right : Derivation} {l m : Literal} → Resolves S r left right l m
+      → 128 < length (without (literals left) (fieldB r)) + length (without (literals right) (fieldD r)) → ResultOver S r
+  resolventIndex : {left right : Derivation} {l m : Literal} → Resolves S r left right l m → 4096 < maximumIndex left + maximumIndex right → ResultOver S r
+  factorLiterals : {parent : Derivation} {l m : Literal} → Factors S r parent l m → 128 < length (without (literals parent) (fieldC r)) → ResultOver S r
+  factorIndex : {parent : Derivation} {l m : Literal} → Factors S r parent l m → 4096 < maximumIndex parent → ResultOver S r
+
+-- 10 to 13: unification of the two literals, in the parents' environments as one, fails as `Failing` states it: with 16,384 units of work,
+-- and room for bindings while fewer than 8,192 are held, those of earlier clauses included.
+abbrev pub Fails : State → Environment → List Pair → Failure → Type 0
+Fails S ρ pairs f = Failing (rowOf S) mostLinks (λ bs. leb 8192 (held S + length bs)) ρ 16384 (unifying [] pairs) f
+
+pub data StepFails (S : State) (r : Record) (f : Failure) : Type 0 where
+  resolveFails : {left right : Derivation} {l m : Literal} → Resolves S r left right l m
+      → Fails S (joined (maximumIndex left) (lookup left) (lookup right)) ((l .1, raise (maximumIndex left) (m .1)) ∷ []) f → StepFails S r f
+  factorFails : {parent : Derivation} {l m : Literal} → Factors S r parent l m → Fails S (lookup parent) ((l .1, m .1) ∷ []) f → StepFails S r f
+
+-- The conditions of a record, by their numbers. `earlier` are the records before it in the file, and S is the state that they leave.
+pub data Condition (earlier : List Record) (S : State) (r : Record) : ℕ → Type 0 where
+  -- kind not 1 to 6
+  unknownKind : (r .kind < 1) ⊎ (6 < r .kind) → Condition earlier S r 3
+  outsideRange : OutOfRange r → Condition earlier S r 4
+  nothingThere : NotThere S r → Condition earlier S r 5
+  rowAgain : RowRepeated earlier r → Condition earlier S r 6
+  variableAsLiteral : LiteralOnVariable S r → Condition earlier S r 7
+  unfitSigns : SignsUnfit S r → Condition earlier S r 8
+  largeResult : ResultOver S r → Condition earlier S r 9
+  -- symbols differ
+  clashing : StepFails S r clash → Condition earlier S r 10
+  -- the variable occurs in what it would be bound to
+  occurring : StepFails S r occurs → Condition earlier S r 11
+  -- work 16,385 would begin
+  overworking : StepFails S r overwork → Condition earlier S r 12
+  -- a binding is to be added and 8,192 are held
+  overfull : StepFails S r full → Condition earlier S r 13
