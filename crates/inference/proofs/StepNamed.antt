@@ -23,7 +23,7 @@ use Rattle.verdict.proofs.Inversions.{literal-named}
 use Rattle.inference.proofs.StepEnds.{step-ended}
 use Rattle.inference.proofs.StepLaws.{index-of, literals-of}
 use Rattle.inference.proofs.StepTests.{Step, refuse, index-small, literals-small, resolve-kind, factor-kind, step-tests}
-use Rattle.pairs.specs.declared.Unified.{Unified}
+use Rattle.unify.specs.declared.Unified.{Unified}
 use Rattle.entry.specs.declared.entry.Counts.{Counts}
 use Rattle.entry.specs.declared.entry.Entered.{Entered}
 use Rattle.entry.specs.declared.entry.Entered.the-variants.{Refused}

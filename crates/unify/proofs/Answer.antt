@@ -10,10 +10,10 @@ use Rattle.unification.specs.Nodes.{nodeRow}
 use Rattle.unification.specs.Row.{Expression}
 use Rattle.unification.specs.Unification.{unify, mostWork, mostLinks, failureNumber, unified, failed, unifying, noRoom, run}
 use Rattle.unify.specs.Unifying.{outcomeOf, Facing, Ready, Counted, Answered}
-use Rattle.pairs.specs.Pairs.{failureOf, Filed, outcomeOnto, Stand, Stands, Paired}
+use Rattle.unify.specs.Pairs.{failureOf, Filed, outcomeOnto, Stand, Stands, Paired}
 use Rattle.following.proofs.Machine.{whole}
-use Rattle.pairs.specs.declared.Unified.{Unified}
-use Rattle.pairs.specs.declared.Unified.the-variants.{Done, Refused}
+use Rattle.unify.specs.declared.Unified.{Unified}
+use Rattle.unify.specs.declared.Unified.the-variants.{Done, Refused}
 
 onto-nothing : (u : Unified) (B : List ℕ) (held : ℕ) → outcomeOnto u B held [] ≡ outcomeOf B held u
 onto-nothing (Done w h) B held = ap (λ (bs : List Binding). unified bs w) (append-nil (bindingsFrom B held (h - held)))

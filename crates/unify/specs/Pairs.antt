@@ -1,4 +1,4 @@
--- The contracts of the walk over pairs. What unification promises its callers is in `Unifying` of the crate unify; this file only says
+-- The contracts of the walk over pairs. What unification promises its callers is in `Unifying`; this file only says
 -- how the parts of the program fit together. Each contract is stated for every environment that the array stands for, and for every
 -- rest of the machine's task.
 use mathlib.Core.Path.{_≡_}
@@ -17,10 +17,10 @@ use Rattle.unification.specs.Unification.{mostLinks, failureNumber, Failure, cl
 use Rattle.unification.specs.Values.{InStep, Models}
 use Rattle.following.specs.declared.follow.Followed.{Followed}
 use Rattle.following.specs.declared.follow.Followed.the-variants.{Variable, Application}
-use Rattle.pairs.specs.declared.Meeting.{Meeting}
-use Rattle.pairs.specs.declared.Meeting.the-variants.{Bind, Nothing, Clash, Arguments}
-use Rattle.pairs.specs.declared.Unified.{Unified}
-use Rattle.pairs.specs.declared.Unified.the-variants.{Done, Refused}
+use Rattle.unify.specs.declared.pairs.Meeting.{Meeting}
+use Rattle.unify.specs.declared.pairs.Meeting.the-variants.{Bind, Nothing, Clash, Arguments}
+use Rattle.unify.specs.declared.Unified.{Unified}
+use Rattle.unify.specs.declared.Unified.the-variants.{Done, Refused}
 use Rattle.following.specs.Walks.{Tested, PairRuns, ArgumentsRun, TestRuns, bindOutcome}
 
 -- The failures by the numbers of document 01's table.

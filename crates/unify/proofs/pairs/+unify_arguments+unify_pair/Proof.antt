@@ -4,46 +4,46 @@ use mathlib.Core.Path.{_≡_, refl, _∙_}
 use native.Mathlib.Omega.{arith}
 use lib.ListN.{length}
 use Rattle.unification.specs.Bindings.{Added}
-use Rattle.pairs.specs.Pairs.{Matched}
-use Rattle.pairs.proofs.BindingsAdded.{added-none, added-as-below, added-then, added-below}
-use Rattle.pairs.proofs.PairWalk.{leaves-less, less-done, no-more-done, filed-done, filed-refused, filed-then, paired-spent, paired-nothing, paired-clashing, paired-bind, paired-refused, meets-last, Pursued, pursued-start, pursued-then, pursued-next, match-start, match-last, match-refused, match-next}
+use Rattle.unify.specs.Pairs.{Matched}
+use Rattle.unify.proofs.BindingsAdded.{added-none, added-as-below, added-then, added-below}
+use Rattle.unify.proofs.PairWalk.{leaves-less, less-done, no-more-done, filed-done, filed-refused, filed-then, paired-spent, paired-nothing, paired-clashing, paired-bind, paired-refused, meets-last, Pursued, pursued-start, pursued-then, pursued-next, match-start, match-last, match-refused, match-next}
 use Prim.Native.Nat.{ℕ, _+_, _-_, _*_, _≤_, _<_}
 use borrow.Author.Needs.{needs}
 use borrow.Fn.Kinds.{In}
 use borrow.Fn.PlainCycle.{Measures, is, falls, and}
-use Rattle.pairs.proofs.unify_before.Reads as unify-before
-use Rattle.pairs.proofs.unify_before.Kinds as unify-before-kinds
-use Rattle.pairs.proofs.+unify_before+unify_pair.Lts-unify_before as unify-before-lts
-use Rattle.pairs.proofs.unify_pair.Reads as unify-pair
-use Rattle.pairs.proofs.unify_pair.Kinds as unify-pair-kinds
-use Rattle.pairs.proofs.+unify_before+unify_pair.Lts-unify_pair as unify-pair-lts
+use Rattle.unify.proofs.pairs.unify_arguments.Reads as unify-arguments
+use Rattle.unify.proofs.pairs.unify_arguments.Kinds as unify-arguments-kinds
+use Rattle.unify.proofs.pairs.+unify_arguments+unify_pair.Lts-unify_arguments as unify-arguments-lts
+use Rattle.unify.proofs.pairs.unify_pair.Reads as unify-pair
+use Rattle.unify.proofs.pairs.unify_pair.Kinds as unify-pair-kinds
+use Rattle.unify.proofs.pairs.+unify_arguments+unify_pair.Lts-unify_pair as unify-pair-lts
 use Rattle.following.proofs.follow.follow.Reads as follow-reads
 use Rattle.following.proofs.nodes.arity_of.Reads as arity-of-reads
 use Rattle.following.proofs.nodes.part_of.Reads as part-of-reads
-use Rattle.pairs.proofs.bind.Reads as bind-reads
-use Rattle.pairs.proofs.meet.Reads as meet-reads
-use Rattle.pairs.proofs.+unify_before+unify_pair.{statement}
-use Rattle.pairs.proofs.+unify_before+unify_pair.Tie.{close}
+use Rattle.unify.proofs.pairs.bind.Reads as bind-reads
+use Rattle.unify.proofs.pairs.meet.Reads as meet-reads
+use Rattle.unify.proofs.pairs.+unify_arguments+unify_pair.{statement}
+use Rattle.unify.proofs.pairs.+unify_arguments+unify_pair.Tie.{close}
 
-abbrev μ-unify-before : Measures 3 unify-before-kinds.ps ℕ
-μ-unify-before κs a =
+abbrev μ-unify-arguments : Measures 3 unify-arguments-kinds.ps ℕ
+μ-unify-arguments κs a =
     2 * a .1 .1 .1 .1 .1 .1 .1 .1 .1 .0 + 1
 
 abbrev μ-unify-pair : Measures 3 unify-pair-kinds.ps ℕ
 μ-unify-pair κs a =
     2 * a .1 .1 .1 .1 .1 .1 .1 .1 .0
 
-abbrev unify-before-at : ℕ → In 3 unify-before-kinds.ps
-unify-before-at t =
-    and 3 unify-before-kinds.ps (is 3 unify-before-kinds.ps μ-unify-before t) unify-before.Pre
+abbrev unify-arguments-at : ℕ → In 3 unify-arguments-kinds.ps
+unify-arguments-at t =
+    and 3 unify-arguments-kinds.ps (is 3 unify-arguments-kinds.ps μ-unify-arguments t) unify-arguments.Pre
 
-abbrev unify-before-below : ℕ → In 3 unify-before-kinds.ps
-unify-before-below t =
+abbrev unify-arguments-below : ℕ → In 3 unify-arguments-kinds.ps
+unify-arguments-below t =
     and
     3
-    unify-before-kinds.ps
-    (falls 3 unify-before-kinds.ps _<_ μ-unify-before t)
-    unify-before.Pre
+    unify-arguments-kinds.ps
+    (falls 3 unify-arguments-kinds.ps _<_ μ-unify-arguments t)
+    unify-arguments.Pre
 
 abbrev unify-pair-at : ℕ → In 3 unify-pair-kinds.ps
 unify-pair-at t =
@@ -53,71 +53,71 @@ abbrev unify-pair-below : ℕ → In 3 unify-pair-kinds.ps
 unify-pair-below t =
     and 3 unify-pair-kinds.ps (falls 3 unify-pair-kinds.ps _<_ μ-unify-pair t) unify-pair.Pre
 
-abbrev unify-before-Inv-loop : unify-before-lts.InvT-loop
-unify-before-Inv-loop nodes values₀ bindings₀ held f a g b last work n₀ left₀ total₀ values bindings n left total =
+abbrev unify-arguments-Inv-loop : unify-arguments-lts.InvT-loop
+unify-arguments-Inv-loop nodes values₀ bindings₀ held f a g b last work n₀ left₀ total₀ values bindings n left total =
     (length values ≡ 524416) × (length bindings ≡ length bindings₀) × (left ≤ work) × (1 ≤ n) × (n ≤ last) × Added bindings₀ bindings held total × Matched nodes values₀ values bindings₀ bindings held f a g b work n (last + 1 - n) left total
 
-abbrev unify-before-μ-loop : unify-before-lts.MeasureT-loop
-unify-before-μ-loop nodes values₀ bindings₀ held f a g b last work n₀ left₀ total₀ values bindings n left total =
+abbrev unify-arguments-μ-loop : unify-arguments-lts.MeasureT-loop
+unify-arguments-μ-loop nodes values₀ bindings₀ held f a g b last work n₀ left₀ total₀ values bindings n left total =
     last - n
 
--- what the callees of `unify-before` say, its own calls below t
-abbrev unify-before-told : ℕ → unify-before-lts.Claims
-unify-before-told t = (part-of-reads.Asked, part-of-reads.Learnt, unify-pair-below t, unify-pair.Post)
+-- what the callees of `unify-arguments` say, its own calls below t
+abbrev unify-arguments-told : ℕ → unify-arguments-lts.Claims
+unify-arguments-told t = (part-of-reads.Asked, part-of-reads.Learnt, unify-pair-below t, unify-pair.Post)
 
 -- what the callees of `unify-pair` say, its own calls below t
 abbrev unify-pair-told : ℕ → unify-pair-lts.Claims
-unify-pair-told t = (follow-reads.Asked, follow-reads.Learnt, meet-reads.Asked, meet-reads.Learnt, bind-reads.Asked, bind-reads.Learnt, arity-of-reads.Asked, arity-of-reads.Learnt, part-of-reads.Asked, part-of-reads.Learnt, unify-before-below t, unify-before.Post)
+unify-pair-told t = (follow-reads.Asked, follow-reads.Learnt, meet-reads.Asked, meet-reads.Learnt, bind-reads.Asked, bind-reads.Learnt, arity-of-reads.Asked, arity-of-reads.Learnt, part-of-reads.Asked, part-of-reads.Learnt, unify-arguments-below t, unify-arguments.Post)
 
-unify-before-loop-holds : (t : ℕ) → unify-before-lts.Need-loop-holds (unify-before-told t) (unify-before-at t) unify-before.Post unify-before-Inv-loop unify-before-μ-loop
-unify-before-loop-holds t c =
+unify-arguments-loop-holds : (t : ℕ) → unify-arguments-lts.Need-loop-holds (unify-arguments-told t) (unify-arguments-at t) unify-arguments.Post unify-arguments-Inv-loop unify-arguments-μ-loop
+unify-arguments-loop-holds t c =
     (c .before .pre .1 .0 .1, refl, omega arith, omega arith, c .before .pre .1 .1 .1, added-none _ _, match-start _ _ _ _ _ _ _ _ _ (c .before .args .last + 1 - 1) (omega (arith, c .before .pre .1 .1 .0)))
 
-unify-before-part-of-requires : (t : ℕ) → unify-before-lts.Need-part-of-requires (unify-before-told t) (unify-before-at t) unify-before.Post unify-before-Inv-loop unify-before-μ-loop
-unify-before-part-of-requires t c κs =
+unify-arguments-part-of-requires : (t : ℕ) → unify-arguments-lts.Need-part-of-requires (unify-arguments-told t) (unify-arguments-at t) unify-arguments.Post unify-arguments-Inv-loop unify-arguments-μ-loop
+unify-arguments-part-of-requires t c κs =
     c .before .before .before .pre .1 .0 .0
 
-unify-before-part-of-requires-2 : (t : ℕ) → unify-before-lts.Need-part-of-requires-2 (unify-before-told t) (unify-before-at t) unify-before.Post unify-before-Inv-loop unify-before-μ-loop
-unify-before-part-of-requires-2 t c κs =
+unify-arguments-part-of-requires-2 : (t : ℕ) → unify-arguments-lts.Need-part-of-requires-2 (unify-arguments-told t) (unify-arguments-at t) unify-arguments.Post unify-arguments-Inv-loop unify-arguments-μ-loop
+unify-arguments-part-of-requires-2 t c κs =
     c .before .before .before .before .pre .1 .0 .0
 
-unify-before-unify-pair-requires : (t : ℕ) → unify-before-lts.Need-unify-pair-requires (unify-before-told t) (unify-before-at t) unify-before.Post unify-before-Inv-loop unify-before-μ-loop
-unify-before-unify-pair-requires t c κs =
+unify-arguments-unify-pair-requires : (t : ℕ) → unify-arguments-lts.Need-unify-pair-requires (unify-arguments-told t) (unify-arguments-at t) unify-arguments.Post unify-arguments-Inv-loop unify-arguments-μ-loop
+unify-arguments-unify-pair-requires t c κs =
     (omega (arith, c .before .before .before .before .before .before .before .pre .0, c .before .before .before .before .before .loop .inv .2), (c .before .before .before .before .before .before .before .pre .1 .0 .0, c .before .before .before .before .before .loop .inv .0))
 
-unify-before-enum-known-w : (t : ℕ) → unify-before-lts.Need-enum-known-w (unify-before-told t) (unify-before-at t) unify-before.Post unify-before-Inv-loop unify-before-μ-loop
-unify-before-enum-known-w t c = search needs
+unify-arguments-enum-known-w : (t : ℕ) → unify-arguments-lts.Need-enum-known-w (unify-arguments-told t) (unify-arguments-at t) unify-arguments.Post unify-arguments-Inv-loop unify-arguments-μ-loop
+unify-arguments-enum-known-w t c = search needs
 
-unify-before-enum-known-q : (t : ℕ) → unify-before-lts.Need-enum-known-q (unify-before-told t) (unify-before-at t) unify-before.Post unify-before-Inv-loop unify-before-μ-loop
-unify-before-enum-known-q t c = search needs
+unify-arguments-enum-known-q : (t : ℕ) → unify-arguments-lts.Need-enum-known-q (unify-arguments-told t) (unify-arguments-at t) unify-arguments.Post unify-arguments-Inv-loop unify-arguments-μ-loop
+unify-arguments-enum-known-q t c = search needs
 
-unify-before-same-length : (t : ℕ) → unify-before-lts.Need-same-length (unify-before-told t) (unify-before-at t) unify-before.Post unify-before-Inv-loop unify-before-μ-loop
-unify-before-same-length t c = search needs
+unify-arguments-same-length : (t : ℕ) → unify-arguments-lts.Need-same-length (unify-arguments-told t) (unify-arguments-at t) unify-arguments.Post unify-arguments-Inv-loop unify-arguments-μ-loop
+unify-arguments-same-length t c = search needs
 
-unify-before-returns : (t : ℕ) → unify-before-lts.Need-returns (unify-before-told t) (unify-before-at t) unify-before.Post unify-before-Inv-loop unify-before-μ-loop
-unify-before-returns t c =
+unify-arguments-returns : (t : ℕ) → unify-arguments-lts.Need-returns (unify-arguments-told t) (unify-arguments-at t) unify-arguments.Post unify-arguments-Inv-loop unify-arguments-μ-loop
+unify-arguments-returns t c =
     let l = c .before .before .before .before .before .before .before .before .before .before .before .loop in
     let k = filed-refused _ _ (l .total) _ _ (c .before .q .given .1) (c .before .before .before .before .before .unify-pair .ensures .1 .0) in
     (match-refused _ _ _ _ _ _ _ _ _ _ _ (l .n) _ (l .left) (l .total) (l .inv .6) (omega (arith, c .before .before .before .before .before .before .before .before .before .before .loop-test .taken)) (l .inv .3) (omega (arith, c .before .before .before .before .before .before .before .before .before .before .before .before .before .pre .1 .1 .0, l .inv .4)) _ _ (c .before .before .before .before .before .before .before .before .before .part-of .ensures) (c .before .before .before .before .before .before .before .before .part-of2 .ensures) _ _ _ (c .before .before .before .before .before .unify-pair .ensures .0) _ (c .before .q .given .1), ((added-below (l .inv .5) (k .0), k .1), tt, c .before .before .before .before .before .unify-pair .ensures .1 .2))
 
-unify-before-add-n : (t : ℕ) → unify-before-lts.Need-add-n (unify-before-told t) (unify-before-at t) unify-before.Post unify-before-Inv-loop unify-before-μ-loop
-unify-before-add-n t c = search needs
+unify-arguments-add-n : (t : ℕ) → unify-arguments-lts.Need-add-n (unify-arguments-told t) (unify-arguments-at t) unify-arguments.Post unify-arguments-Inv-loop unify-arguments-μ-loop
+unify-arguments-add-n t c = search needs
 
-unify-before-loop-less : (t : ℕ) → unify-before-lts.Need-loop-less (unify-before-told t) (unify-before-at t) unify-before.Post unify-before-Inv-loop unify-before-μ-loop
-unify-before-loop-less t c = search needs
+unify-arguments-loop-less : (t : ℕ) → unify-arguments-lts.Need-loop-less (unify-arguments-told t) (unify-arguments-at t) unify-arguments.Post unify-arguments-Inv-loop unify-arguments-μ-loop
+unify-arguments-loop-less t c = search needs
 
-unify-before-loop-again : (t : ℕ) → unify-before-lts.Need-loop-again (unify-before-told t) (unify-before-at t) unify-before.Post unify-before-Inv-loop unify-before-μ-loop
-unify-before-loop-again t c =
+unify-arguments-loop-again : (t : ℕ) → unify-arguments-lts.Need-loop-again (unify-arguments-told t) (unify-arguments-at t) unify-arguments.Post unify-arguments-Inv-loop unify-arguments-μ-loop
+unify-arguments-loop-again t c =
     let l = c .before .before .before .before .before .before .before .before .before .before .before .loop in
     let d = less-done (l .left) _ _ _ (c .before .w .given .1) (c .before .before .before .before .before .unify-pair .ensures .1 .1) in
     let k = filed-done _ _ (l .total) _ _ _ (c .before .w .given .1) (c .before .before .before .before .before .unify-pair .ensures .1 .0) in
     (c .before .before .before .before .before .unify-pair .ensures .1 .2, c .before .before .before .before .before .unify-pair .kept .1 .1 .0 ∙ l .inv .1, omega (arith, d, l .inv .2), omega arith, omega (arith, c .before .before .before .before .before .before .before .before .before .before .loop-test .taken), added-then (l .inv .5) k, match-next _ _ _ _ _ _ _ _ _ _ _ (l .n) _ (l .left) (l .total) (l .inv .6) (omega (arith, c .before .before .before .before .before .before .before .before .before .before .loop-test .taken)) (l .inv .3) (omega (arith, c .before .before .before .before .before .before .before .before .before .before .before .before .before .pre .1 .1 .0, l .inv .4)) _ _ (c .before .before .before .before .before .before .before .before .before .part-of .ensures) (c .before .before .before .before .before .before .before .before .part-of2 .ensures) _ _ _ (c .before .before .before .before .before .unify-pair .ensures .0) _ _ (c .before .w .given .1) (l .inv .5) k _ (omega (arith, c .before .before .before .before .before .before .before .before .before .before .loop-test .taken)))
 
-unify-before-same-length-2 : (t : ℕ) → unify-before-lts.Need-same-length-2 (unify-before-told t) (unify-before-at t) unify-before.Post unify-before-Inv-loop unify-before-μ-loop
-unify-before-same-length-2 t c = search needs
+unify-arguments-same-length-2 : (t : ℕ) → unify-arguments-lts.Need-same-length-2 (unify-arguments-told t) (unify-arguments-at t) unify-arguments.Post unify-arguments-Inv-loop unify-arguments-μ-loop
+unify-arguments-same-length-2 t c = search needs
 
-unify-before-returns-2 : (t : ℕ) → unify-before-lts.Need-returns-2 (unify-before-told t) (unify-before-at t) unify-before.Post unify-before-Inv-loop unify-before-μ-loop
-unify-before-returns-2 t c =
+unify-arguments-returns-2 : (t : ℕ) → unify-arguments-lts.Need-returns-2 (unify-arguments-told t) (unify-arguments-at t) unify-arguments.Post unify-arguments-Inv-loop unify-arguments-μ-loop
+unify-arguments-returns-2 t c =
     let l = c .before .loop in
     (match-last _ _ _ _ _ _ _ _ _ _ _ (l .n) _ _ _ (c .before .before .before .pre .1 .1 .0) (omega (arith, l .inv .4, c .loop-test .left)) (l .inv .6), (l .inv .5, l .inv .2, l .inv .0))
 
@@ -203,8 +203,8 @@ unify-pair-part-of-requires-2 : (t : ℕ) → unify-pair-lts.Need-part-of-requir
 unify-pair-part-of-requires-2 t c κs =
     c .before .before .before .before .before .before .before .before .before .before .before .before .before .pre .1 .0
 
-unify-pair-unify-before-requires : (t : ℕ) → unify-pair-lts.Need-unify-before-requires (unify-pair-told t) (unify-pair-at t) unify-pair.Post unify-pair-Inv-loop unify-pair-μ-loop
-unify-pair-unify-before-requires t c κs =
+unify-pair-unify-arguments-requires : (t : ℕ) → unify-pair-lts.Need-unify-arguments-requires (unify-pair-told t) (unify-pair-at t) unify-pair.Post unify-pair-Inv-loop unify-pair-μ-loop
+unify-pair-unify-arguments-requires t c κs =
     let m = meets-last (rw (c .before .before .before .before .before .before .f .given .1) at (c .before .before .before .before .before .before .before .before .meet .ensures)) in
     let n = c .before .before .before .before .arity-of .ensures .0 in
     (omega (arith, c .before .before .before .before .before .before .before .before .before .before .before .before .before .before .before .before .pre .0, c .before .before .before .before .before .before .before .before .before .before .before .before .before .before .loop .inv .2, c .before .before .before .before .before .before .before .before .before .before .before .before .before .loop-test .taken), ((c .before .before .before .before .before .before .before .before .before .before .before .before .before .before .before .before .pre .1 .0, c .before .before .before .before .before .before .before .before .before .follow2 .ensures .1), (n, omega (arith, m, n))))
@@ -214,31 +214,31 @@ unify-pair-enum-known-w t c = search needs
 
 unify-pair-loop-less : (t : ℕ) → unify-pair-lts.Need-loop-less (unify-pair-told t) (unify-pair-at t) unify-pair.Post unify-pair-Inv-loop unify-pair-μ-loop
 unify-pair-loop-less t c =
-    let d = no-more-done _ _ _ _ (c .before .w .given .1) (c .before .before .before .before .before .unify-before .ensures .1 .1) in
+    let d = no-more-done _ _ _ _ (c .before .w .given .1) (c .before .before .before .before .before .unify-arguments .ensures .1 .1) in
     omega (arith, d, c .before .before .before .before .before .before .before .before .before .before .before .before .before .before .before .before .before .before .before .loop-test .taken)
 
 unify-pair-loop-again : (t : ℕ) → unify-pair-lts.Need-loop-again (unify-pair-told t) (unify-pair-at t) unify-pair.Post unify-pair-Inv-loop unify-pair-μ-loop
 unify-pair-loop-again t c =
     let l = c .before .before .before .before .before .before .before .before .before .before .before .before .before .before .before .before .before .before .before .before .loop in
     let m = rw (c .before .before .before .before .before .before .before .before .before .before .before .before .f .given .1) at (c .before .before .before .before .before .before .before .before .before .before .before .before .before .before .meet .ensures) in
-    let d = no-more-done _ _ _ _ (c .before .w .given .1) (c .before .before .before .before .before .unify-before .ensures .1 .1) in
-    let k = filed-done _ _ (l .held) _ _ _ (c .before .w .given .1) (c .before .before .before .before .before .unify-before .ensures .1 .0) in
-    (c .before .before .before .before .before .unify-before .ensures .1 .2, c .before .before .before .before .before .unify-before .kept .1 .1 .0 ∙ l .inv .1, omega (arith, d, l .inv .2), added-then (l .inv .3) k, pursued-next _ _ _ _ _ _ _ _ _ _ _ _ _ (l .inv .4) (l .inv .3) (omega (arith, c .before .before .before .before .before .before .before .before .before .before .before .before .before .before .before .before .before .before .before .loop-test .taken)) _ _ _ _ (c .before .before .before .before .before .before .before .before .before .before .before .before .before .before .before .before .before .follow .ensures .0) (c .before .before .before .before .before .before .before .before .before .before .before .before .before .before .before .follow2 .ensures .0) m refl refl _ _ _ _ _ (c .before .w .given .1) (c .before .before .before .before .before .unify-before .ensures .0) k _ _ _ (c .before .before .before .before .before .before .before .before .before .before .arity-of .ensures .0) (c .before .before .before .before .before .before .before .before .before .part-of .ensures) (c .before .before .before .before .before .before .before .before .part-of2 .ensures))
+    let d = no-more-done _ _ _ _ (c .before .w .given .1) (c .before .before .before .before .before .unify-arguments .ensures .1 .1) in
+    let k = filed-done _ _ (l .held) _ _ _ (c .before .w .given .1) (c .before .before .before .before .before .unify-arguments .ensures .1 .0) in
+    (c .before .before .before .before .before .unify-arguments .ensures .1 .2, c .before .before .before .before .before .unify-arguments .kept .1 .1 .0 ∙ l .inv .1, omega (arith, d, l .inv .2), added-then (l .inv .3) k, pursued-next _ _ _ _ _ _ _ _ _ _ _ _ _ (l .inv .4) (l .inv .3) (omega (arith, c .before .before .before .before .before .before .before .before .before .before .before .before .before .before .before .before .before .before .before .loop-test .taken)) _ _ _ _ (c .before .before .before .before .before .before .before .before .before .before .before .before .before .before .before .before .before .follow .ensures .0) (c .before .before .before .before .before .before .before .before .before .before .before .before .before .before .before .follow2 .ensures .0) m refl refl _ _ _ _ _ (c .before .w .given .1) (c .before .before .before .before .before .unify-arguments .ensures .0) k _ _ _ (c .before .before .before .before .before .before .before .before .before .before .arity-of .ensures .0) (c .before .before .before .before .before .before .before .before .before .part-of .ensures) (c .before .before .before .before .before .before .before .before .part-of2 .ensures))
 
 unify-pair-enum-known-q : (t : ℕ) → unify-pair-lts.Need-enum-known-q (unify-pair-told t) (unify-pair-at t) unify-pair.Post unify-pair-Inv-loop unify-pair-μ-loop
 unify-pair-enum-known-q t c = search needs
 
 unify-pair-same-length-4 : (t : ℕ) → unify-pair-lts.Need-same-length-4 (unify-pair-told t) (unify-pair-at t) unify-pair.Post unify-pair-Inv-loop unify-pair-μ-loop
 unify-pair-same-length-4 t c =
-    c .before .before .before .before .before .unify-before .kept .1 .1 .0 ∙ c .before .before .before .before .before .before .before .before .before .before .before .before .before .before .before .before .before .before .before .before .loop .inv .1
+    c .before .before .before .before .before .unify-arguments .kept .1 .1 .0 ∙ c .before .before .before .before .before .before .before .before .before .before .before .before .before .before .before .before .before .before .before .before .loop .inv .1
 
 unify-pair-returns-4 : (t : ℕ) → unify-pair-lts.Need-returns-4 (unify-pair-told t) (unify-pair-at t) unify-pair.Post unify-pair-Inv-loop unify-pair-μ-loop
 unify-pair-returns-4 t c =
     let l = c .before .before .before .before .before .before .before .before .before .before .before .before .before .before .before .before .before .before .before .before .loop in
     let m = rw (c .before .before .before .before .before .before .before .before .before .before .before .before .f .given .1) at (c .before .before .before .before .before .before .before .before .before .before .before .before .before .before .meet .ensures) in
-    let k = filed-refused _ _ (l .held) _ _ (c .before .q .given .1) (c .before .before .before .before .before .unify-before .ensures .1 .0) in
-    let d = paired-refused _ _ _ _ _ _ _ _ _ (omega (arith, c .before .before .before .before .before .before .before .before .before .before .before .before .before .before .before .before .before .before .before .loop-test .taken)) _ _ (c .before .before .before .before .before .before .before .before .before .before .before .before .before .before .before .before .before .follow .ensures .0) (c .before .before .before .before .before .before .before .before .before .before .before .before .before .before .before .follow2 .ensures .0) m refl refl _ _ _ _ (c .before .q .given .1) (c .before .before .before .before .before .unify-before .ensures .0) in
-    (pursued-then _ _ _ _ _ _ _ _ _ _ _ _ _ (l .inv .4) (l .inv .3) _ _ _ d k, ((added-below (l .inv .3) (k .0), k .1), tt, c .before .before .before .before .before .unify-before .ensures .1 .2))
+    let k = filed-refused _ _ (l .held) _ _ (c .before .q .given .1) (c .before .before .before .before .before .unify-arguments .ensures .1 .0) in
+    let d = paired-refused _ _ _ _ _ _ _ _ _ (omega (arith, c .before .before .before .before .before .before .before .before .before .before .before .before .before .before .before .before .before .before .before .loop-test .taken)) _ _ (c .before .before .before .before .before .before .before .before .before .before .before .before .before .before .before .before .before .follow .ensures .0) (c .before .before .before .before .before .before .before .before .before .before .before .before .before .before .before .follow2 .ensures .0) m refl refl _ _ _ _ (c .before .q .given .1) (c .before .before .before .before .before .unify-arguments .ensures .0) in
+    (pursued-then _ _ _ _ _ _ _ _ _ _ _ _ _ (l .inv .4) (l .inv .3) _ _ _ d k, ((added-below (l .inv .3) (k .0), k .1), tt, c .before .before .before .before .before .unify-arguments .ensures .1 .2))
 
 unify-pair-same-length-5 : (t : ℕ) → unify-pair-lts.Need-same-length-5 (unify-pair-told t) (unify-pair-at t) unify-pair.Post unify-pair-Inv-loop unify-pair-μ-loop
 unify-pair-same-length-5 t c = search needs
@@ -248,30 +248,30 @@ unify-pair-returns-5 t c =
     let l = c .before .loop in
     (pursued-then _ _ _ _ _ _ _ _ _ _ _ _ _ (l .inv .4) (l .inv .3) _ _ _ (paired-spent _ (l .values) (l .bindings) _ _ _ _ (omega (arith, c .loop-test .left))) (added-as-below (added-none _ _), refl), ((added-as-below (l .inv .3), refl), tt, l .inv .0))
 
-pub +unify-before+unify-pair-spec : {M : Type 1} → statement M
-+unify-before+unify-pair-spec = close μ-unify-before μ-unify-pair (λ t. unify-before-lts.spec (
+pub +unify-arguments+unify-pair-spec : {M : Type 1} → statement M
++unify-arguments+unify-pair-spec = close μ-unify-arguments μ-unify-pair (λ t. unify-arguments-lts.spec (
   part-of-reads.Asked,
   part-of-reads.Learnt,
   unify-pair-below t,
   unify-pair.Post,
 )
-    (unify-before-at t)
-    unify-before.Post
-    unify-before-Inv-loop
-    unify-before-μ-loop
-    (unify-before-loop-holds t)
-    (unify-before-part-of-requires t)
-    (unify-before-part-of-requires-2 t)
-    (unify-before-unify-pair-requires t)
-    (unify-before-enum-known-w t)
-    (unify-before-enum-known-q t)
-    (unify-before-same-length t)
-    (unify-before-returns t)
-    (unify-before-add-n t)
-    (unify-before-loop-less t)
-    (unify-before-loop-again t)
-    (unify-before-same-length-2 t)
-    (unify-before-returns-2 t))
+    (unify-arguments-at t)
+    unify-arguments.Post
+    unify-arguments-Inv-loop
+    unify-arguments-μ-loop
+    (unify-arguments-loop-holds t)
+    (unify-arguments-part-of-requires t)
+    (unify-arguments-part-of-requires-2 t)
+    (unify-arguments-unify-pair-requires t)
+    (unify-arguments-enum-known-w t)
+    (unify-arguments-enum-known-q t)
+    (unify-arguments-same-length t)
+    (unify-arguments-returns t)
+    (unify-arguments-add-n t)
+    (unify-arguments-loop-less t)
+    (unify-arguments-loop-again t)
+    (unify-arguments-same-length-2 t)
+    (unify-arguments-returns-2 t))
     λ t. unify-pair-lts.spec (
       follow-reads.Asked,
       follow-reads.Learnt,
@@ -283,8 +283,8 @@ pub +unify-before+unify-pair-spec : {M : Type 1} → statement M
       arity-of-reads.Learnt,
       part-of-reads.Asked,
       part-of-reads.Learnt,
-      unify-before-below t,
-      unify-before.Post,
+      unify-arguments-below t,
+      unify-arguments.Post,
     )
     (unify-pair-at t)
     unify-pair.Post
@@ -309,7 +309,7 @@ pub +unify-before+unify-pair-spec : {M : Type 1} → statement M
     (unify-pair-arity-of-requires t)
     (unify-pair-part-of-requires t)
     (unify-pair-part-of-requires-2 t)
-    (unify-pair-unify-before-requires t)
+    (unify-pair-unify-arguments-requires t)
     (unify-pair-enum-known-w t)
     (unify-pair-loop-less t)
     (unify-pair-loop-again t)

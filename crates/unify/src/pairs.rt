@@ -1,7 +1,7 @@
 // The unification of two expressions, pair by pair. Every pair taken up costs one unit of work. `Pairs` in specs/ has the contracts.
-mod bindings;
-
-use bindings::push_binding;
+// The pair walk calls the argument walk and that calls the pair walk; the work left falls around the cycle.
+use super::Unified;
+use super::bindings::push_binding;
 use following::follow::Followed;
 use following::follow::follow;
 use following::follow::is_same;
@@ -16,13 +16,7 @@ ghost use Prim.Native.Nat.{_≤_};
 ghost use lib.ListN.{length};
 ghost use Rattle.unification.specs.Nodes.{nodeArity};
 ghost use Rattle.following.specs.declared.follow.Followed.the-variants.{Application};
-ghost use Rattle.pairs.specs.Pairs.{Meets, Paired, Bound, ArguedBefore, Filed, LeavesLess, LeavesNoMore};
-
-// The work left and the number of bindings held; or the reason for the refusal, 10 to 13.
-pub enum Unified {
-    Done(u16, u16),
-    Refused(u8),
-}
+ghost use Rattle.unify.specs.Pairs.{Meets, Paired, Bound, ArguedBefore, Filed, LeavesLess, LeavesNoMore};
 
 // What is to be done with two followed sides: a variable is bound to the other side, first row and index the variable's; nothing; the
 // symbols clash; or the arguments of two applications, of which there are some, are unified, the rows with their indices.
@@ -107,8 +101,9 @@ fn meet(nodes: &[u16; 32768], x: Followed, y: Followed) -> Meeting
     }
 }
 
-// Unifies l at index i with r at index j. Both sides are followed and meet; the last arguments of two applications are taken up by the
-// loop, so that only nesting in arguments before the last takes calls and stack. They are read before those calls, which so keep less.
+// The pair walk: unifies l at index i with r at index j. Both sides are followed and meet. Of two applications the argument walk unifies
+// the arguments before the last, and the last ones are taken up by the loop here, so that only nesting in arguments before the last takes
+// calls and stack. They are read before those calls, which so keep less.
 pub fn unify_pair(
     nodes: &[u16; 32768],
     values: &mut [u16; 524416],
@@ -140,7 +135,7 @@ pub fn unify_pair(
                 i = a;
                 r = part_of(nodes, g, last);
                 j = b;
-                match unify_before(nodes, values, bindings, held, f, a, g, b, last, work) {
+                match unify_arguments(nodes, values, bindings, held, f, a, g, b, last, work) {
                     Unified::Done(w, h) => {
                         work = w;
                         held = h;
@@ -153,8 +148,9 @@ pub fn unify_pair(
     Unified::Refused(12)
 }
 
-// The arguments of two applications of one symbol before the last, in order.
-fn unify_before(
+// The argument walk: the arguments of two applications of one symbol, in order, but for the last ones, which the pair walk that called
+// takes up by its loop.
+fn unify_arguments(
     nodes: &[u16; 32768],
     values: &mut [u16; 524416],
     bindings: &mut [u16],

@@ -15,10 +15,10 @@ use Rattle.unification.specs.Environment.{Binding, Environment, extend, unbound
 use Rattle.unification.specs.Nodes.{isVariable, part, nodeArity, HasRow, argumentsFrom, nodeRow, nodeRowIf, NodesOk}
 use Rattle.unification.specs.Row.{Expression, same}
 use Rattle.unification.specs.Unification.{mostLinks, failureNumber, clash, occurs, overwork, Outcome, unified, failed, unifying, testing, goOn, noRoom, withWork, run}
-use Rattle.pairs.specs.Pairs.{failureOf, LeavesLess, LeavesNoMore, Filed, bindingsOnto, outcomeOnto, Stand, Stands, Settled, isApplication, isOther, Alike, Pairing, Paired, Bound, Argued, Meets, sameVariable, leftToVariable, leftToApplication, rightVariable, sameApplication, otherSymbol, noArguments, someArguments, Matching, Matched, ArguedBefore}
+use Rattle.unify.specs.Pairs.{failureOf, LeavesLess, LeavesNoMore, Filed, bindingsOnto, outcomeOnto, Stand, Stands, Settled, isApplication, isOther, Alike, Pairing, Paired, Bound, Argued, Meets, sameVariable, leftToVariable, leftToApplication, rightVariable, sameApplication, otherSymbol, noArguments, someArguments, Matching, Matched, ArguedBefore}
 use Rattle.unification.specs.Values.{slot, put, InStep, Models}
 use Rattle.following.specs.Walks.{viewOf, endOf, Walked, Follows, absent, broken, testedOf, thenRun, PairRuns, ArgumentsRun, TestRuns, Looking, Looked}
-use Rattle.pairs.proofs.BindingsAdded.{added-then, added-below, onto-none, onto-then, onto-push, length-push}
+use Rattle.unify.proofs.BindingsAdded.{added-then, added-below, onto-none, onto-then, onto-push, length-push}
 use Rattle.unification.proofs.Chains.{Short, short-le, Firm, short-with}
 use Rattle.following.proofs.Halving.{EndsAt, walked-app, walked-var, walked-ends}
 use Rattle.unification.proofs.Limits.{links-8192, bindings-8192}
@@ -31,10 +31,10 @@ use Rattle.following.specs.declared.follow.Followed.{Followed}
 use Rattle.following.specs.declared.follow.Followed.the-variants.{Variable, Application}
 use Rattle.following.specs.declared.occurs.Occurs.{Occurs}
 use Rattle.following.specs.declared.occurs.Occurs.the-variants.{No, Yes, Spent}
-use Rattle.pairs.specs.declared.Meeting.{Meeting}
-use Rattle.pairs.specs.declared.Meeting.the-variants.{Bind, Nothing, Clash, Arguments}
-use Rattle.pairs.specs.declared.Unified.{Unified}
-use Rattle.pairs.specs.declared.Unified.the-variants.{Done, Refused}
+use Rattle.unify.specs.declared.pairs.Meeting.{Meeting}
+use Rattle.unify.specs.declared.pairs.Meeting.the-variants.{Bind, Nothing, Clash, Arguments}
+use Rattle.unify.specs.declared.Unified.{Unified}
+use Rattle.unify.specs.declared.Unified.the-variants.{Done, Refused}
 
 -- A free variable x and what the other side ends on.
 module _ (N : List ℕ) (top : ℕ) (A B : List ℕ) (first : ℕ) (base : Environment) (bs : List Binding) (held : ℕ) where
