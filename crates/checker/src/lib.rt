@@ -8,6 +8,8 @@ use answer::ended_answer;
 use answer::lengths::fitting_length;
 use answer::lengths::long_enough;
 use answer::untouched;
+use following::nodes::Nodes;
+use following::values::ValueCells;
 use reader::read_records;
 use tables::clear;
 ghost use Rattle.checker.specs.Contract.{Checked, CheckedWith};
@@ -21,8 +23,8 @@ fn read_tables(
     rows: &mut [u16],
     clauses: &mut [u16],
     bindings: &mut [u16],
-    nodes: &mut [u16; 32768],
-    values: &mut [u16; 524416],
+    nodes: &mut Nodes,
+    values: &mut ValueCells,
 ) -> Answer
     requires { ⌜ ReadableWith (now file) (tablesWith (now symbols) (now rows) (now clauses) (now bindings)) (now nodes) (now values) ⌝ }
     ensures { λ a. ⌜ FileReadWith (now (file .entry)) (tablesWith (now (symbols .entry)) (now (rows .entry)) (now (clauses .entry)) (now (bindings .entry))) a (tablesWith (now (symbols .exit)) (now (rows .exit)) (now (clauses .exit)) (now (bindings .exit))) (now (nodes .exit)) (now (values .exit)) ⌝ }
@@ -85,8 +87,8 @@ pub fn check_with(
     rows: &mut [u16],
     clauses: &mut [u16],
     bindings: &mut [u16],
-    nodes: &mut [u16; 32768],
-    values: &mut [u16; 524416],
+    nodes: &mut Nodes,
+    values: &mut ValueCells,
 ) -> Answer
     requires { ⌜ Unwritten (now nodes) (now values) ⌝ }
     ensures { λ a. ⌜ CheckedWith (now (file .entry)) (tablesWith (now (symbols .entry)) (now (rows .entry)) (now (clauses .entry)) (now (bindings .entry))) a (tablesWith (now (symbols .exit)) (now (rows .exit)) (now (clauses .exit)) (now (bindings .exit))) (now (nodes .exit)) (now (values .exit)) ⌝ }

@@ -4,7 +4,7 @@ use mathlib.Core.Bool.{true, _&&_}
 use mathlib.Core.List.{List, [], _∷_, _++_}
 use Prim.Native.Nat.{ℕ, zero, suc, _%_, _≤_, _<_}
 use native.Mathlib.Omega.{arith}
-use lib.Dec.{eqb, leb, T, leb→le}
+use lib.Dec.{eqb, leb, leb→le}
 use lib.ListN.{length, take, drop, length-map}
 use Rattle.record.specs.Record.{Record, records, recordCount, recordPart, decoded}
 use Rattle.record.proofs.Records.{record-numbered}

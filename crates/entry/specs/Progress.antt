@@ -3,7 +3,6 @@ use mathlib.Core.Path.{_≡_}
 use mathlib.Core.Bool.{true}
 use mathlib.Core.List.{List, [], _∷_, _++_}
 use Prim.Native.Nat.{ℕ, suc, _+_, _-_, _*_, _≤_, _<_}
-use lib.Dec.{T}
 use lib.ListN.{length, take, replicate}
 use Rattle.record.specs.Record.{records, recordCount, recordPart, decoded}
 use Rattle.unification.specs.Row.{variable, Row, application}

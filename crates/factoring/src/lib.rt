@@ -5,6 +5,8 @@ use clauses::literals_cell;
 use entry::entry::Counts;
 use entry::entry::Entered;
 use fields::step_in_range;
+use following::nodes::Nodes;
+use following::values::ValueCells;
 use inference::Atom;
 use inference::atom_of;
 use inference::finish_step;
@@ -28,8 +30,8 @@ fn unify_factor(
     counts: Counts,
     clauses: &[u16],
     bindings: &mut [u16],
-    nodes: &[u16; 32768],
-    values: &mut [u16; 524416],
+    nodes: &Nodes,
+    values: &mut ValueCells,
     kept: Atom,
     deleted: Atom,
 ) -> Unified
@@ -58,8 +60,8 @@ fn factor_atoms(
     counts: Counts,
     clauses: &mut [u16],
     bindings: &mut [u16],
-    nodes: &[u16; 32768],
-    values: &mut [u16; 524416],
+    nodes: &Nodes,
+    values: &mut ValueCells,
     kept: Atom,
     deleted: Atom,
 ) -> Entered
@@ -89,8 +91,8 @@ pub fn factor_record(
     counts: Counts,
     clauses: &mut [u16],
     bindings: &mut [u16],
-    nodes: &[u16; 32768],
-    values: &mut [u16; 524416],
+    nodes: &Nodes,
+    values: &mut ValueCells,
 ) -> Entered
     requires { ⌜ BeforeStep (now file) k counts (now clauses) (now bindings) (now nodes) (now values) ⌝ }
     requires { ⌜ kindOf (recordPart (now file) k) ≡ 6 ⌝ }

@@ -13,7 +13,7 @@ use Rattle.unification.specs.Nodes.{HasRow, nodeRow, NodesOk}
 use Rattle.unification.specs.Row.{Row, application, Expression}
 use Rattle.unification.specs.Unification.{unify, mostWork, mostBindings, mostLinks, Outcome, unifying, noRoom}
 use Rattle.unify.specs.Unifying.{outcomeOf, Facing, Ready, Answered}
-use Rattle.unification.specs.Values.{InStep, Models}
+use Rattle.unification.specs.ValueArray.{InStep, Models}
 use Rattle.unification.proofs.Chains.{short-le}
 use Rattle.unification.proofs.Rows.{Below}
 use Rattle.unification.proofs.Stability.{run-agree}

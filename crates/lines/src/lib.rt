@@ -2,3 +2,7 @@
 // parts of this program go about it.
 pub mod line;
 pub mod literals;
+
+// The list that the literals of a clause are collected in, two cells for each: a clause has at most 128 of them, and while it is put
+// together there is one more at each step that it has at most.
+pub type LiteralList = [u16; 8704];

@@ -5,16 +5,17 @@ use mathlib.Core.List.{List, [], _∷_, _++_, append-assoc}
 use Prim.Native.Nat.{ℕ, _+_, _-_, _≤_, _<_}
 use native.Mathlib.Omega.{arith}
 use lib.Dec.{eqb}
+use lib.ListN.{length}
 use borrow.Author.Tests.{ne-eqb}
 use Rattle.record.specs.Record.{pick}
 use Rattle.unification.specs.Environment.{Environment}
 use Rattle.unification.specs.Nodes.{isVariable, part, nodeArity}
 use Rattle.unification.specs.Row.{Row, Variable, argumentTerms, writtenOut}
 use Rattle.unification.specs.Term.{Term, Terms, cons, applyAll, occurrences, allOccurrences}
-use Rattle.unification.specs.Values.{Models}
+use Rattle.unification.specs.ValueArray.{Models}
 use Rattle.following.proofs.Occurrence.{arg-good, args-eq}
 use Rattle.terms.specs.Text.{termText, argumentsText, furtherText}
-use Rattle.terms.specs.Writing.{Wrote, markBefore, closingText, Writable, WritesTerm, argumentsOut, WritesArguments}
+use Rattle.terms.specs.Writing.{Wrote, markBefore, closingText, Writable, WritingReady, WritingArgumentsReady, WritesTerm, argumentsOut, WritesArguments}
 use Rattle.terms.specs.declared.term.Written.the-variants.{Done, TooMany}
 use Rattle.terms.proofs.Positions.{kept-then, wrote-nothing, wrote-then}
 use Rattle.terms.proofs.TermTexts.{writable-at}
@@ -109,3 +110,19 @@ module _ (N A T : List ℕ) (at r k left : ℕ) where
             whole = append-assoc (S′ .before ++ (m ∷ [])) x (textFrom row (n + 1) (argumentsOut N term σ r k (rest - 1) (n + 1))) ∙ joined top ρ row term σ W f;
             count = omega (arith, counted top ρ row term σ W f, L′ .came .0);
           }
+
+-- What writing the argument at hand asks.
+pub argument-ready : {N A A₁ T T₁ : List ℕ} {at r k left end n rest spare : ℕ} → WritingArgumentsReady N A T r k → Scanned N A A₁ T T₁ at r k left end n rest spare → 0 < rest → 1 ≤ n → n + rest ≡ nodeArity N r + 1
+    → (T₂ : List ℕ) → length T₂ ≡ 131072 → (a : ℕ) → a ≡ part N r n → WritingReady N A₁ T₂ (a, k)
+argument-ready {N} {A} {A₁} {r = r} {k} {n = n} {rest} R S pos low all T₂ q a p =
+    let W = R .whole in
+    let S′ = S (W .top) (W .environment) (W .row) (W .term) (W .value) (W .writable) (R .application) in
+    record {
+      sized = record { nodes = W .sized .nodes; values = S′ .models .room; text = q };
+      top = W .top;
+      environment = W .environment;
+      row = W .row;
+      term = W .term;
+      value = W .value;
+      writable = writable-at N (W .top) A A₁ (W .environment) (W .row) (W .term) (W .value) (r, k) (a, k) (W .writable) (S′ .models) (arg-good N (W .top) r n rest pos a p k low all (S′ .models .table) (W .writable .inStep) (R .application));
+    }

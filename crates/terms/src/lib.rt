@@ -1,4 +1,4 @@
 // The text of terms and literals. `Text` in specs/ has what it is; `Writing` says how the parts of this program go about it.
 pub mod literal;
-pub mod term;
+mod term;
 pub mod text;

@@ -6,5 +6,5 @@ pub mod Unification
 pub mod Failing
 pub mod Unifier
 pub mod Nodes
-pub mod Values
+pub mod ValueArray
 pub mod Bindings

@@ -3,6 +3,8 @@
 mod bindings;
 mod pairs;
 
+use following::nodes::Nodes;
+use following::values::ValueCells;
 use pairs::unify_pair;
 ghost use Rattle.unify.specs.Unifying.{Ready, Answered};
 
@@ -15,8 +17,8 @@ pub enum Unified {
 // Unifies l at index i with r at index j, with all the work that a step may take and `held` bindings held before. New bindings
 // are appended to the table of bindings and put into the array of values; chains in the array may get shorter.
 pub fn unify_literals(
-    nodes: &[u16; 32768],
-    values: &mut [u16; 524416],
+    nodes: &Nodes,
+    values: &mut ValueCells,
     bindings: &mut [u16],
     held: u16,
     l: u16,

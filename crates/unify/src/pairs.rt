@@ -5,18 +5,18 @@ use super::bindings::push_binding;
 use following::follow::Followed;
 use following::follow::follow;
 use following::follow::is_same;
+use following::nodes::Nodes;
 use following::nodes::arity_of;
 use following::nodes::part_of;
 use following::occurs::Occurs;
 use following::occurs::occurs_in;
+use following::values::ValueCells;
 use following::values::slot_of;
 use following::values::write_value;
 ghost use mathlib.Core.Path.{_≡_};
-ghost use Prim.Native.Nat.{_≤_};
 ghost use lib.ListN.{length};
-ghost use Rattle.unification.specs.Nodes.{nodeArity};
 ghost use Rattle.following.specs.declared.follow.Followed.the-variants.{Application};
-ghost use Rattle.unify.specs.Pairs.{Meets, Paired, Bound, ArguedBefore, Filed, LeavesLess, LeavesNoMore};
+ghost use Rattle.unify.specs.Pairs.{PairReady, BindReady, ArgumentsReady, Meets, Paired, Bound, ArguedBefore, Filed, LessWorkLeft, NoMoreWorkLeft};
 
 // What is to be done with two followed sides: a variable is bound to the other side, first row and index the variable's; nothing; the
 // symbols clash; or the arguments of two applications, of which there are some, are unified, the rows with their indices.
@@ -29,8 +29,8 @@ enum Meeting {
 
 // The variable v at index i is bound to t at index j, if it does not occur there and there is room for a binding.
 fn bind(
-    nodes: &[u16; 32768],
-    values: &mut [u16; 524416],
+    nodes: &Nodes,
+    values: &mut ValueCells,
     bindings: &mut [u16],
     held: u16,
     v: u16,
@@ -39,9 +39,9 @@ fn bind(
     j: u16,
     work: u16,
 ) -> Unified
-    requires { ⌜ (length (now nodes) ≡ 32768) × (length (now values) ≡ 524416) ⌝ }
+    requires { ⌜ BindReady (now nodes) (now values) (now bindings) held (v, i) (t, j) ⌝ }
     ensures { λ u. ⌜ Bound (now (nodes .entry)) (now (values .entry)) (now (values .exit)) (now (bindings .entry)) (now (bindings .exit)) held (v, i) (t, j) work u ⌝ }
-    ensures { λ u. ⌜ Filed (now (bindings .entry)) (now (bindings .exit)) held u × LeavesNoMore work u × (length (now (values .exit)) ≡ 524416) ⌝ }
+    ensures { λ u. ⌜ Filed (now (bindings .entry)) (now (bindings .exit)) held u × NoMoreWorkLeft work u × (length (now (values .exit)) ≡ 524416) ⌝ }
 {
     let o = occurs_in(nodes, values, v, i, t, j, work);
     match o {
@@ -62,7 +62,7 @@ fn bind(
 }
 
 // Two applications: nothing is to be done for the same row and index, or for one symbol without arguments.
-fn meet_applications(nodes: &[u16; 32768], f: u16, a: u16, g: u16, b: u16) -> Meeting
+fn meet_applications(nodes: &Nodes, f: u16, a: u16, g: u16, b: u16) -> Meeting
     requires { ⌜ length (now nodes) ≡ 32768 ⌝ }
     ensures { λ m. ⌜ Meets (now (nodes .entry)) (Application f a) (Application g b) m ⌝ }
 {
@@ -79,7 +79,7 @@ fn meet_applications(nodes: &[u16; 32768], f: u16, a: u16, g: u16, b: u16) -> Me
 }
 
 // The case of two followed sides. An unbound variable on the left comes before one on the right.
-fn meet(nodes: &[u16; 32768], x: Followed, y: Followed) -> Meeting
+fn meet(nodes: &Nodes, x: Followed, y: Followed) -> Meeting
     requires { ⌜ length (now nodes) ≡ 32768 ⌝ }
     ensures { λ m. ⌜ Meets (now (nodes .entry)) x y m ⌝ }
 {
@@ -105,8 +105,8 @@ fn meet(nodes: &[u16; 32768], x: Followed, y: Followed) -> Meeting
 // the arguments before the last, and the last ones are taken up by the loop here, so that only nesting in arguments before the last takes
 // calls and stack. They are read before those calls, which so keep less.
 pub fn unify_pair(
-    nodes: &[u16; 32768],
-    values: &mut [u16; 524416],
+    nodes: &Nodes,
+    values: &mut ValueCells,
     bindings: &mut [u16],
     mut held: u16,
     mut l: u16,
@@ -115,9 +115,9 @@ pub fn unify_pair(
     mut j: u16,
     mut work: u16,
 ) -> Unified
-    requires { ⌜ (length (now nodes) ≡ 32768) × (length (now values) ≡ 524416) ⌝ }
+    requires { ⌜ PairReady (now nodes) (now values) (now bindings) held (l, i) (r, j) ⌝ }
     ensures { λ u. ⌜ Paired (now (nodes .entry)) (now (values .entry)) (now (values .exit)) (now (bindings .entry)) (now (bindings .exit)) held (l, i) (r, j) work u ⌝ }
-    ensures { λ u. ⌜ Filed (now (bindings .entry)) (now (bindings .exit)) held u × LeavesLess work u × (length (now (values .exit)) ≡ 524416) ⌝ }
+    ensures { λ u. ⌜ Filed (now (bindings .entry)) (now (bindings .exit)) held u × LessWorkLeft work u × (length (now (values .exit)) ≡ 524416) ⌝ }
 {
     while work > 0 {
         work -= 1;
@@ -151,8 +151,8 @@ pub fn unify_pair(
 // The argument walk: the arguments of two applications of one symbol, in order, but for the last ones, which the pair walk that called
 // takes up by its loop.
 fn unify_arguments(
-    nodes: &[u16; 32768],
-    values: &mut [u16; 524416],
+    nodes: &Nodes,
+    values: &mut ValueCells,
     bindings: &mut [u16],
     held: u16,
     f: u16,
@@ -162,10 +162,9 @@ fn unify_arguments(
     last: u16,
     work: u16,
 ) -> Unified
-    requires { ⌜ (length (now nodes) ≡ 32768) × (length (now values) ≡ 524416) ⌝ }
-    requires { ⌜ (last ≡ nodeArity (now nodes) f) × (1 ≤ last) ⌝ }
+    requires { ⌜ ArgumentsReady (now nodes) (now values) (now bindings) held f a g b last ⌝ }
     ensures { λ u. ⌜ ArguedBefore (now (nodes .entry)) (now (values .entry)) (now (values .exit)) (now (bindings .entry)) (now (bindings .exit)) held f a g b work u ⌝ }
-    ensures { λ u. ⌜ Filed (now (bindings .entry)) (now (bindings .exit)) held u × LeavesNoMore work u × (length (now (values .exit)) ≡ 524416) ⌝ }
+    ensures { λ u. ⌜ Filed (now (bindings .entry)) (now (bindings .exit)) held u × NoMoreWorkLeft work u × (length (now (values .exit)) ≡ 524416) ⌝ }
 {
     let mut n: u16 = 1;
     let mut left = work;

@@ -1,7 +1,7 @@
 use mathlib.Core.Path.{ap, _∙_}
 use mathlib.Core.List.{List}
 use Prim.Native.Nat.{ℕ, _+_, _*_}
-use Rattle.unification.specs.Values.{put}
+use Rattle.unification.specs.ValueArray.{put}
 use Rattle.unification.specs.Bindings.{push}
 use borrow.Author.Needs.{needs}
 use Rattle.unify.proofs.bindings.push_binding.Statement.{statement}

@@ -6,7 +6,7 @@ use lib.ListN.{length}
 use Rattle.unification.specs.Bindings.{Added}
 use Rattle.unify.specs.Pairs.{Matched}
 use Rattle.unify.proofs.BindingsAdded.{added-none, added-as-below, added-then, added-below}
-use Rattle.unify.proofs.PairWalk.{leaves-less, less-done, no-more-done, filed-done, filed-refused, filed-then, paired-spent, paired-nothing, paired-clashing, paired-bind, paired-refused, meets-last, Pursued, pursued-start, pursued-then, pursued-next, match-start, match-last, match-refused, match-next}
+use Rattle.unify.proofs.PairWalk.{leaves-less, less-done, no-more-done, filed-done, filed-refused, filed-then, paired-spent, paired-nothing, paired-clashing, paired-bind, paired-refused, Pursued, pursued-start, pursued-then, pursued-next, match-start, match-last, match-refused, match-next, pursued-ready, left-followable, right-followable, bind-ready, arguments-ready, matched-ready}
 use Prim.Native.Nat.{ℕ, _+_, _-_, _*_, _≤_, _<_}
 use borrow.Author.Needs.{needs}
 use borrow.Fn.Kinds.{In}
@@ -71,19 +71,21 @@ unify-pair-told t = (follow-reads.Asked, follow-reads.Learnt, meet-reads.Asked, 
 
 unify-arguments-loop-holds : (t : ℕ) → unify-arguments-lts.Need-loop-holds (unify-arguments-told t) (unify-arguments-at t) unify-arguments.Post unify-arguments-Inv-loop unify-arguments-μ-loop
 unify-arguments-loop-holds t c =
-    (c .before .pre .1 .0 .1, refl, omega arith, omega arith, c .before .pre .1 .1 .1, added-none _ _, match-start _ _ _ _ _ _ _ _ _ (c .before .args .last + 1 - 1) (omega (arith, c .before .pre .1 .1 .0)))
+    (c .before .pre .1 .standing .stand .models .room, refl, omega arith, omega arith, c .before .pre .1 .some, added-none _ _, match-start _ _ _ _ _ _ _ _ _ (c .before .args .last + 1 - 1) (omega (arith, c .before .pre .1 .arity)))
 
 unify-arguments-part-of-requires : (t : ℕ) → unify-arguments-lts.Need-part-of-requires (unify-arguments-told t) (unify-arguments-at t) unify-arguments.Post unify-arguments-Inv-loop unify-arguments-μ-loop
 unify-arguments-part-of-requires t c κs =
-    c .before .before .before .pre .1 .0 .0
+    c .before .before .before .pre .1 .standing .nodes
 
 unify-arguments-part-of-requires-2 : (t : ℕ) → unify-arguments-lts.Need-part-of-requires-2 (unify-arguments-told t) (unify-arguments-at t) unify-arguments.Post unify-arguments-Inv-loop unify-arguments-μ-loop
 unify-arguments-part-of-requires-2 t c κs =
-    c .before .before .before .before .pre .1 .0 .0
+    c .before .before .before .before .pre .1 .standing .nodes
 
 unify-arguments-unify-pair-requires : (t : ℕ) → unify-arguments-lts.Need-unify-pair-requires (unify-arguments-told t) (unify-arguments-at t) unify-arguments.Post unify-arguments-Inv-loop unify-arguments-μ-loop
 unify-arguments-unify-pair-requires t c κs =
-    (omega (arith, c .before .before .before .before .before .before .before .pre .0, c .before .before .before .before .before .loop .inv .2), (c .before .before .before .before .before .before .before .pre .1 .0 .0, c .before .before .before .before .before .loop .inv .0))
+    let s = c .before .before .before .before .before .before .before in
+    let l = c .before .before .before .before .before .loop in
+    (omega (arith, s .pre .0, l .inv .2), matched-ready (s .pre .1) (l .inv .6) (omega (arith, c .before .before .before .before .loop-test .taken)) (l .inv .3) (omega (arith, l .inv .4)) _ _ (c .before .before .before .part-of .ensures) (c .before .before .part-of2 .ensures))
 
 unify-arguments-enum-known-w : (t : ℕ) → unify-arguments-lts.Need-enum-known-w (unify-arguments-told t) (unify-arguments-at t) unify-arguments.Post unify-arguments-Inv-loop unify-arguments-μ-loop
 unify-arguments-enum-known-w t c = search needs
@@ -98,7 +100,7 @@ unify-arguments-returns : (t : ℕ) → unify-arguments-lts.Need-returns (unify-
 unify-arguments-returns t c =
     let l = c .before .before .before .before .before .before .before .before .before .before .before .loop in
     let k = filed-refused _ _ (l .total) _ _ (c .before .q .given .1) (c .before .before .before .before .before .unify-pair .ensures .1 .0) in
-    (match-refused _ _ _ _ _ _ _ _ _ _ _ (l .n) _ (l .left) (l .total) (l .inv .6) (omega (arith, c .before .before .before .before .before .before .before .before .before .before .loop-test .taken)) (l .inv .3) (omega (arith, c .before .before .before .before .before .before .before .before .before .before .before .before .before .pre .1 .1 .0, l .inv .4)) _ _ (c .before .before .before .before .before .before .before .before .before .part-of .ensures) (c .before .before .before .before .before .before .before .before .part-of2 .ensures) _ _ _ (c .before .before .before .before .before .unify-pair .ensures .0) _ (c .before .q .given .1), ((added-below (l .inv .5) (k .0), k .1), tt, c .before .before .before .before .before .unify-pair .ensures .1 .2))
+    (match-refused _ _ _ _ _ _ _ _ _ _ _ (l .n) _ (l .left) (l .total) (l .inv .6) (omega (arith, c .before .before .before .before .before .before .before .before .before .before .loop-test .taken)) (l .inv .3) (omega (arith, c .before .before .before .before .before .before .before .before .before .before .before .before .before .pre .1 .arity, l .inv .4)) _ _ (c .before .before .before .before .before .before .before .before .before .part-of .ensures) (c .before .before .before .before .before .before .before .before .part-of2 .ensures) _ _ _ (c .before .before .before .before .before .unify-pair .ensures .0) _ (c .before .q .given .1), ((added-below (l .inv .5) (k .0), k .1), tt, c .before .before .before .before .before .unify-pair .ensures .1 .2))
 
 unify-arguments-add-n : (t : ℕ) → unify-arguments-lts.Need-add-n (unify-arguments-told t) (unify-arguments-at t) unify-arguments.Post unify-arguments-Inv-loop unify-arguments-μ-loop
 unify-arguments-add-n t c = search needs
@@ -109,9 +111,14 @@ unify-arguments-loop-less t c = search needs
 unify-arguments-loop-again : (t : ℕ) → unify-arguments-lts.Need-loop-again (unify-arguments-told t) (unify-arguments-at t) unify-arguments.Post unify-arguments-Inv-loop unify-arguments-μ-loop
 unify-arguments-loop-again t c =
     let l = c .before .before .before .before .before .before .before .before .before .before .before .loop in
-    let d = less-done (l .left) _ _ _ (c .before .w .given .1) (c .before .before .before .before .before .unify-pair .ensures .1 .1) in
-    let k = filed-done _ _ (l .total) _ _ _ (c .before .w .given .1) (c .before .before .before .before .before .unify-pair .ensures .1 .0) in
-    (c .before .before .before .before .before .unify-pair .ensures .1 .2, c .before .before .before .before .before .unify-pair .kept .1 .1 .0 ∙ l .inv .1, omega (arith, d, l .inv .2), omega arith, omega (arith, c .before .before .before .before .before .before .before .before .before .before .loop-test .taken), added-then (l .inv .5) k, match-next _ _ _ _ _ _ _ _ _ _ _ (l .n) _ (l .left) (l .total) (l .inv .6) (omega (arith, c .before .before .before .before .before .before .before .before .before .before .loop-test .taken)) (l .inv .3) (omega (arith, c .before .before .before .before .before .before .before .before .before .before .before .before .before .pre .1 .1 .0, l .inv .4)) _ _ (c .before .before .before .before .before .before .before .before .before .part-of .ensures) (c .before .before .before .before .before .before .before .before .part-of2 .ensures) _ _ _ (c .before .before .before .before .before .unify-pair .ensures .0) _ _ (c .before .w .given .1) (l .inv .5) k _ (omega (arith, c .before .before .before .before .before .before .before .before .before .before .loop-test .taken)))
+    let the-unify-pair = c .before .before .before .before .before .unify-pair in
+    let the-loop-test = c .before .before .before .before .before .before .before .before .before .before .loop-test in
+    let the-pre = c .before .before .before .before .before .before .before .before .before .before .before .before .before .pre in
+    let the-part-of = c .before .before .before .before .before .before .before .before .before .part-of in
+    let the-part-of-again = c .before .before .before .before .before .before .before .before .part-of2 in
+    let d = less-done (l .left) _ _ _ (c .before .w .given .1) (the-unify-pair .ensures .1 .1) in
+    let k = filed-done _ _ (l .total) _ _ _ (c .before .w .given .1) (the-unify-pair .ensures .1 .0) in
+    (the-unify-pair .ensures .1 .2, the-unify-pair .kept .1 .1 .0 ∙ l .inv .1, omega (arith, d, l .inv .2), omega arith, omega (arith, the-loop-test .taken), added-then (l .inv .5) k, match-next _ _ _ _ _ _ _ _ _ _ _ (l .n) _ (l .left) (l .total) (l .inv .6) (omega (arith, the-loop-test .taken)) (l .inv .3) (omega (arith, the-pre .1 .arity, l .inv .4)) _ _ (the-part-of .ensures) (the-part-of-again .ensures) _ _ _ (the-unify-pair .ensures .0) _ _ (c .before .w .given .1) (l .inv .5) k _ (omega (arith, the-loop-test .taken)))
 
 unify-arguments-same-length-2 : (t : ℕ) → unify-arguments-lts.Need-same-length-2 (unify-arguments-told t) (unify-arguments-at t) unify-arguments.Post unify-arguments-Inv-loop unify-arguments-μ-loop
 unify-arguments-same-length-2 t c = search needs
@@ -119,7 +126,7 @@ unify-arguments-same-length-2 t c = search needs
 unify-arguments-returns-2 : (t : ℕ) → unify-arguments-lts.Need-returns-2 (unify-arguments-told t) (unify-arguments-at t) unify-arguments.Post unify-arguments-Inv-loop unify-arguments-μ-loop
 unify-arguments-returns-2 t c =
     let l = c .before .loop in
-    (match-last _ _ _ _ _ _ _ _ _ _ _ (l .n) _ _ _ (c .before .before .before .pre .1 .1 .0) (omega (arith, l .inv .4, c .loop-test .left)) (l .inv .6), (l .inv .5, l .inv .2, l .inv .0))
+    (match-last _ _ _ _ _ _ _ _ _ _ _ (l .n) _ _ _ (c .before .before .before .pre .1 .arity) (omega (arith, l .inv .4, c .loop-test .left)) (l .inv .6), (l .inv .5, l .inv .2, l .inv .0))
 
 abbrev unify-pair-Inv-loop : unify-pair-lts.InvT-loop
 unify-pair-Inv-loop nodes values₀ bindings₀ held₀ l₀ i₀ r₀ j₀ work₀ values bindings held l i r j work =
@@ -131,29 +138,30 @@ unify-pair-μ-loop nodes values₀ bindings₀ held₀ l₀ i₀ r₀ j₀ work�
 
 unify-pair-loop-holds : (t : ℕ) → unify-pair-lts.Need-loop-holds (unify-pair-told t) (unify-pair-at t) unify-pair.Post unify-pair-Inv-loop unify-pair-μ-loop
 unify-pair-loop-holds t c =
-    (c .before .pre .1 .1, refl, omega arith, added-none _ _, pursued-start _ _ _ _ _ _ _)
+    (c .before .pre .1 .standing .stand .models .room, refl, omega arith, added-none _ _, pursued-start _ _ _ _ _ _ _)
 
 unify-pair-sub-work : (t : ℕ) → unify-pair-lts.Need-sub-work (unify-pair-told t) (unify-pair-at t) unify-pair.Post unify-pair-Inv-loop unify-pair-μ-loop
 unify-pair-sub-work t c = search needs
 
 unify-pair-follow-requires : (t : ℕ) → unify-pair-lts.Need-follow-requires (unify-pair-told t) (unify-pair-at t) unify-pair.Post unify-pair-Inv-loop unify-pair-μ-loop
 unify-pair-follow-requires t c κs =
-    (c .before .before .before .before .pre .1 .0, c .before .before .loop .inv .0)
+    left-followable (pursued-ready (c .before .before .before .before .pre .1) (c .before .before .loop .inv .4))
 
 unify-pair-follow-requires-2 : (t : ℕ) → unify-pair-lts.Need-follow-requires-2 (unify-pair-told t) (unify-pair-at t) unify-pair.Post unify-pair-Inv-loop unify-pair-μ-loop
 unify-pair-follow-requires-2 t c κs =
-    (c .before .before .before .before .before .before .pre .1 .0, c .before .follow .ensures .1)
+    right-followable (pursued-ready (c .before .before .before .before .before .before .pre .1) (c .before .before .before .before .loop .inv .4)) _ _ (c .before .follow .ensures .0)
 
 unify-pair-meet-requires : (t : ℕ) → unify-pair-lts.Need-meet-requires (unify-pair-told t) (unify-pair-at t) unify-pair.Post unify-pair-Inv-loop unify-pair-μ-loop
 unify-pair-meet-requires t c κs =
-    c .before .before .before .before .before .before .before .pre .1 .0
+    c .before .before .before .before .before .before .before .pre .1 .standing .nodes
 
 unify-pair-enum-known-v : (t : ℕ) → unify-pair-lts.Need-enum-known-v (unify-pair-told t) (unify-pair-at t) unify-pair.Post unify-pair-Inv-loop unify-pair-μ-loop
 unify-pair-enum-known-v t c = search needs
 
 unify-pair-bind-requires : (t : ℕ) → unify-pair-lts.Need-bind-requires (unify-pair-told t) (unify-pair-at t) unify-pair.Post unify-pair-Inv-loop unify-pair-μ-loop
 unify-pair-bind-requires t c κs =
-    (c .before .before .before .before .before .before .before .before .before .before .before .before .before .pre .1 .0, c .before .before .before .before .before .before .follow2 .ensures .1)
+    let m = rw (c .before .before .before .v .given .1) at (c .before .before .before .before .before .meet .ensures) in
+    bind-ready (pursued-ready (c .before .before .before .before .before .before .before .before .before .before .before .before .before .pre .1) (c .before .before .before .before .before .before .before .before .before .before .before .loop .inv .4)) _ _ (c .before .before .before .before .before .before .before .before .follow .ensures .0) _ _ (c .before .before .before .before .before .before .follow2 .ensures .0) m refl refl
 
 unify-pair-same-length : (t : ℕ) → unify-pair-lts.Need-same-length (unify-pair-told t) (unify-pair-at t) unify-pair.Post unify-pair-Inv-loop unify-pair-μ-loop
 unify-pair-same-length t c = search needs
@@ -193,21 +201,22 @@ unify-pair-enum-known-f t c = search needs
 
 unify-pair-arity-of-requires : (t : ℕ) → unify-pair-lts.Need-arity-of-requires (unify-pair-told t) (unify-pair-at t) unify-pair.Post unify-pair-Inv-loop unify-pair-μ-loop
 unify-pair-arity-of-requires t c κs =
-    c .before .before .before .before .before .before .before .before .before .before .before .pre .1 .0
+    c .before .before .before .before .before .before .before .before .before .before .before .pre .1 .standing .nodes
 
 unify-pair-part-of-requires : (t : ℕ) → unify-pair-lts.Need-part-of-requires (unify-pair-told t) (unify-pair-at t) unify-pair.Post unify-pair-Inv-loop unify-pair-μ-loop
 unify-pair-part-of-requires t c κs =
-    c .before .before .before .before .before .before .before .before .before .before .before .before .pre .1 .0
+    c .before .before .before .before .before .before .before .before .before .before .before .before .pre .1 .standing .nodes
 
 unify-pair-part-of-requires-2 : (t : ℕ) → unify-pair-lts.Need-part-of-requires-2 (unify-pair-told t) (unify-pair-at t) unify-pair.Post unify-pair-Inv-loop unify-pair-μ-loop
 unify-pair-part-of-requires-2 t c κs =
-    c .before .before .before .before .before .before .before .before .before .before .before .before .before .pre .1 .0
+    c .before .before .before .before .before .before .before .before .before .before .before .before .before .pre .1 .standing .nodes
 
 unify-pair-unify-arguments-requires : (t : ℕ) → unify-pair-lts.Need-unify-arguments-requires (unify-pair-told t) (unify-pair-at t) unify-pair.Post unify-pair-Inv-loop unify-pair-μ-loop
 unify-pair-unify-arguments-requires t c κs =
-    let m = meets-last (rw (c .before .before .before .before .before .before .f .given .1) at (c .before .before .before .before .before .before .before .before .meet .ensures)) in
-    let n = c .before .before .before .before .arity-of .ensures .0 in
-    (omega (arith, c .before .before .before .before .before .before .before .before .before .before .before .before .before .before .before .before .pre .0, c .before .before .before .before .before .before .before .before .before .before .before .before .before .before .loop .inv .2, c .before .before .before .before .before .before .before .before .before .before .before .before .before .loop-test .taken), ((c .before .before .before .before .before .before .before .before .before .before .before .before .before .before .before .before .pre .1 .0, c .before .before .before .before .before .before .before .before .before .follow2 .ensures .1), (n, omega (arith, m, n))))
+    let s = c .before .before .before .before .before .before .before .before .before .before .before .before .before .before .before .before in
+    let l = c .before .before .before .before .before .before .before .before .before .before .before .before .before .before .loop in
+    let m = rw (c .before .before .before .before .before .before .f .given .1) at (c .before .before .before .before .before .before .before .before .meet .ensures) in
+    (omega (arith, s .pre .0, l .inv .2, c .before .before .before .before .before .before .before .before .before .before .before .before .before .loop-test .taken), arguments-ready (pursued-ready (s .pre .1) (l .inv .4)) _ _ (c .before .before .before .before .before .before .before .before .before .before .before .follow .ensures .0) _ _ (c .before .before .before .before .before .before .before .before .before .follow2 .ensures .0) m refl refl _ (c .before .before .before .before .arity-of .ensures .0))
 
 unify-pair-enum-known-w : (t : ℕ) → unify-pair-lts.Need-enum-known-w (unify-pair-told t) (unify-pair-at t) unify-pair.Post unify-pair-Inv-loop unify-pair-μ-loop
 unify-pair-enum-known-w t c = search needs
@@ -220,10 +229,19 @@ unify-pair-loop-less t c =
 unify-pair-loop-again : (t : ℕ) → unify-pair-lts.Need-loop-again (unify-pair-told t) (unify-pair-at t) unify-pair.Post unify-pair-Inv-loop unify-pair-μ-loop
 unify-pair-loop-again t c =
     let l = c .before .before .before .before .before .before .before .before .before .before .before .before .before .before .before .before .before .before .before .before .loop in
-    let m = rw (c .before .before .before .before .before .before .before .before .before .before .before .before .f .given .1) at (c .before .before .before .before .before .before .before .before .before .before .before .before .before .before .meet .ensures) in
-    let d = no-more-done _ _ _ _ (c .before .w .given .1) (c .before .before .before .before .before .unify-arguments .ensures .1 .1) in
-    let k = filed-done _ _ (l .held) _ _ _ (c .before .w .given .1) (c .before .before .before .before .before .unify-arguments .ensures .1 .0) in
-    (c .before .before .before .before .before .unify-arguments .ensures .1 .2, c .before .before .before .before .before .unify-arguments .kept .1 .1 .0 ∙ l .inv .1, omega (arith, d, l .inv .2), added-then (l .inv .3) k, pursued-next _ _ _ _ _ _ _ _ _ _ _ _ _ (l .inv .4) (l .inv .3) (omega (arith, c .before .before .before .before .before .before .before .before .before .before .before .before .before .before .before .before .before .before .before .loop-test .taken)) _ _ _ _ (c .before .before .before .before .before .before .before .before .before .before .before .before .before .before .before .before .before .follow .ensures .0) (c .before .before .before .before .before .before .before .before .before .before .before .before .before .before .before .follow2 .ensures .0) m refl refl _ _ _ _ _ (c .before .w .given .1) (c .before .before .before .before .before .unify-arguments .ensures .0) k _ _ _ (c .before .before .before .before .before .before .before .before .before .before .arity-of .ensures .0) (c .before .before .before .before .before .before .before .before .before .part-of .ensures) (c .before .before .before .before .before .before .before .before .part-of2 .ensures))
+    let the-f = c .before .before .before .before .before .before .before .before .before .before .before .before .f in
+    let the-meet = c .before .before .before .before .before .before .before .before .before .before .before .before .before .before .meet in
+    let the-unify-arguments = c .before .before .before .before .before .unify-arguments in
+    let the-loop-test = c .before .before .before .before .before .before .before .before .before .before .before .before .before .before .before .before .before .before .before .loop-test in
+    let the-follow = c .before .before .before .before .before .before .before .before .before .before .before .before .before .before .before .before .before .follow in
+    let the-follow-again = c .before .before .before .before .before .before .before .before .before .before .before .before .before .before .before .follow2 in
+    let the-arity-of = c .before .before .before .before .before .before .before .before .before .before .arity-of in
+    let the-part-of = c .before .before .before .before .before .before .before .before .before .part-of in
+    let the-part-of-again = c .before .before .before .before .before .before .before .before .part-of2 in
+    let m = rw (the-f .given .1) at (the-meet .ensures) in
+    let d = no-more-done _ _ _ _ (c .before .w .given .1) (the-unify-arguments .ensures .1 .1) in
+    let k = filed-done _ _ (l .held) _ _ _ (c .before .w .given .1) (the-unify-arguments .ensures .1 .0) in
+    (the-unify-arguments .ensures .1 .2, the-unify-arguments .kept .1 .1 .0 ∙ l .inv .1, omega (arith, d, l .inv .2), added-then (l .inv .3) k, pursued-next _ _ _ _ _ _ _ _ _ _ _ _ _ (l .inv .4) (l .inv .3) (omega (arith, the-loop-test .taken)) _ _ _ _ (the-follow .ensures .0) (the-follow-again .ensures .0) m refl refl _ _ _ _ _ (c .before .w .given .1) (the-unify-arguments .ensures .0) k _ _ _ (the-arity-of .ensures .0) (the-part-of .ensures) (the-part-of-again .ensures))
 
 unify-pair-enum-known-q : (t : ℕ) → unify-pair-lts.Need-enum-known-q (unify-pair-told t) (unify-pair-at t) unify-pair.Post unify-pair-Inv-loop unify-pair-μ-loop
 unify-pair-enum-known-q t c = search needs
