@@ -112,15 +112,15 @@ module _ (N : List ℕ) (top : ℕ) (A : List ℕ) (isFull : List Binding → Bo
     pub models : Models N top A (extend base bs)
     pub ok : (e : Expression) → TestRuns (nodeRow N) mostLinks isFull base w bs x e o (testedOf r)
 
-  pub record LookingArgs (r k w : ℕ) (q : Occurs) : Type 0 where
+  pub record LookingArguments (r k w : ℕ) (q : Occurs) : Type 0 where
     pub models : Models N top A (extend base bs)
     pub ok : (e : Expression) → TestsRun (nodeRow N) mostLinks isFull base w bs x e (argumentsFrom N r (nodeArity N r) 1) k (testedOf q)
 
 abbrev pub Looked : List ℕ → List ℕ → List ℕ → Expression → Expression → ℕ → Occurs → Type 0
 Looked N A A′ x o w r = (top : ℕ) (isFull : List Binding → Bool) (base : Environment) (bs : List Binding) → Models N top A (extend base bs) → InStep N top o → Looking N top A′ isFull base bs x o w r
 
-abbrev pub LookedArgs : List ℕ → List ℕ → List ℕ → Expression → ℕ → ℕ → ℕ → Occurs → Type 0
-LookedArgs N A A′ x r k w q = (top : ℕ) (isFull : List Binding → Bool) (base : Environment) (bs : List Binding) → Models N top A (extend base bs) → InStep N top (r, k) → isVariable N r ≡ false → LookingArgs N top A′ isFull base bs x r k w q
+abbrev pub LookedArguments : List ℕ → List ℕ → List ℕ → Expression → ℕ → ℕ → ℕ → Occurs → Type 0
+LookedArguments N A A′ x r k w q = (top : ℕ) (isFull : List Binding → Bool) (base : Environment) (bs : List Binding) → Models N top A (extend base bs) → InStep N top (r, k) → isVariable N r ≡ false → LookingArguments N top A′ isFull base bs x r k w q
 
 -- In the arguments of r at index k: what holds from argument n on, of which `rest` are left, holds of all.
 module _ (N : List ℕ) (top : ℕ) (A : List ℕ) (isFull : List Binding → Bool) (base : Environment) (bs : List Binding) (x : Expression) where
@@ -134,8 +134,8 @@ Scanned N A A′ x r k w n rest left = (top : ℕ) (isFull : List Binding → Bo
 -- The arguments before the last: the last is left to be taken up, or the test of all of them ended.
 abbrev pub LookedBefore : List ℕ → List ℕ → List ℕ → Expression → ℕ → ℕ → ℕ → Occurs → Type 0
 LookedBefore N A A′ x r k w (No l) = Scanned N A A′ x r k w (nodeArity N r) 1 l
-LookedBefore N A A′ x r k w Yes = LookedArgs N A A′ x r k w Yes
-LookedBefore N A A′ x r k w Spent = LookedArgs N A A′ x r k w Spent
+LookedBefore N A A′ x r k w Yes = LookedArguments N A A′ x r k w Yes
+LookedBefore N A A′ x r k w Spent = LookedArguments N A A′ x r k w Spent
 
 -- The answer of a test that ends on an unbound variable: it is the one sought, or not.
 abbrev pub metVariable : Bool → ℕ → Occurs

@@ -1,8 +1,8 @@
 // The lines of the readout: a clause written out. In specs/, `Readout` has what the readout is; `Literals` and `Lines` say how the
 // parts of this program go about it.
 pub mod line;
-pub mod literals;
+mod literals;
 
 // The list that the literals of a clause are collected in, two cells for each: a clause has at most 128 of them, and while it is put
 // together there is one more at each step that it has at most.
-pub type LiteralList = [u16; 8704];
+type LiteralList = [u16; 8704];

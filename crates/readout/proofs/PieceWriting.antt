@@ -28,6 +28,7 @@ use Rattle.terms.specs.Writing.{Wrote}
 use Rattle.readout.specs.declared.piece.Piece.{Piece}
 use Rattle.readout.specs.declared.piece.Rest.the-variants.{Complete}
 use Rattle.terms.proofs.Decimals.{decimal-length}
+use Rattle.terms.proofs.Positions.{wrote-inside, wrote-position, wrote-bytes}
 use Rattle.lines.proofs.LineTexts.{line-short}
 use Rattle.readout.proofs.PieceLaws.{AllWithin, pieces-hold}
 use Rattle.readout.proofs.PieceRuns.{SoFar, so-far-none, so-far-all, so-far-stopped, so-far-more}
@@ -95,11 +96,11 @@ module _ {F C B N A : List ℕ} {a : Answer} (R : AfterCheck F C B N A a) where
       let i : n < length (units (readoutLines F (lengthsOf (R .before)))) = subst (λ (k : ℕ). n < k) number l in
       let w : Wrote T₀ T 0 end (unitAt F (lengthsOf (R .before)) n) = W .wrote (after-again R values) in
       let fits = one-within 131072 (units (readoutLines F (lengthsOf (R .before)))) n (all-within F (lengthsOf (R .before))) i in
-      let e = w .position (omega (arith, fits, room)) in
-      record { inside = i; size = omega (arith, e); bytes = w .bytes (omega (arith, fits, room)) }
+      let e = wrote-position w (omega (arith, fits, room)) in
+      record { inside = i; size = omega (arith, e); bytes = wrote-bytes w (omega (arith, fits, room)) }
 
 pub end-inside : {F C B N A A₂ T₀ T : List ℕ} {a : Answer} {n end : ℕ} → AfterCheck F C B N A a → length T₀ ≡ 131072 → UnitWritten F C B N A A₂ T₀ T 0 a n end → end ≤ 131072
-end-inside R room W = omega (arith, W .wrote R .inside (omega arith), room)
+end-inside R room W = omega (arith, wrote-inside (W .wrote R) (omega arith), room)
 
 -- The invariant of the loop and the ways out of it.
 abbrev pub Written : List ℕ → List ℕ → List ℕ → List ℕ → List ℕ → Answer → ℕ → List ℕ → List ℕ → ℕ → ℕ → Type 0

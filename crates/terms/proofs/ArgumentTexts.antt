@@ -17,7 +17,7 @@ use Rattle.following.proofs.Occurrence.{arg-good, args-eq}
 use Rattle.terms.specs.Text.{termText, argumentsText, furtherText}
 use Rattle.terms.specs.Writing.{Wrote, markBefore, closingText, Writable, WritingReady, WritingArgumentsReady, WritesTerm, argumentsOut, WritesArguments}
 use Rattle.terms.specs.declared.term.Written.the-variants.{Done, TooMany}
-use Rattle.terms.proofs.Positions.{kept-then, wrote-nothing, wrote-then}
+use Rattle.terms.proofs.Positions.{kept-then, wrote-nothing, wrote-onward, wrote-then}
 use Rattle.terms.proofs.TermTexts.{writable-at}
 
 -- What is to be written where argument n is the next one.
@@ -96,7 +96,7 @@ module _ (N A T : List ℕ) (at r k left : ℕ) where
       scan-broke A₂ T₃ L top ρ row term σ W f =
           let L′ = L top ρ row term σ (argument-writable top ρ row term σ W f) in
           let M = marked top ρ row term σ W f in
-          record { models = L′ .models; came = (omega (arith, counted top ρ row term σ W f, L′ .came .0), kept-then T T₂ T₃ at begin (M .onward) (M .kept) (L′ .came .1)) }
+          record { models = L′ .models; came = (omega (arith, counted top ρ row term σ W f, L′ .came .0), kept-then T T₂ T₃ at begin (wrote-onward M) (M .kept) (L′ .came .1)) }
 
       pub scan-next : (A₂ T₃ : List ℕ) (after l : ℕ) → WritesTerm N A₁ A₂ T₂ T₃ begin (a, k) spare (Done after l) → Scanned N A A₂ T T₃ at r k left after (n + 1) (rest - 1) l
       scan-next A₂ T₃ after l L top ρ row term σ W f =

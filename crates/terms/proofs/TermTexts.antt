@@ -20,7 +20,7 @@ use Rattle.terms.specs.Text.{decimal, variableNumber, termText, argument
 use Rattle.terms.specs.Writing.{Wrote, Writable, WritingReady, WritingArgumentsReady, Came, Writing, WritesTerm, argumentsOut, WritesArguments, FewerOccurrencesLeft, NoMoreOccurrencesLeft}
 use Rattle.terms.specs.declared.term.Written.{Written}
 use Rattle.terms.specs.declared.term.Written.the-variants.{Done, TooMany}
-use Rattle.terms.proofs.Positions.{kept-same, kept-then, wrote-then}
+use Rattle.terms.proofs.Positions.{kept-same, kept-then, wrote-onward, wrote-then}
 
 -- Following sees the node table as it sees the rows.
 module _ (N : List ℕ) (top : ℕ) (ρ : Environment) (row : ℕ → Row) (kept : (e d : Expression) → ρ e ≡ some d → InStep N top e → InStep N top d) (rows : (r : ℕ) → HasRow N r → nodeRow N r ≡ row r) where
@@ -76,7 +76,7 @@ done-less {left} q h = subst (FewerOccurrencesLeft left) q h
 -- An application is written by its symbol and then its arguments.
 came-application : (T T₁ T₂ : List ℕ) (at next left : ℕ) (x y : List ℕ) (count : ℕ) (w : Written) → (left ≡ 0 → ⊥) → Wrote T T₁ at next x → Came T₁ T₂ next (left - 1) y count w → Came T T₂ at left (x ++ y) (suc count) w
 came-application T T₁ T₂ at next left x y count (Done end l) nz v c = (omega (arith, c .0), wrote-then T T₁ T₂ at next end x y v (c .1))
-came-application T T₁ T₂ at next left x y count TooMany nz v c = (omega (arith, c .0), kept-then T T₁ T₂ at next (v .onward) (v .kept) (c .1))
+came-application T T₁ T₂ at next left x y count TooMany nz v c = (omega (arith, c .0), kept-then T T₁ T₂ at next (wrote-onward v) (v .kept) (c .1))
 
 -- The ways out of writing a term.
 module _ (N A T : List ℕ) (at : ℕ) (e : Expression) (left : ℕ) where

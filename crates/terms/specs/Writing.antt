@@ -3,7 +3,7 @@
 use mathlib.Core.Path.{_≡_}
 use mathlib.Core.Bool.{Bool, false}
 use mathlib.Core.List.{List, [], _∷_, _++_}
-use Prim.Native.Nat.{ℕ, _+_, _%_, _≤_, _<_}
+use Prim.Native.Nat.{ℕ, _+_, _-_, _%_, _≤_, _<_}
 use lib.Dec.{eqb}
 use lib.ListN.{length, take}
 use Rattle.record.specs.Record.{pick}
@@ -22,14 +22,16 @@ pub record KeptBefore (T T′ : List ℕ) (at : ℕ) : Type 0 where
   pub room : length T′ ≡ length T
   pub before : take at T′ ≡ take at T
 
--- The text was written at a position, and `end` is the position after it. Where the text does not fit into the buffer, what is past
--- its end is dropped, and nothing is said of `end` but that it is within the buffer.
+-- The part of a text that fits into the buffer from a position on.
+abbrev pub fittingPart : List ℕ → ℕ → List ℕ → List ℕ
+fittingPart T at text = take (length T - at) text
+
+-- As much of the text as fits was written at a position, and `end` is the position after it. Nothing is said of the bytes from `end` on:
+-- after a literal that was broken off and became `~` they hold what was written of it.
 pub record Wrote (T T′ : List ℕ) (at end : ℕ) (text : List ℕ) : Type 0 where
   pub kept : KeptBefore T T′ at
-  pub onward : at ≤ end
-  pub inside : at ≤ length T → end ≤ length T
-  pub position : at + length text ≤ length T → end ≡ at + length text
-  pub bytes : at + length text ≤ length T → take end T′ ≡ take at T ++ text
+  pub position : end ≡ at + length (fittingPart T at text)
+  pub bytes : take end T′ ≡ take at T ++ fittingPart T at text
 
 -- The node table, the array of values and the buffer have their lengths.
 pub record Sized (N A T : List ℕ) : Type 0 where

@@ -69,7 +69,7 @@ pub fn put_decimal(text: &mut TextBuffer, at: usize, n: u16) -> usize
 }
 
 // `s` and the number of a symbol.
-pub fn put_symbol(text: &mut TextBuffer, at: usize, symbol: u16) -> usize
+pub(crate) fn put_symbol(text: &mut TextBuffer, at: usize, symbol: u16) -> usize
     requires { ⌜ length (now text) ≡ 131072 ⌝ }
     ensures { λ end. ⌜ Wrote (now (text .entry)) (now (text .exit)) at end (115 ∷ decimal symbol) ⌝ }
 {
@@ -78,7 +78,7 @@ pub fn put_symbol(text: &mut TextBuffer, at: usize, symbol: u16) -> usize
 }
 
 // `v`, the number of a variable, a dot and its index.
-pub fn put_variable(text: &mut TextBuffer, at: usize, variable: u16, index: u16) -> usize
+pub(crate) fn put_variable(text: &mut TextBuffer, at: usize, variable: u16, index: u16) -> usize
     requires { ⌜ length (now text) ≡ 131072 ⌝ }
     ensures { λ end. ⌜ Wrote (now (text .entry)) (now (text .exit)) at end (118 ∷ (decimal variable ++ (46 ∷ decimal index))) ⌝ }
 {

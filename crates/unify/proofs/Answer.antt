@@ -30,7 +30,7 @@ pub pair-ready : {N A B : List ℕ} {held : ℕ} {e d : Expression} → Ready N 
 pair-ready {held = held} R =
     let F = R .facing in
     record {
-      standing = record { nodes = R .nodes; top = R .top; first = held; base = R .environment; bindings = []; stand = stand R (R .top) (R .environment) F };
+      step = record { nodes = R .nodes; top = R .top; first = held; base = R .environment; bindings = []; stand = stand R (R .top) (R .environment) F };
       left = F .left;
       right = F .right;
     }

@@ -59,7 +59,7 @@ pub record Stand (N : List ℕ) (top : ℕ) (A B : List ℕ) (first : ℕ) (base
   pub room : 32768 ≤ length B
 
 -- Some step stands: its maximum index, the bindings held before it, what its parents say, and its bindings.
-pub record Standing (N A B : List ℕ) (held : ℕ) : Type 0 where
+pub record StepReady (N A B : List ℕ) (held : ℕ) : Type 0 where
   pub nodes : length N ≡ 32768
   pub top : ℕ
   pub first : ℕ
@@ -86,23 +86,23 @@ pub record Alike (N : List ℕ) (top v a t b : ℕ) : Type 0 where
 
 -- What the pair walk asks: a step that stands, with both sides in it.
 pub record PairReady (N A B : List ℕ) (held : ℕ) (e d : Expression) : Type 0 where
-  pub standing : Standing N A B held
-  pub left : InStep N (standing .top) e
-  pub right : InStep N (standing .top) d
+  pub step : StepReady N A B held
+  pub left : InStep N (step .top) e
+  pub right : InStep N (step .top) d
 
 -- What binding x to d asks: x is an unbound variable, and d was followed and is not x.
 pub record BindReady (N A B : List ℕ) (held : ℕ) (x d : Expression) : Type 0 where
-  pub standing : Standing N A B held
-  pub variableInStep : InStep N (standing .top) x
+  pub step : StepReady N A B held
+  pub variableInStep : InStep N (step .top) x
   pub variableRow : isVariable N (x .0) ≡ true
-  pub inStep : InStep N (standing .top) d
-  pub free : extend (standing .base) (standing .bindings) x ≡ none
-  pub settled : Settled N (extend (standing .base) (standing .bindings)) x d
+  pub inStep : InStep N (step .top) d
+  pub free : extend (step .base) (step .bindings) x ≡ none
+  pub settled : Settled N (extend (step .base) (step .bindings)) x d
 
 -- What the argument walk asks: two applications of one symbol, whose last arguments are number `last`.
 pub record ArgumentsReady (N A B : List ℕ) (held v a t b last : ℕ) : Type 0 where
-  pub standing : Standing N A B held
-  pub alike : Alike N (standing .top) v a t b
+  pub step : StepReady N A B held
+  pub alike : Alike N (step .top) v a t b
   pub arity : last ≡ nodeArity N v
   pub some : 1 ≤ last
 
@@ -127,7 +127,7 @@ module _ (N : List ℕ) (top : ℕ) (A B : List ℕ) (first : ℕ) (base : Envir
   pub record Tying (x d : Expression) (w : ℕ) (u : Unified) : Type 0 where
     pub tested : Tested
     pub ok : TestRuns (nodeRow N) mostLinks (noRoom first) base w bs x d d tested
-    pub res : bindOutcome (nodeRow N) mostLinks (noRoom first) base tested bs x d ≡ outcomeOnto u B held bs
+    pub outcome : bindOutcome (nodeRow N) mostLinks (noRoom first) base tested bs x d ≡ outcomeOnto u B held bs
     pub after : Stands N top A B first base bs held u
 
   pub record Arguing (v a t b w : ℕ) (u : Unified) : Type 0 where

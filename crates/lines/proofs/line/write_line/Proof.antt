@@ -1,4 +1,5 @@
 use mathlib.Core.Path.{_∙_}
+use native.Mathlib.Omega.{arith}
 use Rattle.lines.proofs.LineTexts.{line-clear, line-load, line-literals, line-written}
 use borrow.Author.Needs.{needs}
 use Rattle.lines.proofs.line.write_line.Statement.{statement}
@@ -9,7 +10,8 @@ index-cell-requires c κs = search needs
 
 clear-requires : tie.Need-clear-requires
 clear-requires c κs =
-    line-clear (c .before .before .before .before .before .pre) _ (c .before .index-cell .ensures)
+    let h = line-clear (c .before .before .before .before .before .pre) _ (c .before .index-cell .ensures) in
+    (h .0, omega (arith, h .1))
 
 load-requires : tie.Need-load-requires
 load-requires c κs =

@@ -71,15 +71,15 @@ unify-pair-told t = (follow-reads.Asked, follow-reads.Learnt, meet-reads.Asked, 
 
 unify-arguments-loop-holds : (t : ℕ) → unify-arguments-lts.Need-loop-holds (unify-arguments-told t) (unify-arguments-at t) unify-arguments.Post unify-arguments-Inv-loop unify-arguments-μ-loop
 unify-arguments-loop-holds t c =
-    (c .before .pre .1 .standing .stand .models .room, refl, omega arith, omega arith, c .before .pre .1 .some, added-none _ _, match-start _ _ _ _ _ _ _ _ _ (c .before .args .last + 1 - 1) (omega (arith, c .before .pre .1 .arity)))
+    (c .before .pre .1 .step .stand .models .room, refl, omega arith, omega arith, c .before .pre .1 .some, added-none _ _, match-start _ _ _ _ _ _ _ _ _ (c .before .args .last + 1 - 1) (omega (arith, c .before .pre .1 .arity)))
 
 unify-arguments-part-of-requires : (t : ℕ) → unify-arguments-lts.Need-part-of-requires (unify-arguments-told t) (unify-arguments-at t) unify-arguments.Post unify-arguments-Inv-loop unify-arguments-μ-loop
 unify-arguments-part-of-requires t c κs =
-    c .before .before .before .pre .1 .standing .nodes
+    c .before .before .before .pre .1 .step .nodes
 
 unify-arguments-part-of-requires-2 : (t : ℕ) → unify-arguments-lts.Need-part-of-requires-2 (unify-arguments-told t) (unify-arguments-at t) unify-arguments.Post unify-arguments-Inv-loop unify-arguments-μ-loop
 unify-arguments-part-of-requires-2 t c κs =
-    c .before .before .before .before .pre .1 .standing .nodes
+    c .before .before .before .before .pre .1 .step .nodes
 
 unify-arguments-unify-pair-requires : (t : ℕ) → unify-arguments-lts.Need-unify-pair-requires (unify-arguments-told t) (unify-arguments-at t) unify-arguments.Post unify-arguments-Inv-loop unify-arguments-μ-loop
 unify-arguments-unify-pair-requires t c κs =
@@ -138,7 +138,7 @@ unify-pair-μ-loop nodes values₀ bindings₀ held₀ l₀ i₀ r₀ j₀ work�
 
 unify-pair-loop-holds : (t : ℕ) → unify-pair-lts.Need-loop-holds (unify-pair-told t) (unify-pair-at t) unify-pair.Post unify-pair-Inv-loop unify-pair-μ-loop
 unify-pair-loop-holds t c =
-    (c .before .pre .1 .standing .stand .models .room, refl, omega arith, added-none _ _, pursued-start _ _ _ _ _ _ _)
+    (c .before .pre .1 .step .stand .models .room, refl, omega arith, added-none _ _, pursued-start _ _ _ _ _ _ _)
 
 unify-pair-sub-work : (t : ℕ) → unify-pair-lts.Need-sub-work (unify-pair-told t) (unify-pair-at t) unify-pair.Post unify-pair-Inv-loop unify-pair-μ-loop
 unify-pair-sub-work t c = search needs
@@ -153,7 +153,7 @@ unify-pair-follow-requires-2 t c κs =
 
 unify-pair-meet-requires : (t : ℕ) → unify-pair-lts.Need-meet-requires (unify-pair-told t) (unify-pair-at t) unify-pair.Post unify-pair-Inv-loop unify-pair-μ-loop
 unify-pair-meet-requires t c κs =
-    c .before .before .before .before .before .before .before .pre .1 .standing .nodes
+    c .before .before .before .before .before .before .before .pre .1 .step .nodes
 
 unify-pair-enum-known-v : (t : ℕ) → unify-pair-lts.Need-enum-known-v (unify-pair-told t) (unify-pair-at t) unify-pair.Post unify-pair-Inv-loop unify-pair-μ-loop
 unify-pair-enum-known-v t c = search needs
@@ -201,15 +201,15 @@ unify-pair-enum-known-f t c = search needs
 
 unify-pair-arity-of-requires : (t : ℕ) → unify-pair-lts.Need-arity-of-requires (unify-pair-told t) (unify-pair-at t) unify-pair.Post unify-pair-Inv-loop unify-pair-μ-loop
 unify-pair-arity-of-requires t c κs =
-    c .before .before .before .before .before .before .before .before .before .before .before .pre .1 .standing .nodes
+    c .before .before .before .before .before .before .before .before .before .before .before .pre .1 .step .nodes
 
 unify-pair-part-of-requires : (t : ℕ) → unify-pair-lts.Need-part-of-requires (unify-pair-told t) (unify-pair-at t) unify-pair.Post unify-pair-Inv-loop unify-pair-μ-loop
 unify-pair-part-of-requires t c κs =
-    c .before .before .before .before .before .before .before .before .before .before .before .before .pre .1 .standing .nodes
+    c .before .before .before .before .before .before .before .before .before .before .before .before .pre .1 .step .nodes
 
 unify-pair-part-of-requires-2 : (t : ℕ) → unify-pair-lts.Need-part-of-requires-2 (unify-pair-told t) (unify-pair-at t) unify-pair.Post unify-pair-Inv-loop unify-pair-μ-loop
 unify-pair-part-of-requires-2 t c κs =
-    c .before .before .before .before .before .before .before .before .before .before .before .before .before .pre .1 .standing .nodes
+    c .before .before .before .before .before .before .before .before .before .before .before .before .before .pre .1 .step .nodes
 
 unify-pair-unify-arguments-requires : (t : ℕ) → unify-pair-lts.Need-unify-arguments-requires (unify-pair-told t) (unify-pair-at t) unify-pair.Post unify-pair-Inv-loop unify-pair-μ-loop
 unify-pair-unify-arguments-requires t c κs =
