@@ -20,7 +20,7 @@ use Rattle.verdict.specs.Refusal.{Reason, badLength, shortTable}
 use Rattle.verdict.specs.State.{State, derivations, clauseOf, held}
 use Rattle.verdict.specs.Step.{stateOf}
 use Rattle.verdict.specs.Tables.{Tables, lengthsOf, clauseCells, tablesAfter}
-use Rattle.verdict.specs.Verdict.{refusal, check, accepted, undecided, verdictNumbers, answerNumbers, longEnough, fittingLength, ending}
+use Rattle.verdict.specs.Verdict.{refusal, check, accepted, open′, verdictNumbers, answerNumbers, longEnough, fittingLength, ending}
 use Rattle.verdict.specs.Verdict as verdicts
 use Rattle.verdict.proofs.Acceptance.{cells-length}
 use Rattle.verdict.proofs.Demanded.{check-length, check-tables, check-reads, tables-length, tables-short, tables-read, demand1, demand2, demand3}
@@ -33,7 +33,7 @@ use Rattle.answer.specs.declared.Verdict.the-variants as verdict
 -- An answer whose numbers say accepted is one.
 accepted-number : (v : verdicts.Verdict) (rest counts : List ℕ) (n : ℕ) → (1 ∷ n ∷ 0 ∷ rest) ≡ verdictNumbers v ++ counts → v ≡ accepted n
 accepted-number (accepted m) rest counts n q = ap accepted (sym (ap (λ (l : List ℕ). getD l 1 0) q))
-accepted-number undecided rest counts n q = absurd (let z : _≡_ {A = ℕ} 1 0 = ap (λ (l : List ℕ). getD l 0 0) q in omega arith)
+accepted-number open′ rest counts n q = absurd (let z : _≡_ {A = ℕ} 1 0 = ap (λ (l : List ℕ). getD l 0 0) q in omega arith)
 accepted-number (refusal reason k) rest counts n q = absurd (let z : _≡_ {A = ℕ} 1 2 = ap (λ (l : List ℕ). getD l 0 0) q in omega arith)
 
 module _ (F : List ℕ) (t : Tables) (a : Answer) (here : Tables) (isAnswer : answerGiven a ≡ answerNumbers (check F (lengthsOf t))) (isTables : here ≡ tablesAfter F t) where

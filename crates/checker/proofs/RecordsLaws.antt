@@ -7,7 +7,7 @@ use native.Mathlib.Omega.{arith}
 use Rattle.record.specs.Record.{recordCount}
 use Rattle.entry.specs.Progress.{Kept, Reading, Next, RecordRead}
 use Rattle.checker.specs.Reader.{Begun, EndedWith}
-use Rattle.verdict.specs.State.{State, start, held}
+use Rattle.verdict.specs.State.{State, emptyState, held}
 use Rattle.verdict.specs.Tables.{Tables}
 use Rattle.verdict.proofs.Advance.{Standing, refused-there, all-read}
 use Rattle.entry.proofs.Kept.{standing-of, fitting-records}
@@ -26,7 +26,7 @@ pub read-none : (F : List ℕ) (here : Tables) (N O A : List ℕ) (G : Begun F h
 unfolding held
 read-none F here N O A G = record {
   few = omega arith;
-  state = start;
+  state = emptyState;
   kept = record { fit = G .fit; long = G .long; before = refl; counts = refl; tables = G .cleared; nodes = G .nodes; origins = G .origins; values = G .values };
 }
 

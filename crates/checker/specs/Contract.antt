@@ -11,7 +11,7 @@ use Rattle.derivation.specs.Stored.{originTableOf}
 use Rattle.verdict.specs.Demands.{Demand1, Demand2, Demand3}
 use Rattle.answer.specs.Given.{answerGiven}
 use Rattle.entry.specs.Progress.{nodeTableOf, ReadTo}
-use Rattle.verdict.specs.State.{State, start, rowsOf, derivations, clauseOf}
+use Rattle.verdict.specs.State.{State, emptyState, rowsOf, derivations, clauseOf}
 use Rattle.verdict.specs.Step.{stateOf}
 use Rattle.verdict.specs.Tables.{Tables, lengthsOf, tablesAfter}
 use Rattle.verdict.specs.Verdict.{check, answerNumbers, Lengths, longEnough, fittingLength, ending, reading, stateGiven}

@@ -8,7 +8,7 @@ use Rattle.answer.specs.Given.{answerGiven}
 use Rattle.derivation.specs.Stored.{originTableOf}
 use Rattle.entry.specs.Progress.{nodeTableOf, countsOf, ReadTo}
 use Rattle.verdict.specs.Refusal.{Reason, reasonNumber}
-use Rattle.verdict.specs.State.{State, start}
+use Rattle.verdict.specs.State.{State, emptyState}
 use Rattle.verdict.specs.Step.{allStand, refusedAt, stateOf}
 use Rattle.verdict.specs.Tables.{Tables, lengthsOf, filledTables}
 use Rattle.verdict.specs.Verdict.{answerNumbers, verdictOf, answerOf, longEnough, fittingLength, ending}
@@ -21,7 +21,7 @@ pub record Begun (F : List ℕ) (here : Tables) (N O A : List ℕ) : Type 0 wher
   pub tablesBefore : Tables
   pub fit : fittingLength (length F) ≡ true
   pub long : longEnough (lengthsOf tablesBefore) ≡ true
-  pub cleared : here ≡ filledTables start tablesBefore
+  pub cleared : here ≡ filledTables emptyState tablesBefore
   pub nodes : N ≡ nodeTableOf []
   pub origins : O ≡ originTableOf []
   pub values : length A ≡ 524416

@@ -9,6 +9,9 @@ use answer::ended_answer;
 use answer::lengths::fitting_length;
 use answer::lengths::long_enough;
 use answer::untouched;
+use following::nodes::Nodes;
+use following::nodes::Origins;
+use following::values::ValueCells;
 use reader::read_records;
 use tables::clear;
 use workspace::clear_table;
@@ -25,9 +28,9 @@ fn read_tables(
     rows: &mut [u16],
     clauses: &mut [u16],
     bindings: &mut [u16],
-    nodes: &mut [u16; 32768],
-    origins: &mut [u16; 32768],
-    values: &mut [u16; 524416],
+    nodes: &mut Nodes,
+    origins: &mut Origins,
+    values: &mut ValueCells,
 ) -> Answer
     requires { ⌜ ReadableWith (now file) (tablesWith (now symbols) (now rows) (now clauses) (now bindings)) (now nodes) (now origins) (now values) ⌝ }
     ensures { λ a. ⌜ FileReadWith (now (file .entry)) (tablesWith (now (symbols .entry)) (now (rows .entry)) (now (clauses .entry)) (now (bindings .entry))) a (tablesWith (now (symbols .exit)) (now (rows .exit)) (now (clauses .exit)) (now (bindings .exit))) (now (nodes .exit)) (now (origins .exit)) (now (values .exit)) ⌝ }
@@ -102,9 +105,9 @@ pub fn check_with(
     rows: &mut [u16],
     clauses: &mut [u16],
     bindings: &mut [u16],
-    nodes: &mut [u16; 32768],
-    origins: &mut [u16; 32768],
-    values: &mut [u16; 524416],
+    nodes: &mut Nodes,
+    origins: &mut Origins,
+    values: &mut ValueCells,
 ) -> Answer
     ensures { λ a. ⌜ CheckedWith (now (file .entry)) (tablesWith (now (symbols .entry)) (now (rows .entry)) (now (clauses .entry)) (now (bindings .entry))) (workspaceWith (now (nodes .entry)) (now (origins .entry)) (now (values .entry))) a (tablesWith (now (symbols .exit)) (now (rows .exit)) (now (clauses .exit)) (now (bindings .exit))) (workspaceWith (now (nodes .exit)) (now (origins .exit)) (now (values .exit))) ⌝ }
 {

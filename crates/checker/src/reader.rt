@@ -7,6 +7,9 @@ use entry::entry::input_record;
 use entry::entry::symbol_record;
 use entry::entry::variable_record;
 use factoring::factor_record;
+use following::nodes::Nodes;
+use following::nodes::Origins;
+use following::values::ValueCells;
 use record::kind;
 use record::record_part;
 use resolution::resolve_record;
@@ -22,9 +25,9 @@ pub fn read_record(
     rows: &mut [u16],
     clauses: &mut [u16],
     bindings: &mut [u16],
-    nodes: &mut [u16; 32768],
-    origins: &mut [u16; 32768],
-    values: &mut [u16; 524416],
+    nodes: &mut Nodes,
+    origins: &mut Origins,
+    values: &mut ValueCells,
 ) -> Entered
     requires { ⌜ Reading (now file) k counts (tablesWith (now symbols) (now rows) (now clauses) (now bindings)) (now nodes) (now origins) (now values) ⌝ }
     ensures { λ e. ⌜ RecordRead (now (file .entry)) k counts (tablesWith (now (symbols .entry)) (now (rows .entry)) (now (clauses .entry)) (now (bindings .entry))) (now (nodes .entry)) (now (origins .entry)) (now (values .entry)) e (tablesWith (now (symbols .exit)) (now (rows .exit)) (now (clauses .exit)) (now (bindings .exit))) (now (nodes .exit)) (now (origins .exit)) (now (values .exit)) ⌝ }
@@ -49,9 +52,9 @@ pub fn read_records(
     rows: &mut [u16],
     clauses: &mut [u16],
     bindings: &mut [u16],
-    nodes: &mut [u16; 32768],
-    origins: &mut [u16; 32768],
-    values: &mut [u16; 524416],
+    nodes: &mut Nodes,
+    origins: &mut Origins,
+    values: &mut ValueCells,
 ) -> Ended
     requires { ⌜ Begun (now file) (tablesWith (now symbols) (now rows) (now clauses) (now bindings)) (now nodes) (now origins) (now values) ⌝ }
     ensures { λ e. ⌜ RecordsRead (now (file .entry)) (tablesWith (now (symbols .entry)) (now (rows .entry)) (now (clauses .entry)) (now (bindings .entry))) (now (nodes .entry)) (now (origins .entry)) (now (values .entry)) e (tablesWith (now (symbols .exit)) (now (rows .exit)) (now (clauses .exit)) (now (bindings .exit))) (now (nodes .exit)) (now (origins .exit)) (now (values .exit)) ⌝ }

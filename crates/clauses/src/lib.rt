@@ -1,4 +1,5 @@
 // What the tables hold of a clause, and its literals. `Named` in specs/ has the contracts; what a clause is stands in the crate derivation.
+use following::nodes::Origins;
 use following::nodes::node;
 use tables::cell;
 ghost use mathlib.Core.Path.{_≡_};
@@ -37,7 +38,7 @@ pub fn bindings_cell(clauses: &[u16], c: u16) -> u16
 
 // Cell 0 of clause c in the table of origins: 1 for an input clause, 2 for a factor, 3 for a resolve. Its seven numbers are read by
 // `part_of`, as a row's are.
-pub fn origin_code(origins: &[u16; 32768], c: u16) -> u16
+pub fn origin_code(origins: &Origins, c: u16) -> u16
     requires { ⌜ length (now origins) ≡ 32768 ⌝ }
     ensures { λ r. ⌜ r ≡ originCode (now (origins .entry)) c ⌝ }
 {

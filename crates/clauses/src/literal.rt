@@ -8,6 +8,7 @@ ghost use Rattle.clauses.specs.Named.{namedLiteral, StoredClause, Stored
 use super::index_cell;
 use super::literals_cell;
 use super::origin_code;
+use following::nodes::Origins;
 use following::nodes::part_of;
 
 // A literal: its sign, true for a positive one, its atom's row and its index; or that the clause has no such literal.
@@ -45,7 +46,7 @@ fn passed_over(n: u16, a: u16) -> u16
 }
 
 // The parent that literal n of a resolvent or a factor comes from.
-fn parent_place(origins: &[u16; 32768], clauses: &[u16], c: u16, n: u16) -> Place
+fn parent_place(origins: &Origins, clauses: &[u16], c: u16, n: u16) -> Place
     requires { ⌜ StoredLiteral (now origins) (now clauses) c n ⌝ }
     requires { ⌜ (originCode (now origins) c ≡ 1 → ⊥) ⌝ }
     ensures { λ r. ⌜ ComesUp (now (origins .entry)) (now (clauses .entry)) c n (r .clause) (r .number) (r .added) ⌝ }
@@ -77,7 +78,7 @@ fn parent_place(origins: &[u16; 32768], clauses: &[u16], c: u16, n: u16) -> Plac
 }
 
 // The input clause that literal n of clause c comes from.
-fn input_place(origins: &[u16; 32768], clauses: &[u16], c: u16, n: u16) -> Place
+fn input_place(origins: &Origins, clauses: &[u16], c: u16, n: u16) -> Place
     requires { ⌜ StoredLiteral (now origins) (now clauses) c n ⌝ }
     ensures { λ r. ⌜ ComesFromInput (now (origins .entry)) (now (clauses .entry)) c n (r .clause) (r .number) (r .added) ⌝ }
 {
@@ -98,7 +99,7 @@ fn input_place(origins: &[u16; 32768], clauses: &[u16], c: u16, n: u16) -> Place
 }
 
 // Literal n of clause c, from 1.
-pub fn literal(origins: &[u16; 32768], clauses: &[u16], c: u16, n: u16) -> NamedLiteral
+pub fn literal(origins: &Origins, clauses: &[u16], c: u16, n: u16) -> NamedLiteral
     requires { ⌜ StoredClause (now origins) (now clauses) c ⌝ }
     ensures { λ r. ⌜ ((B : List ℕ) (d : Derivation) → Stored (now (origins .entry)) (now (clauses .entry)) B c d → r ≡ namedLiteral (numbered (literals d) n)) ⌝ }
 {

@@ -21,7 +21,7 @@ use Rattle.entry.specs.Program.{nodeCells, withNode, isRepeated, noVaria
 use Rattle.tables.specs.Cells.{withClauseCells}
 use Rattle.fields.specs.Fields.{arityIn}
 use Rattle.entry.specs.Progress.{cellsOfRow, nodeTableOf, countsOf, Kept, Next}
-use Rattle.verdict.specs.Refusal.{outOfRange, notThere, repeatedRow, variableLiteral, reasonNumber, kindOfRecord, zeros, inRange, argumentRows, hasArity, allBelow, allThere, differsFromAll, allApplications}
+use Rattle.verdict.specs.Refusal.{outOfRange, notThere, repeatedRow, variableLiteral, reasonNumber, kindOfRecord, zeros, inRange, argumentRows, hasArity, allBelow, argumentsThere, differsFromAll, allApplications}
 use Rattle.verdict.specs.State.{arities, State, withSymbol, withRow, withClause, entry, rowsOf, derivations, arityOf, rowOf, bindingsOf, held, nextClause}
 use Rattle.verdict.specs.Step.{stands, Result, require, step}
 use Rattle.verdict.specs.Tables.{Tables, symbolCells, rowCells, clauseCells, bindingCells, filled, filledTables}
@@ -227,10 +227,10 @@ module _ (F : List ℕ) (t : Tables) (k : ℕ) (S : State) (n : Counts) (here : 
       last : Result
       last = require (differsFromAll (application (fieldA rec) (argumentRows rec)) (rowsOf S)) repeatedRow (stands (withRow S k (application (fieldA rec) (argumentRows rec))))
 
-      at : step S k rec ≡ require (inRange applicationKind rec) outOfRange (require (allThere S applicationKind rec) notThere (require (differsFromAll (application (fieldA rec) (argumentRows rec)) (rowsOf S)) repeatedRow (stands (withRow S k (application (fieldA rec) (argumentRows rec))))))
+      at : step S k rec ≡ require (inRange applicationKind rec) outOfRange (require (argumentsThere S rec) notThere (require (differsFromAll (application (fieldA rec) (argumentRows rec)) (rowsOf S)) repeatedRow (stands (withRow S k (application (fieldA rec) (argumentRows rec))))))
       at = at-kind S k rec applicationKind kd
 
-      there : applicationThere F part n (here .symbols) ≡ allThere S applicationKind rec
+      there : applicationThere F part n (here .symbols) ≡ argumentsThere S rec
       there = ap₂ (λ (o : Option ℕ) (m : ℕ). hasArity (countOf part) o && allBelow m (argumentRows rec)) (arity-read (fieldOf part 0)) rows-count
 
       fits : inRange applicationKind rec ≡ true → length (argumentRows rec) ≤ 6
@@ -245,7 +245,7 @@ module _ (F : List ℕ) (t : Tables) (k : ℕ) (S : State) (n : Counts) (here : 
 
       try : (b : Bool) → inRange applicationKind rec ≡ b → RowNext (pick b (pick (applicationThere F part n (here .symbols)) (rowEntered part k (2 + countOf part) n (here .rows) N) (rowLeft (Refused (reasonNumber notThere)) (here .rows) N)) (rowLeft (Refused (reasonNumber outOfRange)) (here .rows) N))
       try true q = second q (applicationThere F part n (here .symbols)) refl
-      try false q = (outOfRange, at ∙ ap (λ (b : Bool). require b outOfRange (require (allThere S applicationKind rec) notThere last)) q, refl, K .tables, K .nodes, K .origins, K .values)
+      try false q = (outOfRange, at ∙ ap (λ (b : Bool). require b outOfRange (require (argumentsThere S rec) notThere last)) q, refl, K .tables, K .nodes, K .origins, K .values)
 
   -- One clause more, with the cells of a clause that adds bindings up to h.
   pub clause-table : (c : Derivation) (a b d e : ℕ) → a ≡ length (literals c) → b ≡ maximumIndex c → d ≡ held S → e ≡ length (ownBindings c)

@@ -5,7 +5,7 @@ use mathlib.Core.Option.{Option, none, some}
 use mathlib.Core.List.{List, [], _∷_, map}
 use Prim.Native.Nat.{ℕ, _+_, _≤_}
 use native.Mathlib.Omega.{arith}
-use lib.Dec.{leb, T}
+use lib.Dec.{leb}
 use lib.ListN.{drop, set}
 use borrow.Author.Tests.{eq-eqb, ne-eqb, leb-true, not-true, not-false}
 use Rattle.record.specs.Record.{pick, recordPart, kindOf, countOf, fieldOf, fieldsOf, decoded, symbolKind, variableKind, applicationKind, inputKind}

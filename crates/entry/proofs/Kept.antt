@@ -4,7 +4,7 @@ use mathlib.Core.Bool.{true, _&&_}
 use mathlib.Core.List.{List, [], _∷_, _++_}
 use Prim.Native.Nat.{ℕ, zero, suc, _%_, _≤_, _<_}
 use native.Mathlib.Omega.{arith}
-use lib.Dec.{eqb, leb, T, leb→le}
+use lib.Dec.{eqb, leb, leb→le}
 use lib.ListN.{length, take, drop, length-map}
 use Rattle.record.specs.Record.{Record, records, recordCount, recordPart, decoded}
 use Rattle.record.proofs.Records.{record-numbered}
@@ -15,7 +15,7 @@ use Rattle.derivation.specs.Derivation.{Derivation}
 use Rattle.derivation.specs.Stored.{originTableOf}
 use Rattle.entry.specs.Progress.{nodeTableOf, countsOf, Kept}
 use Rattle.verdict.specs.Refusal.{Reason}
-use Rattle.verdict.specs.State.{State, start, rowsOf, derivations}
+use Rattle.verdict.specs.State.{State, emptyState, rowsOf, derivations}
 use Rattle.verdict.specs.Step.{stands, refused, Result, step, read, allStand, refusedAt}
 use Rattle.verdict.specs.Tables.{Tables, lengthsOf, filledTables}
 use Rattle.verdict.specs.Verdict.{longEnough, fittingLength}
@@ -47,17 +47,17 @@ step-stands S k r T q = try (step S k r) refl q
     try (stands U) e p = ap stands (ending-stands p)
     try (refused p) e q = absurd (no q)
 
-pub standing-of : (F : List ℕ) (k : ℕ) → k ≤ recordCount F → (S : State) → read start 0 (take k (records F)) ≡ allStand S → Standing F k S
+pub standing-of : (F : List ℕ) (k : ℕ) → k ≤ recordCount F → (S : State) → read emptyState 0 (take k (records F)) ≡ allStand S → Standing F k S
 standing-of F zero l S q = subst (Standing F 0) (ending-stands q) (standing-start F)
-standing-of F (suc k) l S q = further (read-split start 0 (take k (records F)) (decoded (recordPart F k) ∷ []) S (sym (ap (read start 0) taken) ∙ q)) (λ U p. standing-of F k (omega arith) U p)
+standing-of F (suc k) l S q = further (read-split emptyState 0 (take k (records F)) (decoded (recordPart F k) ∷ []) S (sym (ap (read emptyState 0) taken) ∙ q)) (λ U p. standing-of F k (omega arith) U p)
   where
     taken : take (suc k) (records F) ≡ take k (records F) ++ (decoded (recordPart F k) ∷ [])
     taken = take-next k (records F) (decoded (recordPart F k)) (drop (suc k) (records F)) (record-numbered F k l)
 
-    further : (U : State) × (read start 0 (take k (records F)) ≡ allStand U) → ((U : State) → read start 0 (take k (records F)) ≡ allStand U → Standing F k U) → Standing F (suc k) S
+    further : (U : State) × (read emptyState 0 (take k (records F)) ≡ allStand U) → ((U : State) → read emptyState 0 (take k (records F)) ≡ allStand U → Standing F k U) → Standing F (suc k) S
     further u ih =
         let H = ih (u .0) (u .1) in
-        advance F k (u .0) H l S (step-stands (u .0) k (decoded (recordPart F k)) S (sym (read-one F k (u .0) H l (decoded (recordPart F k) ∷ [])) ∙ sym (ap (read start 0) taken) ∙ q))
+        advance F k (u .0) H l S (step-stands (u .0) k (decoded (recordPart F k)) S (sym (read-one F k (u .0) H l (decoded (recordPart F k) ∷ [])) ∙ sym (ap (read emptyState 0) taken) ∙ q))
 
 pub fitting-records : (F : List ℕ) → fittingLength (length F) ≡ true → recordCount F ≤ 4096
 fitting-records F fit =

@@ -3,13 +3,12 @@ use mathlib.Core.Path.{_≡_}
 use mathlib.Core.Bool.{true}
 use mathlib.Core.List.{List, [], _∷_, _++_}
 use Prim.Native.Nat.{ℕ, suc, _+_, _-_, _*_, _≤_, _<_}
-use lib.Dec.{T}
 use lib.ListN.{length, take, replicate}
 use Rattle.record.specs.Record.{records, recordCount, recordPart, decoded}
 use Rattle.unification.specs.Row.{variable, Row, application}
 use Rattle.derivation.specs.Stored.{originTableOf}
 use Rattle.verdict.specs.Refusal.{Reason, reasonNumber}
-use Rattle.verdict.specs.State.{State, start, rowsOf, derivations, held}
+use Rattle.verdict.specs.State.{State, emptyState, rowsOf, derivations, held}
 use Rattle.verdict.specs.Step.{stands, refused, step, read, allStand}
 use Rattle.verdict.specs.Tables.{Tables, lengthsOf, filledTables}
 use Rattle.verdict.specs.Verdict.{longEnough, fittingLength}
@@ -42,7 +41,7 @@ tablesWith symbols rows C B = record { symbols = symbols; rows = rows; clauses =
 pub record Kept (F : List ℕ) (t : Tables) (k : ℕ) (S : State) (n : Counts) (here : Tables) (N O A : List ℕ) : Type 0 where
   pub fit : fittingLength (length F) ≡ true
   pub long : longEnough (lengthsOf t) ≡ true
-  pub before : read start 0 (take k (records F)) ≡ allStand S
+  pub before : read emptyState 0 (take k (records F)) ≡ allStand S
   pub counts : n ≡ countsOf S
   pub tables : here ≡ filledTables S t
   pub nodes : N ≡ nodeTableOf (rowsOf S)

@@ -10,6 +10,8 @@ use fields::input_in_range;
 use fields::literal_rows_below;
 use fields::symbol_in_range;
 use fields::variable_in_range;
+use following::nodes::Nodes;
+use following::nodes::Origins;
 use record::clause_literals;
 use record::count;
 use record::field;
@@ -62,7 +64,7 @@ fn enter_row(
     code: u16,
     counts: Counts,
     rows: &mut [u16],
-    nodes: &mut [u16; 32768],
+    nodes: &mut Nodes,
 ) -> Entered
     requires { ⌜ counts .rows < 4096 ⌝ }
     requires { ⌜ length (now nodes) ≡ 32768 ⌝ }
@@ -90,7 +92,7 @@ pub fn variable_record(
     k: u16,
     counts: Counts,
     rows: &mut [u16],
-    nodes: &mut [u16; 32768],
+    nodes: &mut Nodes,
 ) -> Entered
     requires { ⌜ counts .rows < 4096 ⌝ }
     requires { ⌜ length (now nodes) ≡ 32768 ⌝ }
@@ -128,7 +130,7 @@ pub fn application_record(
     counts: Counts,
     symbols: &[u16],
     rows: &mut [u16],
-    nodes: &mut [u16; 32768],
+    nodes: &mut Nodes,
 ) -> Entered
     requires { ⌜ counts .rows < 4096 ⌝ }
     requires { ⌜ length (now nodes) ≡ 32768 ⌝ }
@@ -151,8 +153,8 @@ pub fn input_record(
     k: u16,
     counts: Counts,
     clauses: &mut [u16],
-    nodes: &[u16; 32768],
-    origins: &mut [u16; 32768],
+    nodes: &Nodes,
+    origins: &mut Origins,
 ) -> Entered
     requires { ⌜ kindOf (recordPart (now file) k) ≡ 4 ⌝ }
     requires { ⌜ counts .clauses < 4096 ⌝ }

@@ -1,5 +1,6 @@
 // The node table and the table of origins, where the rows and the clauses of the file are kept decoded, eight cells each: they are written
 // once, and a row is compared with each row after it.
+use following::nodes::Nodes;
 use following::nodes::is_variable;
 use record::count;
 use record::field;
@@ -13,7 +14,7 @@ ghost use Rattle.verdict.specs.Refusal.{equalLists};
 ghost use Rattle.entry.specs.Program.{nodeAt, withNode, isRepeated, noVariable};
 
 // The eight cells of row r of the node table, or of clause r of the table of origins, written: a code, and the fields of a record.
-pub fn put_cells(nodes: &mut [u16; 32768], r: u16, code: u16, numbers: &[u16; 7])
+pub fn put_cells(nodes: &mut Nodes, r: u16, code: u16, numbers: &[u16; 7])
     requires { ⌜ length (now nodes) ≡ 32768 ⌝ }
     requires { ⌜ length (now numbers) ≡ 7 ⌝ }
     requires { ⌜ r < 4096 ⌝ }
@@ -30,7 +31,7 @@ pub fn put_cells(nodes: &mut [u16; 32768], r: u16, code: u16, numbers: &[u16; 7]
 }
 
 // Whether row r has this code and these fields. Most rows differ in one of the first cells, so it stops at the first difference.
-fn same_node(nodes: &[u16; 32768], r: u16, code: u16, numbers: &[u16; 7]) -> bool
+fn same_node(nodes: &Nodes, r: u16, code: u16, numbers: &[u16; 7]) -> bool
     requires { ⌜ length (now nodes) ≡ 32768 ⌝ }
     requires { ⌜ length (now numbers) ≡ 7 ⌝ }
     requires { ⌜ r < 4096 ⌝ }
@@ -51,7 +52,7 @@ fn same_node(nodes: &[u16; 32768], r: u16, code: u16, numbers: &[u16; 7]) -> boo
 }
 
 // Reason 6: whether one of the first n rows has the same cells. The newest row is compared first.
-pub fn is_repeated(nodes: &[u16; 32768], n: u16, code: u16, numbers: &[u16; 7]) -> bool
+pub fn is_repeated(nodes: &Nodes, n: u16, code: u16, numbers: &[u16; 7]) -> bool
     requires { ⌜ length (now nodes) ≡ 32768 ⌝ }
     requires { ⌜ length (now numbers) ≡ 7 ⌝ }
     requires { ⌜ n ≤ 4096 ⌝ }
@@ -68,7 +69,7 @@ pub fn is_repeated(nodes: &[u16; 32768], n: u16, code: u16, numbers: &[u16; 7]) 
 }
 
 // Reason 7: whether no literal of an input clause is on a variable row.
-pub fn no_variable(nodes: &[u16; 32768], part: &[u8]) -> bool
+pub fn no_variable(nodes: &Nodes, part: &[u8]) -> bool
     requires { ⌜ length (now nodes) ≡ 32768 ⌝ }
     requires { ⌜ countOf (now part) ≤ 7 ⌝ }
     ensures { λ b. ⌜ b ≡ noVariable (now (nodes .entry)) (inputLiterals (decoded (now (part .entry)))) ⌝ }

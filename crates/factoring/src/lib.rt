@@ -5,16 +5,19 @@ use clauses::literals_cell;
 use entry::entry::Counts;
 use entry::entry::Entered;
 use fields::step_in_range;
+use following::nodes::Nodes;
+use following::nodes::Origins;
+use following::values::ValueCells;
 use inference::Atom;
 use inference::atom_of;
 use inference::finish_step;
 use inference::named_literal;
 use inference::same_sign;
 use loading::load;
-use pairs::Unified;
 use record::field;
 use record::fields;
 use record::record_part;
+use unify::Unified;
 use unify::unify_literals;
 ghost use mathlib.Core.Path.{_≡_};
 ghost use Rattle.record.specs.Record.{recordPart, kindOf};
@@ -28,9 +31,9 @@ fn unify_factor(
     counts: Counts,
     clauses: &[u16],
     bindings: &mut [u16],
-    nodes: &[u16; 32768],
-    origins: &[u16; 32768],
-    values: &mut [u16; 524416],
+    nodes: &Nodes,
+    origins: &Origins,
+    values: &mut ValueCells,
     kept: Atom,
     deleted: Atom,
 ) -> Unified
@@ -59,9 +62,9 @@ fn factor_atoms(
     counts: Counts,
     clauses: &mut [u16],
     bindings: &mut [u16],
-    nodes: &[u16; 32768],
-    origins: &mut [u16; 32768],
-    values: &mut [u16; 524416],
+    nodes: &Nodes,
+    origins: &mut Origins,
+    values: &mut ValueCells,
     kept: Atom,
     deleted: Atom,
 ) -> Entered
@@ -102,9 +105,9 @@ pub fn factor_record(
     counts: Counts,
     clauses: &mut [u16],
     bindings: &mut [u16],
-    nodes: &[u16; 32768],
-    origins: &mut [u16; 32768],
-    values: &mut [u16; 524416],
+    nodes: &Nodes,
+    origins: &mut Origins,
+    values: &mut ValueCells,
 ) -> Entered
     requires { ⌜ BeforeStep (now file) k counts (now clauses) (now bindings) (now nodes) (now origins) (now values) ⌝ }
     requires { ⌜ kindOf (recordPart (now file) k) ≡ 6 ⌝ }

@@ -13,7 +13,7 @@ use Rattle.unification.specs.Environment.{follow, Environment, unbound}
 use Rattle.unification.specs.Nodes.{isVariable, part, nodeArity, argumentsFrom, nodeRowIf, nodeRow}
 use Rattle.unification.specs.Row.{variable, application, Expression}
 use Rattle.unification.specs.Unification.{mostLinks}
-use Rattle.unification.specs.Values.{slot, put, cellOf, indexOf, InStep, Onward, Models}
+use Rattle.unification.specs.ValueArray.{slot, put, cellOf, indexOf, InStep, Onward, Models}
 use Rattle.following.specs.Walks.{halved, Walked}
 use Rattle.unification.proofs.Limits.{links-8192}
 use Rattle.following.proofs.Links.{onward-trans, onward-in-step, onward-follow, EndsIn, ends-onward}

@@ -7,7 +7,7 @@ use Prim.Native.Nat.{ℕ, zero, suc}
 use Rattle.unification.specs.Environment.{follow, Environment, unbound, link, View, applied, Ends, viewVariable, viewRow, onward}
 use Rattle.unification.specs.Nodes.{isVariable, part, nodeRowIf, nodeRow}
 use Rattle.unification.specs.Row.{Row, Expression}
-use Rattle.unification.specs.Values.{InStep, Onward, oneLink, moreLinks}
+use Rattle.unification.specs.ValueArray.{InStep, Onward, oneLink, moreLinks}
 
 pub onward-trans : {N : List ℕ} {ρ : Environment} {e d c : Expression} → Onward N ρ e d → Onward N ρ d c → Onward N ρ e c
 onward-trans (oneLink v p) q = moreLinks v p q

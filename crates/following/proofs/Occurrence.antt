@@ -4,15 +4,14 @@ use mathlib.Core.Bool.{Bool, true, false}
 use mathlib.Core.List.{List, [], _∷_}
 use Prim.Native.Nat.{ℕ, suc, _+_, _-_, _≤_, _<_}
 use native.Mathlib.Omega.{arith}
-use lib.Dec.{T}
 use native.Mathlib.Numerals.{add-one}
 use Rattle.record.specs.Record.{pick}
 use Rattle.unification.specs.Environment.{follow, Binding, Environment, extend, unbound, link, View, applied}
 use Rattle.unification.specs.Nodes.{isVariable, part, nodeArity, HasRow, argumentsFrom, nodeRow, NodesOk}
 use Rattle.unification.specs.Row.{Expression, same}
 use Rattle.unification.specs.Unification.{mostLinks, Failure, occurs, overwork, failed, Pair, Turn, arguments, testRest, testOne, withoutWork, run}
-use Rattle.unification.specs.Values.{InStep, Models}
-use Rattle.following.specs.Walks.{viewOf, Walked, Follows, absent, Tested, broken, testedOf, TestLeavesLess, TestLeavesNoMore, TestRuns, TestsRun, Looked, LookedArgs, Scanned, LookedBefore, metVariable}
+use Rattle.unification.specs.ValueArray.{InStep, Models}
+use Rattle.following.specs.Walks.{viewOf, Followable, ArgumentsFollowable, Walked, Follows, absent, Tested, broken, testedOf, TestLeavesLess, TestLeavesNoMore, TestRuns, TestsRun, Looked, LookedArguments, Scanned, LookedBefore, metVariable}
 use Rattle.following.proofs.Halving.{walked-app}
 use Rattle.following.proofs.Machine.{test-found, test-other, test-into, tests-none, tests-next, tests-broken}
 use Rattle.following.specs.declared.follow.Followed.{Followed}
@@ -77,7 +76,7 @@ module _ (N A A′ : List ℕ) (x : Expression) (o : Expression) (w : ℕ) where
         try true h = (looked-yes r k p true (sym h) refl, tt)
         try false h = (looked-no r k p false (sym h) refl, omega arith)
 
-    pub looked-into : (r k : ℕ) → f ≡ Application r k → (A″ : List ℕ) (q : Occurs) → LookedArgs N A′ A″ x r k (w - 1) q → Looked N A A″ x o w q
+    pub looked-into : (r k : ℕ) → f ≡ Application r k → (A″ : List ℕ) (q : Occurs) → LookedArguments N A′ A″ x r k (w - 1) q → Looked N A A″ x o w q
     looked-into r k p A″ q L top isFull base bs M g =
         let W′ : Walked N top A′ (extend base bs) o (Application r k) = subst (Walked N top A′ (extend base bs) o) p (W top (extend base bs) M g) in
         let L′ = L top isFull base bs (W′ .models) (W′ .good) (walked-app N top A′ (extend base bs) o r k W′) in
@@ -102,14 +101,14 @@ module _ (N A : List ℕ) (x : Expression) (r k w : ℕ) where
   scan-start rest p top isFull base bs M g v = record { models = M; whole = λ e q h. subst (λ (m : ℕ). TestsRun (nodeRow N) mostLinks isFull base w bs x e (argumentsFrom N r m 1) k q) p h }
 
   module _ (A₁ : List ℕ) (n rest left : ℕ) (S : Scanned N A A₁ x r k w n rest left) where
-    pub scan-end : rest ≡ 0 → LookedArgs N A A₁ x r k w (No left)
+    pub scan-end : rest ≡ 0 → LookedArguments N A A₁ x r k w (No left)
     scan-end z top isFull base bs M g v =
         let S′ = S top isFull base bs M g v in
         record { models = S′ .models; ok = λ e. S′ .whole e (absent left) (subst (λ (m : ℕ). TestsRun (nodeRow N) mostLinks isFull base left bs x e (argumentsFrom N r m n) k (absent left)) (sym z) (tests-none (nodeRow N) mostLinks isFull base left bs x e k)) }
 
     -- The argument at hand.
     module _ (pos : 0 < rest) (low : 1 ≤ n) (all : n + rest ≡ nodeArity N r + 1) (a : ℕ) (p : a ≡ part N r n) where
-      pub scan-broke : (A₂ : List ℕ) (q : Occurs) (z : Failure) → testedOf q ≡ broken z → Looked N A₁ A₂ x (a, k) left q → LookedArgs N A A₂ x r k w q
+      pub scan-broke : (A₂ : List ℕ) (q : Occurs) (z : Failure) → testedOf q ≡ broken z → Looked N A₁ A₂ x (a, k) left q → LookedArguments N A A₂ x r k w q
       scan-broke A₂ q z c L top isFull base bs M g v =
           let S′ = S top isFull base bs M g v in
           let L′ = L top isFull base bs (S′ .models) (arg-good N top r n rest pos a p k low all (S′ .models .table) g v) in
@@ -125,7 +124,7 @@ module _ (N A : List ℕ) (x : Expression) (r k w : ℕ) where
               record { models = L′ .models; whole = λ e y h. S′ .whole e y (rw (args-eq N top r n rest pos a p) (tests-next (nodeRow N) mostLinks isFull base left bs x e a k (argumentsFrom N r (rest - 1) (n + 1)) l y (subst (λ (o : Occurs). TestRuns (nodeRow N) mostLinks isFull base left bs x e (a, k) (testedOf o)) c (L′ .ok e)) h)) }
 
 -- A constant has no arguments.
-pub looked-none : (N A : List ℕ) (x : Expression) (r k w : ℕ) → 0 ≡ nodeArity N r → LookedArgs N A A x r k w (No w)
+pub looked-none : (N A : List ℕ) (x : Expression) (r k w : ℕ) → 0 ≡ nodeArity N r → LookedArguments N A A x r k w (No w)
 looked-none N A x r k w z = scan-end N A x r k w A 1 0 w (scan-start N A x r k w 0 z) refl
 
 -- The last argument is left when the others are done.
@@ -172,3 +171,30 @@ module _ (N A A₁ : List ℕ) (x o : Expression) (w : ℕ) (c : Expression) (le
               (test-into (nodeRow N) mostLinks isFull base (left - 1) bs x e c (part N r 0) (argumentsFrom N r (nodeArity N r) 1) (r, k) y (W′ .seen)
               (C .whole e y (subst (λ (b : ℕ). TestRuns (nodeRow N) mostLinks isFull base l bs x e (b, k) y) (isArgument ∙ ap (part N r) isLast) h))));
         }
+
+-- What a call asks, from what the caller was asked and what the calls before it ensured.
+pub sought-followable : (N A A₁ : List ℕ) (x o : Expression) (w : ℕ) (c : Expression) (left : ℕ) → Followable N A o → Sought N A A₁ x o w c left → Followable N A₁ c
+sought-followable N A A₁ x o w c left R S =
+    let S′ = S (R .top) (λ _. false) (R .environment) [] (R .models) (R .inStep) in
+    record { nodes = R .nodes; top = R .top; environment = R .environment; models = S′ .models; inStep = S′ .good }
+
+pub arguments-followable : (N A A₁ : List ℕ) (o : Expression) (f : Followed) → Followable N A o → Follows N A A₁ o f → (r k : ℕ) → f ≡ Application r k → (last : ℕ) → last ≡ nodeArity N r → 1 ≤ last → ArgumentsFollowable N A₁ r k last
+arguments-followable N A A₁ o f R W r k p last isLast some =
+    let W′ : Walked N (R .top) A₁ (R .environment) o (Application r k) = subst (Walked N (R .top) A₁ (R .environment) o) p (W (R .top) (R .environment) (R .models) (R .inStep)) in
+    record {
+      whole = record { nodes = R .nodes; top = R .top; environment = R .environment; models = W′ .models; inStep = W′ .good };
+      application = walked-app N (R .top) A₁ (R .environment) o r k W′;
+      arity = isLast;
+      some = some;
+    }
+
+pub scanned-followable : (N A A₁ : List ℕ) (x : Expression) (r k last w n rest left : ℕ) → ArgumentsFollowable N A r k last → Scanned N A A₁ x r k w n rest left → 0 < rest → 1 ≤ n → n + rest ≡ last + 1 → (a : ℕ) → a ≡ part N r n → Followable N A₁ (a, k)
+scanned-followable N A A₁ x r k last w n rest left R S pos low all a p =
+    let S′ = S (R .whole .top) (λ _. false) (R .whole .environment) [] (R .whole .models) (R .whole .inStep) (R .application) in
+    record {
+      nodes = R .whole .nodes;
+      top = R .whole .top;
+      environment = R .whole .environment;
+      models = S′ .models;
+      inStep = arg-good N (R .whole .top) r n rest pos a p k low (all ∙ ap (λ (m : ℕ). m + 1) (R .arity)) (S′ .models .table) (R .whole .inStep) (R .application);
+    }

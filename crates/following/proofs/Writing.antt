@@ -5,7 +5,7 @@ use mathlib.Core.Option.{none, some}
 use mathlib.Core.List.{List}
 use Prim.Native.Nat.{ℕ, suc, _+_, _≤_, _<_}
 use native.Mathlib.Omega.{arith}
-use lib.Dec.{eqb, T}
+use lib.Dec.{eqb}
 use lib.ListN.{length, set, length-set}
 use lib.Seq.{getD-set-same, getD-set-other}
 use borrow.Author.Tests.{eqb-true, eqb-false}
@@ -14,7 +14,7 @@ use Rattle.unification.specs.Environment.{follow, Environment, Ends}
 use Rattle.unification.specs.Nodes.{isVariable, part, HasRow, nodeRow, NodesOk}
 use Rattle.unification.specs.Row.{Expression, same}
 use Rattle.unification.specs.Unification.{mostLinks, full}
-use Rattle.unification.specs.Values.{slot, put, cellOf, indexOf, InStep, Onward, oneLink, moreLinks, Models}
+use Rattle.unification.specs.ValueArray.{slot, put, cellOf, indexOf, InStep, Onward, oneLink, moreLinks, Models}
 use Rattle.unification.proofs.Meaning.{with}
 use Rattle.unification.proofs.Tests.{same-eq, same-refl, some-not-none, some-injective}
 

@@ -1,17 +1,18 @@
 -- The contracts of following and of the occurrence test. This file only says how the parts of the program fit together. Each
--- contract is stated for every environment that the array stands for, and for every rest of the machine's task.
+-- function asks for an environment that the array stands for. What it ensures is stated for every such environment, and for every rest
+-- of the machine's task.
 use mathlib.Core.Path.{_≡_}
 use mathlib.Core.Bool.{Bool, true, false}
 use mathlib.Core.List.{List, _∷_}
 use Prim.Native.Nat.{ℕ, _+_, _≤_, _<_}
 use lib.Dec.{eqb}
-use lib.ListN.{getD}
+use lib.ListN.{length, getD}
 use Rattle.record.specs.Record.{pick}
 use Rattle.unification.specs.Environment.{follow, Binding, Environment, extend, unbound, View, applied}
 use Rattle.unification.specs.Nodes.{isVariable, part, nodeArity, argumentsFrom, nodeRow}
 use Rattle.unification.specs.Row.{Row, Expression}
 use Rattle.unification.specs.Unification.{mostLinks, Failure, occurs, overwork, full, Outcome, unified, failed, Pair, unifying, testing, arguments, argumentPairs, testRest, withWork, run}
-use Rattle.unification.specs.Values.{slot, put, InStep, Models}
+use Rattle.unification.specs.ValueArray.{slot, put, InStep, Models}
 use Rattle.following.specs.declared.follow.Followed.{Followed}
 use Rattle.following.specs.declared.follow.Followed.the-variants.{Variable, Application}
 use Rattle.following.specs.declared.occurs.Occurs.{Occurs}
@@ -25,6 +26,22 @@ viewOf N (Application r i) = applied (part N r 0) (argumentsFrom N r (nodeArity 
 abbrev pub endOf : Followed → Expression
 endOf (Variable r i) = (r, i)
 endOf (Application r i) = (r, i)
+
+-- What following e asks: the node table at its full size, and some maximum index and environment that the array stands for, with e in
+-- the step.
+pub record Followable (N A : List ℕ) (e : Expression) : Type 0 where
+  pub nodes : length N ≡ 32768
+  pub top : ℕ
+  pub environment : Environment
+  pub models : Models N top A environment
+  pub inStep : InStep N top e
+
+-- What testing the arguments of r at index k asks: that can be followed, and r is an application, whose last argument is number `last`.
+pub record ArgumentsFollowable (N A : List ℕ) (r k last : ℕ) : Type 0 where
+  pub whole : Followable N A (r, k)
+  pub application : isVariable N r ≡ false
+  pub arity : last ≡ nodeArity N r
+  pub some : 1 ≤ last
 
 -- The cells at `at` hold t at index k. Where that is a bound variable, they are set to what its own cells hold.
 unfoldable pub halved : List ℕ → List ℕ → ℕ → ℕ → ℕ → List ℕ
@@ -95,15 +112,15 @@ module _ (N : List ℕ) (top : ℕ) (A : List ℕ) (isFull : List Binding → Bo
     pub models : Models N top A (extend base bs)
     pub ok : (e : Expression) → TestRuns (nodeRow N) mostLinks isFull base w bs x e o (testedOf r)
 
-  pub record LookingArgs (r k w : ℕ) (q : Occurs) : Type 0 where
+  pub record LookingArguments (r k w : ℕ) (q : Occurs) : Type 0 where
     pub models : Models N top A (extend base bs)
     pub ok : (e : Expression) → TestsRun (nodeRow N) mostLinks isFull base w bs x e (argumentsFrom N r (nodeArity N r) 1) k (testedOf q)
 
 abbrev pub Looked : List ℕ → List ℕ → List ℕ → Expression → Expression → ℕ → Occurs → Type 0
 Looked N A A′ x o w r = (top : ℕ) (isFull : List Binding → Bool) (base : Environment) (bs : List Binding) → Models N top A (extend base bs) → InStep N top o → Looking N top A′ isFull base bs x o w r
 
-abbrev pub LookedArgs : List ℕ → List ℕ → List ℕ → Expression → ℕ → ℕ → ℕ → Occurs → Type 0
-LookedArgs N A A′ x r k w q = (top : ℕ) (isFull : List Binding → Bool) (base : Environment) (bs : List Binding) → Models N top A (extend base bs) → InStep N top (r, k) → isVariable N r ≡ false → LookingArgs N top A′ isFull base bs x r k w q
+abbrev pub LookedArguments : List ℕ → List ℕ → List ℕ → Expression → ℕ → ℕ → ℕ → Occurs → Type 0
+LookedArguments N A A′ x r k w q = (top : ℕ) (isFull : List Binding → Bool) (base : Environment) (bs : List Binding) → Models N top A (extend base bs) → InStep N top (r, k) → isVariable N r ≡ false → LookingArguments N top A′ isFull base bs x r k w q
 
 -- In the arguments of r at index k: what holds from argument n on, of which `rest` are left, holds of all.
 module _ (N : List ℕ) (top : ℕ) (A : List ℕ) (isFull : List Binding → Bool) (base : Environment) (bs : List Binding) (x : Expression) where
@@ -117,8 +134,8 @@ Scanned N A A′ x r k w n rest left = (top : ℕ) (isFull : List Binding → Bo
 -- The arguments before the last: the last is left to be taken up, or the test of all of them ended.
 abbrev pub LookedBefore : List ℕ → List ℕ → List ℕ → Expression → ℕ → ℕ → ℕ → Occurs → Type 0
 LookedBefore N A A′ x r k w (No l) = Scanned N A A′ x r k w (nodeArity N r) 1 l
-LookedBefore N A A′ x r k w Yes = LookedArgs N A A′ x r k w Yes
-LookedBefore N A A′ x r k w Spent = LookedArgs N A A′ x r k w Spent
+LookedBefore N A A′ x r k w Yes = LookedArguments N A A′ x r k w Yes
+LookedBefore N A A′ x r k w Spent = LookedArguments N A A′ x r k w Spent
 
 -- The answer of a test that ends on an unbound variable: it is the one sought, or not.
 abbrev pub metVariable : Bool → ℕ → Occurs

@@ -1,6 +1,8 @@
 // Following an expression to what it stands for, over the array of values. On the way each link that is passed is set to skip
 // the next one, so that long chains get shorter every time they are used.
+use super::nodes::Nodes;
 use super::nodes::is_variable;
+use super::values::ValueCells;
 use super::values::slot_of;
 use super::values::value;
 use super::values::write_value;
@@ -8,7 +10,7 @@ ghost use mathlib.Core.Path.{_≡_};
 ghost use Prim.Native.Nat.{_<_};
 ghost use lib.ListN.{length};
 ghost use Rattle.unification.specs.Row.{same};
-ghost use Rattle.following.specs.Walks.{halved, Follows};
+ghost use Rattle.following.specs.Walks.{Followable, Follows, halved};
 
 // Where following ends: an unbound variable or an application, its row and index.
 pub enum Followed {
@@ -17,7 +19,7 @@ pub enum Followed {
 }
 
 // The cells at `at` hold row t at index k. If that is a bound variable, they are set to what its own cells hold.
-fn halve(nodes: &[u16; 32768], values: &mut [u16; 524416], at: usize, t: u16, k: u16)
+fn halve(nodes: &Nodes, values: &mut ValueCells, at: usize, t: u16, k: u16)
     requires { ⌜ (length (now nodes) ≡ 32768) × (length (now values) ≡ 524416) ⌝ }
     requires { ⌜ at < 8519680 ⌝ }
     ensures { λ _. ⌜ (now (values .exit) ≡ halved (now (nodes .entry)) (now (values .entry)) at t k) × (length (now (values .exit)) ≡ 524416) ⌝ }
@@ -33,8 +35,8 @@ fn halve(nodes: &[u16; 32768], values: &mut [u16; 524416], at: usize, t: u16, k:
 }
 
 // What the row at the index leads to. No chain has more than 8,192 links, so the count of links never runs out.
-pub fn follow(nodes: &[u16; 32768], values: &mut [u16; 524416], row: u16, index: u16) -> Followed
-    requires { ⌜ (length (now nodes) ≡ 32768) × (length (now values) ≡ 524416) ⌝ }
+pub fn follow(nodes: &Nodes, values: &mut ValueCells, row: u16, index: u16) -> Followed
+    requires { ⌜ Followable (now nodes) (now values) (row, index) ⌝ }
     ensures { λ x. ⌜ Follows (now (nodes .entry)) (now (values .entry)) (now (values .exit)) (row, index) x × (length (now (values .exit)) ≡ 524416) ⌝ }
 {
     let mut v = row;

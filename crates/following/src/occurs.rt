@@ -2,14 +2,14 @@
 use super::follow::Followed;
 use super::follow::follow;
 use super::follow::is_same;
+use super::nodes::Nodes;
 use super::nodes::arity_of;
 use super::nodes::part_of;
+use super::values::ValueCells;
 ghost use mathlib.Core.Path.{_≡_};
-ghost use Prim.Native.Nat.{_≤_};
 ghost use lib.ListN.{length};
-ghost use Rattle.unification.specs.Nodes.{nodeArity};
 ghost use Rattle.unification.specs.Row.{same};
-ghost use Rattle.following.specs.Walks.{Looked, LookedBefore, TestLeavesLess, TestLeavesNoMore, metVariable};
+ghost use Rattle.following.specs.Walks.{Followable, ArgumentsFollowable, Looked, LookedBefore, TestLeavesLess, TestLeavesNoMore, metVariable};
 
 // The variable does not occur, with the work left; it occurs; or there is no work left.
 pub enum Occurs {
@@ -29,18 +29,18 @@ fn occurs_here(r: u16, k: u16, v: u16, i: u16, left: u16) -> Occurs
     }
 }
 
-// Whether the variable v at index i occurs in t at index j, with so much work left. The last argument of an application is taken up by
-// the loop, so that only nesting in arguments before the last takes calls and stack.
+// Whether the variable v at index i occurs in t at index j, with so much work left. Of an application the arguments before the last are
+// tested by calls, and the last one is taken up by the loop here, so that only nesting in arguments before the last takes calls and stack.
 pub fn occurs_in(
-    nodes: &[u16; 32768],
-    values: &mut [u16; 524416],
+    nodes: &Nodes,
+    values: &mut ValueCells,
     v: u16,
     i: u16,
     t: u16,
     j: u16,
     work: u16,
 ) -> Occurs
-    requires { ⌜ (length (now nodes) ≡ 32768) × (length (now values) ≡ 524416) ⌝ }
+    requires { ⌜ Followable (now nodes) (now values) (t, j) ⌝ }
     ensures { λ o. ⌜ Looked (now (nodes .entry)) (now (values .entry)) (now (values .exit)) (v, i) (t, j) work o × TestLeavesLess work o × (length (now (values .exit)) ≡ 524416) ⌝ }
 {
     let mut row = t;
@@ -55,7 +55,7 @@ pub fn occurs_in(
                 if last == 0 {
                     return Occurs::No(left);
                 }
-                match occurs_before(nodes, values, v, i, r, k, last, left) {
+                match occurs_in_arguments(nodes, values, v, i, r, k, last, left) {
                     Occurs::No(w) => left = w,
                     Occurs::Yes => return Occurs::Yes,
                     Occurs::Spent => return Occurs::Spent,
@@ -68,10 +68,10 @@ pub fn occurs_in(
     Occurs::Spent
 }
 
-// The same of the arguments of an application before the last, in order.
-fn occurs_before(
-    nodes: &[u16; 32768],
-    values: &mut [u16; 524416],
+// The same of the arguments of an application, in order, but for the last one, which the test that called takes up by its loop.
+fn occurs_in_arguments(
+    nodes: &Nodes,
+    values: &mut ValueCells,
     v: u16,
     i: u16,
     r: u16,
@@ -79,8 +79,7 @@ fn occurs_before(
     last: u16,
     work: u16,
 ) -> Occurs
-    requires { ⌜ (length (now nodes) ≡ 32768) × (length (now values) ≡ 524416) ⌝ }
-    requires { ⌜ (last ≡ nodeArity (now nodes) r) × (1 ≤ last) ⌝ }
+    requires { ⌜ ArgumentsFollowable (now nodes) (now values) r k last ⌝ }
     ensures { λ o. ⌜ LookedBefore (now (nodes .entry)) (now (values .entry)) (now (values .exit)) (v, i) r k work o × TestLeavesNoMore work o × (length (now (values .exit)) ≡ 524416) ⌝ }
 {
     let mut n: u16 = 1;

@@ -1,14 +1,18 @@
 // The array of values: two cells for each variable number and index, a row plus 1 and an index. Reads outside give 0, and
 // writes outside do nothing, so that no walk over the array has to be told that its rows and indices are in range.
+use super::nodes::Nodes;
 use super::nodes::part_of;
 ghost use mathlib.Core.Path.{_≡_};
 ghost use Prim.Native.Nat.{_+_, _*_, _<_, _≤_};
 ghost use lib.ListN.{length, getD, set};
-ghost use Rattle.unification.specs.Values.{slot, put};
+ghost use Rattle.unification.specs.ValueArray.{slot, put};
 ghost use Rattle.following.specs.Clearing.{Cleared};
 
+// The array of values: two cells for each of 64 variable numbers, at each index from 0 to 4,096.
+pub type ValueCells = [u16; 524416];
+
 // A cell of the array, 0 outside.
-pub fn value(values: &[u16; 524416], at: usize) -> u16
+pub(crate) fn value(values: &ValueCells, at: usize) -> u16
     requires { ⌜ length (now values) ≡ 524416 ⌝ }
     ensures { λ r. ⌜ r ≡ getD (now (values .entry)) at 0 ⌝ }
 {
@@ -16,7 +20,7 @@ pub fn value(values: &[u16; 524416], at: usize) -> u16
 }
 
 // One cell written.
-pub fn set_value(values: &mut [u16; 524416], at: usize, a: u16)
+fn set_value(values: &mut ValueCells, at: usize, a: u16)
     requires { ⌜ length (now values) ≡ 524416 ⌝ }
     ensures { λ _. ⌜ now (values .exit) ≡ set (now (values .entry)) at a ⌝ }
     ensures { λ _. ⌜ length (now (values .exit)) ≡ 524416 ⌝ }
@@ -27,7 +31,7 @@ pub fn set_value(values: &mut [u16; 524416], at: usize, a: u16)
 }
 
 // The two cells at `at` written.
-pub fn write_value(values: &mut [u16; 524416], at: usize, a: u16, b: u16)
+pub fn write_value(values: &mut ValueCells, at: usize, a: u16, b: u16)
     requires { ⌜ length (now values) ≡ 524416 ⌝ }
     requires { ⌜ at < 16777216 ⌝ }
     ensures { λ _. ⌜ now (values .exit) ≡ put (now (values .entry)) at a b ⌝ }
@@ -38,7 +42,7 @@ pub fn write_value(values: &mut [u16; 524416], at: usize, a: u16, b: u16)
 }
 
 // Where the two cells of the variable at an index are.
-pub fn slot_of(nodes: &[u16; 32768], r: u16, i: u16) -> usize
+pub fn slot_of(nodes: &Nodes, r: u16, i: u16) -> usize
     requires { ⌜ length (now nodes) ≡ 32768 ⌝ }
     ensures { λ a. ⌜ (a ≡ slot (now (nodes .entry)) r i) × (a < 8519680) ⌝ }
 {
@@ -46,7 +50,7 @@ pub fn slot_of(nodes: &[u16; 32768], r: u16, i: u16) -> usize
 }
 
 // The cells of all indices up to `top` set to 0: a step uses no others.
-pub fn clear(values: &mut [u16; 524416], top: u16)
+pub fn clear(values: &mut ValueCells, top: u16)
     requires { ⌜ length (now values) ≡ 524416 ⌝ }
     requires { ⌜ top ≤ 4096 ⌝ }
     ensures { λ _. ⌜ Cleared (now (values .entry)) (now (values .exit)) (128 * (top + 1)) ⌝ }

@@ -13,7 +13,7 @@ use Rattle.unification.specs.Environment.{follow, Binding, Environment, Ends}
 use Rattle.unification.specs.Nodes.{isVariable, HasRow, nodeRow, NodesOk}
 use Rattle.unification.specs.Row.{variable, Row, application, Expression, noSymbol}
 use Rattle.unification.specs.Unification.{mostLinks}
-use Rattle.unification.specs.Values.{InStep, Models}
+use Rattle.unification.specs.ValueArray.{InStep, Models}
 use Rattle.unification.proofs.Chains.{short-le}
 use Rattle.unification.proofs.Lists.{Each}
 use Rattle.unification.proofs.Stability.{follow-agree}

@@ -9,7 +9,7 @@ use Rattle.record.specs.Record.{Record, recordPart, decoded}
 use Rattle.unification.specs.Bindings.{bindingsFrom}
 use Rattle.unification.specs.Environment.{Binding}
 use Rattle.unify.specs.Unifying.{outcomeOf, Counted}
-use Rattle.pairs.specs.Pairs.{failureOf}
+use Rattle.unify.specs.Pairs.{failureOf}
 use Rattle.derivation.specs.Derivation.{literals, Derivation, maximumIndex, ownBindings}
 use Rattle.derivation.specs.Stored.{cellsOfOrigin}
 use Rattle.entry.specs.Program.{withNode}
@@ -26,9 +26,9 @@ use Rattle.entry.proofs.Kept.{sizes, kept-next}
 use Rattle.verdict.proofs.Standing.{held-clause, room}
 use Rattle.inference.proofs.StepLaws.{held-count, clause-count, held-few, few-of, room-of, origins-room}
 use Rattle.verdict.proofs.Tabled.{all-bindings-length}
-use Rattle.pairs.specs.declared.Unified.{Unified}
-use Rattle.pairs.specs.declared.Unified.the-variants.{Done}
-use Rattle.pairs.specs.declared.Unified.the-variants as unified-variants
+use Rattle.unify.specs.declared.Unified.{Unified}
+use Rattle.unify.specs.declared.Unified.the-variants.{Done}
+use Rattle.unify.specs.declared.Unified.the-variants as unified-variants
 use Rattle.entry.specs.declared.entry.Counts.{Counts}
 use Rattle.entry.specs.declared.entry.Entered.{Entered}
 

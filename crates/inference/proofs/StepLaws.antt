@@ -13,7 +13,7 @@ use Rattle.unification.specs.Nodes.{HasRow, nodeRow, NodesOk}
 use Rattle.unification.specs.Row.{Row, application, Expression}
 use Rattle.unification.specs.Unification.{unify, mostWork, mostBindings, mostLinks, Outcome, unifying, noRoom}
 use Rattle.unify.specs.Unifying.{outcomeOf, Facing, Ready, Answered}
-use Rattle.unification.specs.Values.{InStep, Models}
+use Rattle.unification.specs.ValueArray.{InStep, Models}
 use Rattle.unification.proofs.Chains.{short-le}
 use Rattle.unification.proofs.Rows.{Below}
 use Rattle.unification.proofs.Stability.{run-agree}
@@ -40,9 +40,9 @@ use Rattle.entry.proofs.Kept.{sizes, few-records, few-clauses}
 use Rattle.inference.proofs.KeptClauses as kept
 use Rattle.verdict.proofs.Standing.{below, ChainsEnd, InOrder, StateOk, room, known-of, held-links}
 use Rattle.verdict.proofs.Tabled.{all-bindings-length}
-use Rattle.pairs.specs.declared.Unified.{Unified}
-use Rattle.pairs.specs.declared.Unified.the-variants.{Done}
-use Rattle.pairs.specs.declared.Unified.the-variants as unified-variants
+use Rattle.unify.specs.declared.Unified.{Unified}
+use Rattle.unify.specs.declared.Unified.the-variants.{Done}
+use Rattle.unify.specs.declared.Unified.the-variants as unified-variants
 use Rattle.entry.specs.declared.entry.Entered.the-variants.{Stands, Refused}
 use Rattle.entry.specs.declared.entry.Counts.{Counts}
 use Rattle.inference.specs.declared.Atom.{Atom}

@@ -14,7 +14,7 @@ use Rattle.unify.specs.Unifying.{outcomeOf}
 use Rattle.unification.proofs.Tests.{both-true, some-not-none, some-injective}
 use Rattle.derivation.specs.Derivation.{literals, Literal, Derivation, resolve, factor, numbered, without, raiseLiteral, maximumIndex}
 use Rattle.derivation.specs.Stored.{cellsOfOrigin, literalsCell, indexCell}
-use Rattle.verdict.specs.Refusal.{tooLarge, mostLiterals, mostIndex, isThere, onBoth, resultFits, withinLimits, zeros}
+use Rattle.verdict.specs.Refusal.{tooLarge, mostLiterals, mostIndex, isThere, onBoth, resultFits, resolventFits, factorFits, zeros}
 use Rattle.verdict.specs.State.{State, clauseOf, nextClause}
 use Rattle.verdict.specs.Step.{require, step, addClause, unifyResolve, unifyFactor, onNamed}
 use Rattle.inference.specs.Stepping.{atomNamed, Resolving, Factoring, UnifiedTables, finished, stepFinished, ResolveNamed, FactorNamed, StepRead}
@@ -22,8 +22,8 @@ use Rattle.entry.proofs.Entering.{and-false, zero-list}
 use Rattle.verdict.proofs.Inversions.{literal-named}
 use Rattle.inference.proofs.StepEnds.{step-ended}
 use Rattle.inference.proofs.StepLaws.{index-of, literals-of, number-is}
-use Rattle.inference.proofs.StepTests.{Step, refuse, index-small, literals-small, resolve-kind, factor-kind, step-tests}
-use Rattle.pairs.specs.declared.Unified.{Unified}
+use Rattle.inference.proofs.StepTests.{Step, refuse, index-small, literals-small, resolve-kind, factor-kind, resolve-tests, factor-tests}
+use Rattle.unify.specs.declared.Unified.{Unified}
 use Rattle.entry.specs.declared.entry.Counts.{Counts}
 use Rattle.entry.specs.declared.entry.Entered.{Entered}
 use Rattle.entry.specs.declared.entry.Entered.the-variants.{Refused}
@@ -106,11 +106,11 @@ module _ {ns : List ℕ} {k : ℕ} {n : Counts} {C B N O A : List ℕ} {x y : At
     resolving m = record { file = R .file; step = R .step; left = R .left; right = R .right; fits = omega (arith, li-is, ri-is) }
 
   -- What is left of the step.
-  limits : withinLimits (R .step .state) resolveKind (decoded (recordPart (R .file) k)) ≡ resultFits (result [])
+  limits : resolventFits (R .step .state) (decoded (recordPart (R .file) k)) ≡ resultFits (result [])
   limits = ap₂ (λ (o p : Option (Derivation × Literal)). onBoth (λ x y. resultFits (resolve (nextClause S) (x .0) (fieldB rec) (y .0) (fieldD rec) [])) o p) (R .isLeft) (R .isRight)
 
   limited : (d : Bool) → resultFits (result []) ≡ d → Step (R .step) resolveKind true true true d
-  limited d q = step-tests (R .step) resolveKind (resolve-kind (R .step) (R .isResolve)) refl refl refl true true true d (R .ranged) (ap₂ (λ (o p : Option (Derivation × Literal)). isThere o && isThere p) (R .isLeft) (R .isRight)) (R .signs) (limits ∙ q)
+  limited d q = resolve-tests (R .step) (resolve-kind (R .step) (R .isResolve)) true true true d (R .ranged) (ap₂ (λ (o p : Option (Derivation × Literal)). isThere o && isThere p) (R .isLeft) (R .isRight)) (R .signs) (limits ∙ q)
 
   too-large : resultFits (result []) ≡ false → StepRead (R .file) k n C B N O A (R .step) C B O A (Refused 9)
   unfolding require
@@ -161,7 +161,7 @@ module _ {ns : List ℕ} {k : ℕ} {n : Counts} {C B N O A : List ℕ} {x y : At
   pub factoring : Factoring k n C B N O A x y
   factoring = record { file = R .file; step = R .step; sameClause = R .sameClause; kept = R .kept; deleted = R .deleted }
 
-  factor-limits : withinLimits (R .step .state) factorKind (decoded (recordPart (R .file) k)) ≡ true
+  factor-limits : factorFits (R .step .state) (decoded (recordPart (R .file) k)) ≡ true
   unfolding mostLiterals mostIndex
   factor-limits =
       let c = R .kept .clause in
@@ -172,7 +172,7 @@ module _ {ns : List ℕ} {k : ℕ} {n : Counts} {C B N O A : List ℕ} {x y : At
   factor-entered : step (R .step .state) k (decoded (recordPart (R .file) k)) ≡ addClause (R .step .state) k factored (unifyFactor (R .step .state) (atomNamed (R .kept)) (atomNamed (R .deleted)))
   unfolding require
   factor-entered =
-      step-tests (R .step) factorKind (factor-kind (R .step) (R .isFactor)) refl refl refl true true true true (R .ranged) (ap₂ (λ (o p : Option (Derivation × Literal)). isThere o && isThere p) (R .isKept) (R .isDeleted)) (R .signs) factor-limits
+      factor-tests (R .step) (factor-kind (R .step) (R .isFactor)) true true true true (R .ranged) (ap₂ (λ (o p : Option (Derivation × Literal)). isThere o && isThere p) (R .isKept) (R .isDeleted)) (R .signs) factor-limits
       ∙ ap₂ (λ (o p : Option (Derivation × Literal)). onNamed (λ x y. addClause (R .step .state) k (factor (nextClause (R .step .state)) (x .0) (fieldB (decoded (recordPart (R .file) k))) (fieldC (decoded (recordPart (R .file) k)))) (unifyFactor (R .step .state) x y)) o p) (R .isKept) (R .isDeleted)
 
   module _ (lc : ℕ) (pl : lc ≡ literalsCell C (x .clause)) where

@@ -14,7 +14,7 @@ use Rattle.derivation.specs.Derivation.{literals, Literal, Derivation, numbered
 use Rattle.clauses.specs.Named.{namedLiteral, StoredClause}
 use Rattle.derivation.specs.Stored.{Stored}
 use Rattle.fields.specs.Fields.{stepInRange}
-use Rattle.verdict.specs.Refusal.{Reason, badKind, outOfRange, notThere, repeatedRow, variableLiteral, wrongSigns, tooLarge, reasonNumber, mostLiterals, mostIndex, kindOfRecord, knownKind, inRange, literalIn, literalNamed, leftOf, rightOf, deletedOf, isThere, allThere, isNew, onApplications, equalSigns, onBoth, fittingSigns, withinLimits}
+use Rattle.verdict.specs.Refusal.{Reason, outOfRange, notThere, wrongSigns, tooLarge, reasonNumber, mostLiterals, mostIndex, kindOfRecord, inRange, literalIn, literalNamed, leftOf, rightOf, deletedOf, isThere, equalSigns, onBoth, fittingSigns, bothThere, resolventFits, factorFits}
 use Rattle.verdict.specs.State.{State, entry, derivations, clauseOf}
 use Rattle.verdict.specs.Step.{refused, require, step, enter}
 use Rattle.inference.specs.Stepping.{BeforeStep, AtomOf, ClausesStored, namedAnswer, ResolveNamed, FactorNamed, StepRead}
@@ -113,18 +113,17 @@ module _ {F : List ℕ} {k : ℕ} {n : Counts} {C B N O A : List ℕ} (E : Befor
   pub factor-kind : kindOf (recordPart F k) ≡ 6 → kindOfRecord (decoded (recordPart F k)) ≡ factorKind
   factor-kind q = ap kindNumbered q
 
-  step-of : (kind : Kind) → kindOfRecord (decoded (recordPart F k)) ≡ kind → knownKind kind ≡ true → isNew (E .state) kind (decoded (recordPart F k)) ≡ true → onApplications (E .state) kind (decoded (recordPart F k)) ≡ true
-      → step (E .state) k (decoded (recordPart F k)) ≡ require (inRange kind (decoded (recordPart F k))) outOfRange (require (allThere (E .state) kind (decoded (recordPart F k))) notThere (require (fittingSigns (E .state) kind (decoded (recordPart F k))) wrongSigns (require (withinLimits (E .state) kind (decoded (recordPart F k))) tooLarge (enter (E .state) k kind (decoded (recordPart F k))))))
-  unfolding require
-  step-of kind e a b c = at-kind S k rec kind e ∙ (λ i. require (a i) badKind (require (inRange kind rec) outOfRange (require (allThere S kind rec) notThere (require (b i) repeatedRow (require (c i) variableLiteral (require (fittingSigns S kind rec) wrongSigns (require (withinLimits S kind rec) tooLarge (enter S k kind rec))))))))
-
   -- What is left of a step once the tests before have passed.
   abbrev pub Step : Kind → Bool → Bool → Bool → Bool → Type 0
   Step kind a b c d = step (E .state) k (decoded (recordPart F k)) ≡ require a outOfRange (require b notThere (require c wrongSigns (require d tooLarge (enter (E .state) k kind (decoded (recordPart F k))))))
 
-  pub step-tests : (kind : Kind) → kindOfRecord (decoded (recordPart F k)) ≡ kind → knownKind kind ≡ true → isNew (E .state) kind (decoded (recordPart F k)) ≡ true → onApplications (E .state) kind (decoded (recordPart F k)) ≡ true
-      → (a b c d : Bool) → inRange kind (decoded (recordPart F k)) ≡ a → allThere (E .state) kind (decoded (recordPart F k)) ≡ b → fittingSigns (E .state) kind (decoded (recordPart F k)) ≡ c → withinLimits (E .state) kind (decoded (recordPart F k)) ≡ d → Step kind a b c d
-  step-tests kind e x y z a b c d p q r s = step-of kind e x y z ∙ (λ i. require (p i) outOfRange (require (q i) notThere (require (r i) wrongSigns (require (s i) tooLarge (enter S k kind rec)))))
+  pub resolve-tests : kindOfRecord (decoded (recordPart F k)) ≡ resolveKind → (a b c d : Bool) → inRange resolveKind (decoded (recordPart F k)) ≡ a → bothThere (leftOf (E .state) (decoded (recordPart F k))) (rightOf (E .state) (decoded (recordPart F k))) ≡ b
+      → fittingSigns (E .state) resolveKind (decoded (recordPart F k)) ≡ c → resolventFits (E .state) (decoded (recordPart F k)) ≡ d → Step resolveKind a b c d
+  resolve-tests e a b c d p q r s = at-kind S k rec resolveKind e ∙ (λ i. require (p i) outOfRange (require (q i) notThere (require (r i) wrongSigns (require (s i) tooLarge (enter S k resolveKind rec)))))
+
+  pub factor-tests : kindOfRecord (decoded (recordPart F k)) ≡ factorKind → (a b c d : Bool) → inRange factorKind (decoded (recordPart F k)) ≡ a → bothThere (leftOf (E .state) (decoded (recordPart F k))) (deletedOf (E .state) (decoded (recordPart F k))) ≡ b
+      → fittingSigns (E .state) factorKind (decoded (recordPart F k)) ≡ c → factorFits (E .state) (decoded (recordPart F k)) ≡ d → Step factorKind a b c d
+  factor-tests e a b c d p q r s = at-kind S k rec factorKind e ∙ (λ i. require (p i) outOfRange (require (q i) notThere (require (r i) wrongSigns (require (s i) tooLarge (enter S k factorKind rec)))))
 
   -- The literals that a step names.
   pub left-is : (P : List ℕ) → P ≡ recordPart F k → (c m : ℕ) → c ≡ fieldOf P 0 → m ≡ fieldOf P 1 → (r : NamedLiteral) → ((R : ClausesStored O C (n .clauses)) → r ≡ namedAnswer (literalNamed (R .state) c m)) → r ≡ namedAnswer (leftOf (E .state) (decoded (recordPart F k)))
@@ -157,23 +156,20 @@ module _ {F : List ℕ} {k : ℕ} {n : Counts} {C B N O A : List ℕ} (E : Befor
     ranged : not b ≡ false → inRange resolveKind (decoded (recordPart F k)) ≡ true
     ranged q = ap (λ (l : List ℕ). stepInRange 4 (decoded l)) (sym e) ∙ sym range ∙ not-false b q
 
-    tests : (x y z w : Bool) → inRange resolveKind (decoded (recordPart F k)) ≡ x → allThere (E .state) resolveKind (decoded (recordPart F k)) ≡ y → fittingSigns (E .state) resolveKind (decoded (recordPart F k)) ≡ z → withinLimits (E .state) resolveKind (decoded (recordPart F k)) ≡ w → Step resolveKind x y z w
-    tests = step-tests resolveKind (resolve-kind kd) refl refl refl
-
     pub resolve-out : not b ≡ true → StepRead F k n C B N O A E C B O A (Refused 4)
     unfolding require
-    resolve-out q = refuse outOfRange (tests false (allThere S resolveKind rec) (fittingSigns S resolveKind rec) (withinLimits S resolveKind rec) (ap (λ (l : List ℕ). stepInRange 4 (decoded l)) (sym e) ∙ sym range ∙ not-true b q) refl refl refl)
+    resolve-out q = refuse outOfRange (resolve-tests (resolve-kind kd) false (bothThere (leftOf S rec) (rightOf S rec)) (fittingSigns S resolveKind rec) (resolventFits S rec) (ap (λ (l : List ℕ). stepInRange 4 (decoded l)) (sym e) ∙ sym range ∙ not-true b q) refl refl refl)
 
     module _ (ok : not b ≡ false) (left right : NamedLiteral) (isLeft : left ≡ namedAnswer (leftOf (E .state) (decoded (recordPart F k)))) (isRight : right ≡ namedAnswer (rightOf (E .state) (decoded (recordPart F k)))) where
       pub resolve-left-absent : left ≡ Absent → StepRead F k n C B N O A E C B O A (Refused 5)
       unfolding require
       resolve-left-absent q =
-          refuse notThere (tests true false (fittingSigns S resolveKind rec) (withinLimits S resolveKind rec) (ranged ok) (ap (λ (o : Option (Derivation × Literal)). isThere o && isThere (rightOf S rec)) (absent-none (leftOf S rec) (sym isLeft ∙ q))) refl refl)
+          refuse notThere (resolve-tests (resolve-kind kd) true false (fittingSigns S resolveKind rec) (resolventFits S rec) (ranged ok) (ap (λ (o : Option (Derivation × Literal)). isThere o && isThere (rightOf S rec)) (absent-none (leftOf S rec) (sym isLeft ∙ q))) refl refl)
 
       pub resolve-right-absent : right ≡ Absent → StepRead F k n C B N O A E C B O A (Refused 5)
       unfolding require
       resolve-right-absent q =
-          refuse notThere (tests true false (fittingSigns S resolveKind rec) (withinLimits S resolveKind rec) (ranged ok) (ap (λ (o : Option (Derivation × Literal)). isThere (leftOf S rec) && isThere o) (absent-none (rightOf S rec) (sym isRight ∙ q)) ∙ and-false (isThere (leftOf S rec))) refl refl)
+          refuse notThere (resolve-tests (resolve-kind kd) true false (fittingSigns S resolveKind rec) (resolventFits S rec) (ranged ok) (ap (λ (o : Option (Derivation × Literal)). isThere (leftOf S rec) && isThere o) (absent-none (rightOf S rec) (sym isRight ∙ q)) ∙ and-false (isThere (leftOf S rec))) refl refl)
 
       module _ (s t : Bool) (r i q j : ℕ) (l : left ≡ Found s r i) (m : right ≡ Found t q j) where
         X : FoundLiteral (leftOf (E .state) (decoded (recordPart F k))) s r i
@@ -182,7 +178,7 @@ module _ {F : List ℕ} {k : ℕ} {n : Counts} {C B N O A : List ℕ} (E : Befor
         Y : FoundLiteral (rightOf (E .state) (decoded (recordPart F k))) t q j
         Y = found-some (rightOf S rec) t q j (sym isRight ∙ m)
 
-        both-there : allThere (E .state) resolveKind (decoded (recordPart F k)) ≡ true
+        both-there : bothThere (leftOf (E .state) (decoded (recordPart F k))) (rightOf (E .state) (decoded (recordPart F k))) ≡ true
         both-there = ap₂ (λ (o p : Option (Derivation × Literal)). isThere o && isThere p) (X .isNamed) (Y .isNamed)
 
         sign-test : fittingSigns (E .state) resolveKind (decoded (recordPart F k)) ≡ not (equalSigns s t)
@@ -192,7 +188,7 @@ module _ {F : List ℕ} {k : ℕ} {n : Counts} {C B N O A : List ℕ} (E : Befor
 
         pub resolve-equal-signs : (z : Bool) → z ≡ equalSigns s t → z ≡ true → StepRead F k n C B N O A E C B O A (Refused 8)
         unfolding require
-        resolve-equal-signs z p h = refuse wrongSigns (tests true true false (withinLimits S resolveKind rec) (ranged ok) both-there (sign-test ∙ ap not (sym p ∙ h)) refl)
+        resolve-equal-signs z p h = refuse wrongSigns (resolve-tests (resolve-kind kd) true true false (resolventFits S rec) (ranged ok) both-there (sign-test ∙ ap not (sym p ∙ h)) refl)
 
         module _ (z : Bool) (p : z ≡ equalSigns s t) (h : z ≡ false) (a c : ℕ) (pa : a ≡ fieldOf P 0) (pc : c ≡ fieldOf P 2) (x y : Atom) (isX : x ≡ record { clause = a; row = r; index = i }) (isY : y ≡ record { clause = c; row = q; index = j }) where
           pub resolve-checked : {ns : List ℕ} → ns ≡ fieldsOf P → ResolveNamed ns k n C B N O A x y
@@ -219,23 +215,20 @@ module _ {F : List ℕ} {k : ℕ} {n : Counts} {C B N O A : List ℕ} (E : Befor
     factor-ranged : not b ≡ false → inRange factorKind (decoded (recordPart F k)) ≡ true
     factor-ranged q = ap (λ (l : List ℕ). stepInRange 3 (decoded l)) (sym e) ∙ sym range ∙ not-false b q
 
-    factor-tests : (x y z w : Bool) → inRange factorKind (decoded (recordPart F k)) ≡ x → allThere (E .state) factorKind (decoded (recordPart F k)) ≡ y → fittingSigns (E .state) factorKind (decoded (recordPart F k)) ≡ z → withinLimits (E .state) factorKind (decoded (recordPart F k)) ≡ w → Step factorKind x y z w
-    factor-tests = step-tests factorKind (factor-kind kd) refl refl refl
-
     pub factor-out : not b ≡ true → StepRead F k n C B N O A E C B O A (Refused 4)
     unfolding require
-    factor-out q = refuse outOfRange (factor-tests false (allThere S factorKind rec) (fittingSigns S factorKind rec) (withinLimits S factorKind rec) (ap (λ (l : List ℕ). stepInRange 3 (decoded l)) (sym e) ∙ sym range ∙ not-true b q) refl refl refl)
+    factor-out q = refuse outOfRange (factor-tests (factor-kind kd) false (bothThere (leftOf S rec) (deletedOf S rec)) (fittingSigns S factorKind rec) (factorFits S rec) (ap (λ (l : List ℕ). stepInRange 3 (decoded l)) (sym e) ∙ sym range ∙ not-true b q) refl refl refl)
 
     module _ (ok : not b ≡ false) (left right : NamedLiteral) (isLeft : left ≡ namedAnswer (leftOf (E .state) (decoded (recordPart F k)))) (isRight : right ≡ namedAnswer (deletedOf (E .state) (decoded (recordPart F k)))) where
       pub factor-kept-absent : left ≡ Absent → StepRead F k n C B N O A E C B O A (Refused 5)
       unfolding require
       factor-kept-absent q =
-          refuse notThere (factor-tests true false (fittingSigns S factorKind rec) (withinLimits S factorKind rec) (factor-ranged ok) (ap (λ (o : Option (Derivation × Literal)). isThere o && isThere (deletedOf S rec)) (absent-none (leftOf S rec) (sym isLeft ∙ q))) refl refl)
+          refuse notThere (factor-tests (factor-kind kd) true false (fittingSigns S factorKind rec) (factorFits S rec) (factor-ranged ok) (ap (λ (o : Option (Derivation × Literal)). isThere o && isThere (deletedOf S rec)) (absent-none (leftOf S rec) (sym isLeft ∙ q))) refl refl)
 
       pub factor-deleted-absent : right ≡ Absent → StepRead F k n C B N O A E C B O A (Refused 5)
       unfolding require
       factor-deleted-absent q =
-          refuse notThere (factor-tests true false (fittingSigns S factorKind rec) (withinLimits S factorKind rec) (factor-ranged ok) (ap (λ (o : Option (Derivation × Literal)). isThere (leftOf S rec) && isThere o) (absent-none (deletedOf S rec) (sym isRight ∙ q)) ∙ and-false (isThere (leftOf S rec))) refl refl)
+          refuse notThere (factor-tests (factor-kind kd) true false (fittingSigns S factorKind rec) (factorFits S rec) (factor-ranged ok) (ap (λ (o : Option (Derivation × Literal)). isThere (leftOf S rec) && isThere o) (absent-none (deletedOf S rec) (sym isRight ∙ q)) ∙ and-false (isThere (leftOf S rec))) refl refl)
 
       module _ (s t : Bool) (r i q j : ℕ) (l : left ≡ Found s r i) (m : right ≡ Found t q j) where
         K : FoundLiteral (leftOf (E .state) (decoded (recordPart F k))) s r i
@@ -244,7 +237,7 @@ module _ {F : List ℕ} {k : ℕ} {n : Counts} {C B N O A : List ℕ} (E : Befor
         D : FoundLiteral (deletedOf (E .state) (decoded (recordPart F k))) t q j
         D = found-some (deletedOf S rec) t q j (sym isRight ∙ m)
 
-        two-there : allThere (E .state) factorKind (decoded (recordPart F k)) ≡ true
+        two-there : bothThere (leftOf (E .state) (decoded (recordPart F k))) (deletedOf (E .state) (decoded (recordPart F k))) ≡ true
         two-there = ap₂ (λ (o p : Option (Derivation × Literal)). isThere o && isThere p) (K .isNamed) (D .isNamed)
 
         sign-of-both : fittingSigns (E .state) factorKind (decoded (recordPart F k)) ≡ (equalSigns s t && not (eqb (fieldB (decoded (recordPart F k))) (fieldC (decoded (recordPart F k)))))
@@ -254,7 +247,7 @@ module _ {F : List ℕ} {k : ℕ} {n : Counts} {C B N O A : List ℕ} (E : Befor
 
         pub factor-other-signs : (z : Bool) → z ≡ equalSigns s t → not z ≡ true → StepRead F k n C B N O A E C B O A (Refused 8)
         unfolding require
-        factor-other-signs z p h = refuse wrongSigns (factor-tests true true false (withinLimits S factorKind rec) (factor-ranged ok) two-there (sign-of-both ∙ ap (λ (x : Bool). x && not (eqb (fieldB rec) (fieldC rec))) (sym p ∙ not-true z h)) refl)
+        factor-other-signs z p h = refuse wrongSigns (factor-tests (factor-kind kd) true true false (factorFits S rec) (factor-ranged ok) two-there (sign-of-both ∙ ap (λ (x : Bool). x && not (eqb (fieldB rec) (fieldC rec))) (sym p ∙ not-true z h)) refl)
 
         module _ (z : Bool) (p : z ≡ equalSigns s t) (h : not z ≡ false) (a d c : ℕ) (pa : a ≡ fieldOf P 0) (pd : d ≡ fieldOf P 1) (pc : c ≡ fieldOf P 2) where
           different : fittingSigns (E .state) factorKind (decoded (recordPart F k)) ≡ not (eqb d c)
@@ -262,7 +255,7 @@ module _ {F : List ℕ} {k : ℕ} {n : Counts} {C B N O A : List ℕ} (E : Befor
 
           pub factor-same : d ≡ c → StepRead F k n C B N O A E C B O A (Refused 8)
           unfolding require
-          factor-same u = refuse wrongSigns (factor-tests true true false (withinLimits S factorKind rec) (factor-ranged ok) two-there (different ∙ ap not (eq-eqb d c u)) refl)
+          factor-same u = refuse wrongSigns (factor-tests (factor-kind kd) true true false (factorFits S rec) (factor-ranged ok) two-there (different ∙ ap not (eq-eqb d c u)) refl)
 
           module _ (u : ¬ (d ≡ c)) (x y : Atom) (isX : x ≡ record { clause = a; row = r; index = i }) (isY : y ≡ record { clause = a; row = q; index = j }) where
             pub factor-checked : {ns : List ℕ} → ns ≡ fieldsOf P → FactorNamed ns k n C B N O A x y

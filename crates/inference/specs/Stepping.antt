@@ -15,8 +15,8 @@ use Rattle.entry.specs.Progress.{Kept, Next, tablesWith}
 use Rattle.verdict.specs.Refusal.{inRange, leftOf, rightOf, deletedOf, fittingSigns}
 use Rattle.verdict.specs.State.{State, clauseOf}
 use Rattle.verdict.specs.Tables.{Tables}
-use Rattle.pairs.specs.declared.Unified.{Unified}
-use Rattle.pairs.specs.declared.Unified.the-variants.{Done, Refused}
+use Rattle.unify.specs.declared.Unified.{Unified}
+use Rattle.unify.specs.declared.Unified.the-variants.{Done, Refused}
 use Rattle.entry.specs.declared.entry.Counts.{Counts}
 use Rattle.entry.specs.declared.entry.Entered.{Entered}
 use Rattle.entry.specs.declared.entry.Entered.the-variants.{Stands}

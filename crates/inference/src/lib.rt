@@ -5,9 +5,10 @@ use clauses::literal::literal;
 use entry::entry::Counts;
 use entry::entry::Entered;
 use entry::rows::put_cells;
-use pairs::Unified;
+use following::nodes::Origins;
 use tables::clear;
 use tables::put_clause;
+use unify::Unified;
 ghost use mathlib.Core.Path.{_≡_};
 ghost use mathlib.Core.List.{_∷_};
 ghost use Rattle.verdict.specs.Refusal.{literalNamed, equalSigns};
@@ -38,7 +39,7 @@ pub fn finish_step(
     numbers: &[u16; 7],
     clauses: &mut [u16],
     bindings: &mut [u16],
-    origins: &mut [u16; 32768],
+    origins: &mut Origins,
 ) -> Entered
     requires { ⌜ Finishing counts (now bindings) (now origins) (now numbers) u ⌝ }
     ensures { λ e. ⌜ finished e (now (clauses .exit)) (now (bindings .exit)) (now (origins .exit)) ≡ stepFinished u k counts literals index (code ∷ now (numbers .entry)) (now (clauses .entry)) (now (bindings .entry)) (now (origins .entry)) ⌝ }
@@ -64,13 +65,7 @@ pub fn finish_step(
 }
 
 // The literal that a step names, if the clause and the literal exist.
-pub fn named_literal(
-    origins: &[u16; 32768],
-    clauses: &[u16],
-    count: u16,
-    c: u16,
-    n: u16,
-) -> NamedLiteral
+pub fn named_literal(origins: &Origins, clauses: &[u16], count: u16, c: u16, n: u16) -> NamedLiteral
     requires { ⌜ ClausesStored (now origins) (now clauses) count ⌝ }
     ensures { λ r. ⌜ ((R : ClausesStored (now (origins .entry)) (now (clauses .entry)) count) → r ≡ namedAnswer (literalNamed (R .state) c n)) ⌝ }
 {

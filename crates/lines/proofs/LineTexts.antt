@@ -13,10 +13,10 @@ use Rattle.following.specs.Clearing.{Cleared}
 use Rattle.unification.specs.Environment.{Environment}
 use Rattle.unification.specs.Row.{Row, Variable, writtenOut}
 use Rattle.unification.specs.Term.{Term}
-use Rattle.unification.specs.Values.{InStep, Models}
+use Rattle.unification.specs.ValueArray.{InStep, Models}
 use Rattle.derivation.specs.Derivation.{literals, Literal, Derivation, numbered, maximumIndex, lookup}
 use Rattle.loading.specs.Loaded.{Loadable, Loaded}
-use Rattle.clauses.specs.Named.{namedLiteral, StoredClause}
+use Rattle.clauses.specs.Named.{namedLiteral}
 use Rattle.derivation.specs.Stored.{literalsCell, indexCell, Stored}
 use Rattle.derivation.specs.Written.{substitution, writtenLiteral, written}
 use Rattle.clauses.proofs.Numbers.{raise-named-zero}
@@ -33,11 +33,11 @@ use Rattle.verdict.proofs.Standing.{StateOk, order-of}
 use Rattle.entry.specs.Progress.{ReadTo, tablesWith}
 use Rattle.entry.proofs.Kept.{fitting-records}
 use Rattle.inference.proofs.KeptClauses as kept
-use Rattle.lines.specs.Lines.{AllWritable, WritesNumbered, WritesLiterals, LineReady, LineWritten}
+use Rattle.lines.specs.Lines.{AllWritable, NumberedReady, LiteralsReady, WritesNumbered, WritesLiterals, LineReady, LineWritten}
 use Rattle.lines.specs.Literals.{listed, Collectable, Collected}
 use Rattle.verdict.specs.Readout.{clauseLine}
 use Rattle.verdict.specs.Text.{decimal, literalText, literalsText}
-use Rattle.terms.specs.Writing.{Wrote, Sized, WritesLiteral}
+use Rattle.terms.specs.Writing.{Wrote, Sized, WritingReady, WritesLiteral}
 use Rattle.terms.proofs.Decimals.{decimal-length}
 use Rattle.terms.proofs.LiteralTexts.{literals-text-short}
 use Rattle.terms.proofs.Positions.{wrote-nothing, wrote-then}
@@ -55,31 +55,37 @@ module _ (F C N A T : List ℕ) (at c n : ℕ) (r : NamedLiteral) (G : (B : List
   numbered-found positive row index q A′ T′ end W B d s l p =
       subst (λ (x : Literal). WritesLiteral N A A′ T T′ at (x .0) (x .1) end) (same-literal positive row index l (sym q ∙ G B d s ∙ ap namedLiteral p)) W
 
+  pub found-ready : (R : NumberedReady F C N A T c n) (positive : Bool) (row index : ℕ) → r ≡ Found positive row index → WritingReady N A T (row, index)
+  found-ready R positive row index q =
+      subst (λ (x : Literal). WritingReady N A T (x .1)) (sym (same-literal positive row index (R .literal) (sym q ∙ G (R .clause .bindings) (R .clause .derivation) (R .clause .stored) ∙ ap namedLiteral (R .isNumbered)))) (R .ready)
+
   pub numbered-absent : r ≡ Absent → WritesNumbered F C N A A T T at c n at
   numbered-absent q B d s l p = absurd (no (sym q ∙ G B d s ∙ ap namedLiteral p))
     where
       no : Absent ≡ namedLiteral (some l) → ⊥
       no e = let z : _≡_ {A = ℕ} 0 1 = cc in omega arith
 
--- A clause that can be collected can be looked up.
-pub collectable-stored : {F C : List ℕ} {c : ℕ} → Collectable F C 0 c 0 → StoredClause F C c
-collectable-stored R = record { bindings = R .bindings; derivation = R .derivation; stored = R .stored; fits = omega (arith, R .fits) }
-
 -- There is room in the list for all literals.
 pub collected-few : {F C L L′ : List ℕ} {c count : ℕ} → Collectable F C 0 c 0 → Collected F C L L′ 0 c 0 count → count < 4352
 collected-few R K = omega (arith, R .few, K .last (R .bindings) (R .derivation) (R .stored))
 
 -- The literal that the program has in its list is the one with the number.
-pub numbered-listed : {F C L L′ : List ℕ} {c count : ℕ} → Collected F C L L′ 0 c 0 count → (n : ℕ) → 1 ≤ n → n ≤ count
-    → {N A A′ T T′ : List ℕ} {at end : ℕ} → WritesLiteral N A A′ T T′ at (listed L′ n .0) (listed L′ n .1) end → WritesNumbered F C N A A′ T T′ at c n end
-numbered-listed {L′ = L′} K n low high {N} {A} {A′} {T} {T′} {at} {end} W B d s l p =
+listed-is : {F C B L L′ : List ℕ} {c count : ℕ} {d : Derivation} → Collected F C L L′ 0 c 0 count → Stored F C B c d → (n : ℕ) → 1 ≤ n → n ≤ count → (l : Literal) → numbered (literals d) n ≡ some l → listed L′ n ≡ l
+listed-is {B = B} {L′ = L′} {d = d} K s n low high l p =
     let z : n ≡ 0 + n = omega arith in
-    let e : listed L′ n ≡ l =
-    some-same (ap (λ (k : ℕ). some (listed L′ k)) z ∙ K .holds B d s .literal n low (omega (arith, high, K .last B d s)) ∙ sym (raise-named-zero (numbered (literals d) n)) ∙ p) in
-    subst (λ (x : Literal). WritesLiteral N A A′ T T′ at (x .0) (x .1) end) e W
+    some-same (ap (λ (k : ℕ). some (listed L′ k)) z ∙ K .holds B d s .literal n low (omega (arith, high, K .last B d s)) ∙ sym (raise-named-zero (numbered (literals d) n)) ∙ p)
   where
     some-same : {x y : Literal} → some x ≡ some y → x ≡ y
     some-same e = cc
+
+pub listed-ready : {F C L L′ : List ℕ} {c count : ℕ} → Collected F C L L′ 0 c 0 count → (n : ℕ) → 1 ≤ n → n ≤ count → {N A T : List ℕ} → NumberedReady F C N A T c n → WritingReady N A T (listed L′ n .1)
+listed-ready K n low high {N} {A} {T} R =
+    subst (λ (x : Literal). WritingReady N A T (x .1)) (sym (listed-is K (R .clause .stored) n low high (R .literal) (R .isNumbered))) (R .ready)
+
+pub numbered-listed : {F C L L′ : List ℕ} {c count : ℕ} → Collected F C L L′ 0 c 0 count → (n : ℕ) → 1 ≤ n → n ≤ count
+    → {N A A′ T T′ : List ℕ} {at end : ℕ} → WritesLiteral N A A′ T T′ at (listed L′ n .0) (listed L′ n .1) end → WritesNumbered F C N A A′ T T′ at c n end
+numbered-listed K n low high {N} {A} {A′} {T} {T′} {at} {end} W B d s l p =
+    subst (λ (x : Literal). WritesLiteral N A A′ T T′ at (x .0) (x .1) end) (listed-is K s n low high l p) W
 
 -- So many literals has clause c, whatever derivation it is: the number in its cell, and the number of those collected.
 abbrev pub HasLiterals : List ℕ → List ℕ → ℕ → ℕ → Type 0
@@ -152,6 +158,29 @@ module _ (F C N A T : List ℕ) (at c : ℕ) where
               ∙ ap (λ (ls : List Literal). S′ .before ++ literalsText row (map (writtenLiteral term σ) ls)) (sym isFirst) ∙ S′ .whole;
         }
 
+-- What writing the next literal asks.
+pub numbered-ready : {F C N A A₁ T T₁ : List ℕ} {at c end n count : ℕ} → LiteralsReady F C N A T c → WritesSoFar F C N A A₁ T T₁ at c end n → HasLiterals F C c count → n < count → Sized N A₁ T₁ → NumberedReady F C N A₁ T₁ c (n + 1)
+numbered-ready {n = n} R S counted h Z =
+    let K = R .collectable in
+    let W = R .writable in
+    let S′ = S (K .bindings) (K .derivation) (K .stored) (R .top) (R .environment) (R .row) (R .term) (R .value) W in
+    let x = next-literal (literals (K .derivation)) n (omega (arith, counted (K .bindings) (K .derivation) (K .stored))) in
+    let isLiteral : numbered (literals (K .derivation)) (n + 1) ≡ some (x .next) = ap (numbered (literals (K .derivation))) (add-one n) ∙ x .isNumbered in
+    record {
+      clause = record { bindings = K .bindings; derivation = K .derivation; stored = K .stored; fits = omega (arith, K .fits) };
+      literal = x .next;
+      isNumbered = isLiteral;
+      ready = record {
+        sized = Z;
+        top = R .top;
+        environment = R .environment;
+        row = R .row;
+        term = R .term;
+        value = R .value;
+        writable = record { models = S′ .models; inStep = W .inStep (n + 1) (x .next) isLiteral; rows = W .rows; terms = W .terms; values = W .values };
+      };
+    }
+
 -- The clause that a line is written of.
 pub record ClauseThere (S : State) (c : ℕ) : Type 0 where
   pub clause : Derivation
@@ -190,7 +219,7 @@ module _ {F C B N A T : List ℕ} {c : ℕ} (R : LineReady F C B N A T c) where
   unfolding mostLiterals
   few-literals = kept.order-in (R .read .kept) (R .read .few) c (here .clause) (here .isClause) .literalsFit
 
-  pub line-collect : Collectable F C 0 c 0
+  abbrev line-collect : Collectable F C 0 c 0
   line-collect =
       record {
         bindings = B;
@@ -200,7 +229,7 @@ module _ {F C B N A T : List ℕ} {c : ℕ} (R : LineReady F C B N A T c) where
         few = omega (arith, few-clauses, few-literals, R .inside);
       }
 
-  pub line-nodes : length N ≡ 32768
+  line-nodes : length N ≡ 32768
   line-nodes = kept.nodes-room (R .read .kept) (R .read .few)
 
 -- What the check left is left with any array in the array's place: between lines it does not matter what the array holds.
@@ -224,6 +253,23 @@ module _ {F C B N A : List ℕ} {t : Tables} {S : State} {symbols rows : List �
         terms = term-of-row S ok;
         values = writes-out (rowOf S) (termOf S) (term-of-row S ok) d (kept.order-in (R .kept) (R .few) c d q .valid);
       }
+
+-- What writing its literals asks.
+pub line-literals : {F C B N A T : List ℕ} {c : ℕ} (R : LineReady F C B N A T c) (top : ℕ) → top ≡ indexCell C c → (A₁ A₂ : List ℕ) → Cleared A A₁ (128 * (top + 1)) → Loaded F C B N A₁ A₂ c 0 → (T′ : List ℕ) → length T′ ≡ 131072 → LiteralsReady F C N A₂ T′ c
+line-literals {c = c} R top p A₁ A₂ K L T′ room =
+    let S = R .state in
+    let d = here R .clause in
+    let q = here R .isClause in
+    record {
+      collectable = line-collect R;
+      sized = record { nodes = line-nodes R; values = L .room; text = room };
+      top = top;
+      environment = lookup d;
+      row = rowOf S;
+      term = termOf S;
+      value = substitution (termOf S) d;
+      writable = line-writable (R .read) c d q top (p ∙ line-index (R .read) c d q) A₁ A₂ K L;
+    }
 
 -- The parts of a line, one after another.
 pub line-written : (F C B N A T : List ℕ) (at c top : ℕ) → top ≡ indexCell C c → (A₁ A₂ A₃ : List ℕ) → Cleared A A₁ (128 * (top + 1)) → Loaded F C B N A₁ A₂ c 0

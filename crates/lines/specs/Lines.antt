@@ -9,16 +9,18 @@ use Rattle.unification.specs.Environment.{Environment}
 use Rattle.unification.specs.Nodes.{HasRow, nodeRow}
 use Rattle.unification.specs.Row.{Row, Variable, rowTerm}
 use Rattle.unification.specs.Term.{Term}
-use Rattle.unification.specs.Values.{InStep, Models}
+use Rattle.unification.specs.ValueArray.{InStep, Models}
 use Rattle.derivation.specs.Derivation.{literals, Literal, Derivation, numbered}
 use Rattle.derivation.specs.Stored.{Stored}
 use Rattle.derivation.specs.Written.{writtenLiteral, WritesOut}
 use Rattle.verdict.specs.State.{State, clauseOf}
 use Rattle.verdict.specs.Tables.{Tables}
+use Rattle.clauses.specs.Named.{StoredClause}
 use Rattle.entry.specs.Progress.{ReadTo, tablesWith}
+use Rattle.lines.specs.Literals.{Collectable}
 use Rattle.verdict.specs.Readout.{clauseLine}
 use Rattle.verdict.specs.Text.{literalsText}
-use Rattle.terms.specs.Writing.{Wrote, Sized, LiteralWritten, WritesLiteral}
+use Rattle.terms.specs.Writing.{Wrote, Sized, WritingReady, LiteralWritten, WritesLiteral}
 
 -- Every literal of a list can be written out, as `Writable` has it for one expression.
 pub record AllWritable (N : List ℕ) (top : ℕ) (A : List ℕ) (ρ : Environment) (row : ℕ → Row) (term : ℕ → Term ℕ) (σ : Variable → Term Variable) (ls : List Literal) : Type 0 where
@@ -28,7 +30,26 @@ pub record AllWritable (N : List ℕ) (top : ℕ) (A : List ℕ) (ρ : Environme
   pub terms : (r : ℕ) → term r ≡ rowTerm term r (row r)
   pub values : WritesOut term ρ σ
 
--- Literal n of clause c, where the clause has one.
+-- What writing literal n of clause c asks: the clause has one, and it can be written out.
+pub record NumberedReady (F C N A T : List ℕ) (c n : ℕ) : Type 0 where
+  pub clause : StoredClause F C c
+  pub literal : Literal
+  pub isNumbered : numbered (literals (clause .derivation)) n ≡ some literal
+  pub ready : WritingReady N A T (literal .1)
+
+-- What writing all literals of clause c asks: they can be collected, the tables and the buffer are at their full size, and there are some
+-- environment, rows, terms and values with which all of them can be written out.
+pub record LiteralsReady (F C N A T : List ℕ) (c : ℕ) : Type 0 where
+  pub collectable : Collectable F C 0 c 0
+  pub sized : Sized N A T
+  pub top : ℕ
+  pub environment : Environment
+  pub row : ℕ → Row
+  pub term : ℕ → Term ℕ
+  pub value : Variable → Term Variable
+  pub writable : AllWritable N top A environment row term value (literals (collectable .derivation))
+
+-- Literal n of clause c.
 abbrev pub WritesNumbered : List ℕ → List ℕ → List ℕ → List ℕ → List ℕ → List ℕ → List ℕ → ℕ → ℕ → ℕ → ℕ → Type 0
 WritesNumbered F C N A A′ T T′ at c n end =
     (B : List ℕ) (d : Derivation) → Stored F C B c d → (l : Literal) → numbered (literals d) n ≡ some l

@@ -1,21 +1,24 @@
 // A line of the readout: a clause written out, with its number, its maximum index and its literals.
+use super::LiteralList;
 use super::literals::collect;
 use clauses::index_cell;
 use clauses::literal::NamedLiteral;
 use clauses::literal::literal;
 use clauses::literals_cell;
+use following::nodes::Nodes;
+use following::values::ValueCells;
 use following::values::clear;
 use loading::load;
 use terms::literal::write_literal;
+use terms::text::TextBuffer;
 use terms::text::put_byte;
 use terms::text::put_decimal;
 ghost use mathlib.Core.Path.{_≡_};
 ghost use Prim.Native.Nat.{_<_};
 ghost use lib.ListN.{length};
-ghost use Rattle.clauses.specs.Named.{StoredClause};
-ghost use Rattle.lines.specs.Lines.{WritesNumbered, WritesLiterals, LineReady, LineWritten};
-ghost use Rattle.lines.specs.Literals.{listed, Collectable};
-ghost use Rattle.terms.specs.Writing.{Sized, WritesLiteral};
+ghost use Rattle.lines.specs.Lines.{NumberedReady, LiteralsReady, WritesNumbered, WritesLiterals, LineReady, LineWritten};
+ghost use Rattle.lines.specs.Literals.{listed};
+ghost use Rattle.terms.specs.Writing.{Sized, WritingReady, WritesLiteral};
 
 // A clause with at most so many literals has each of them looked up. One with more has them collected in one walk, which takes as long
 // however few they are.
@@ -25,15 +28,14 @@ const FEW: u16 = 6;
 fn write_numbered(
     file: &[u8],
     clauses: &[u16],
-    nodes: &[u16; 32768],
-    values: &mut [u16; 524416],
-    text: &mut [u8; 131072],
+    nodes: &Nodes,
+    values: &mut ValueCells,
+    text: &mut TextBuffer,
     at: usize,
     c: u16,
     n: u16,
 ) -> usize
-    requires { ⌜ StoredClause (now file) (now clauses) c ⌝ }
-    requires { ⌜ Sized (now nodes) (now values) (now text) ⌝ }
+    requires { ⌜ NumberedReady (now file) (now clauses) (now nodes) (now values) (now text) c n ⌝ }
     ensures { λ end. ⌜ WritesNumbered (now (file .entry)) (now (clauses .entry)) (now (nodes .entry)) (now (values .entry)) (now (values .exit)) (now (text .entry)) (now (text .exit)) at c n end × Sized (now (nodes .entry)) (now (values .exit)) (now (text .exit)) ⌝ }
 {
     let l = literal(file, clauses, c, n);
@@ -47,14 +49,13 @@ fn write_numbered(
 fn write_found_literals(
     file: &[u8],
     clauses: &[u16],
-    nodes: &[u16; 32768],
-    values: &mut [u16; 524416],
-    text: &mut [u8; 131072],
+    nodes: &Nodes,
+    values: &mut ValueCells,
+    text: &mut TextBuffer,
     at: usize,
     c: u16,
 ) -> usize
-    requires { ⌜ Collectable (now file) (now clauses) 0 c 0 ⌝ }
-    requires { ⌜ Sized (now nodes) (now values) (now text) ⌝ }
+    requires { ⌜ LiteralsReady (now file) (now clauses) (now nodes) (now values) (now text) c ⌝ }
     ensures { λ end. ⌜ WritesLiterals (now (file .entry)) (now (clauses .entry)) (now (nodes .entry)) (now (values .entry)) (now (values .exit)) (now (text .entry)) (now (text .exit)) at c end × Sized (now (nodes .entry)) (now (values .exit)) (now (text .exit)) ⌝ }
 {
     let count = literals_cell(clauses, c);
@@ -69,14 +70,14 @@ fn write_found_literals(
 
 // Literal n of the list, after a blank.
 fn write_listed(
-    nodes: &[u16; 32768],
-    values: &mut [u16; 524416],
-    text: &mut [u8; 131072],
+    nodes: &Nodes,
+    values: &mut ValueCells,
+    text: &mut TextBuffer,
     at: usize,
-    list: &[u16; 8704],
+    list: &LiteralList,
     n: usize,
 ) -> usize
-    requires { ⌜ Sized (now nodes) (now values) (now text) ⌝ }
+    requires { ⌜ WritingReady (now nodes) (now values) (now text) (listed (now list) n .1) ⌝ }
     requires { ⌜ length (now list) ≡ 8704 ⌝ }
     requires { ⌜ n < 4352 ⌝ }
     ensures { λ end. ⌜ WritesLiteral (now (nodes .entry)) (now (values .entry)) (now (values .exit)) (now (text .entry)) (now (text .exit)) at (listed (now (list .entry)) n .0) (listed (now (list .entry)) n .1) end × Sized (now (nodes .entry)) (now (values .exit)) (now (text .exit)) ⌝ }
@@ -90,14 +91,13 @@ fn write_listed(
 fn write_collected_literals(
     file: &[u8],
     clauses: &[u16],
-    nodes: &[u16; 32768],
-    values: &mut [u16; 524416],
-    text: &mut [u8; 131072],
+    nodes: &Nodes,
+    values: &mut ValueCells,
+    text: &mut TextBuffer,
     at: usize,
     c: u16,
 ) -> usize
-    requires { ⌜ Collectable (now file) (now clauses) 0 c 0 ⌝ }
-    requires { ⌜ Sized (now nodes) (now values) (now text) ⌝ }
+    requires { ⌜ LiteralsReady (now file) (now clauses) (now nodes) (now values) (now text) c ⌝ }
     ensures { λ end. ⌜ WritesLiterals (now (file .entry)) (now (clauses .entry)) (now (nodes .entry)) (now (values .entry)) (now (values .exit)) (now (text .entry)) (now (text .exit)) at c end × Sized (now (nodes .entry)) (now (values .exit)) (now (text .exit)) ⌝ }
 {
     let mut list = [0u16; 8704];
@@ -115,14 +115,13 @@ fn write_collected_literals(
 fn write_literals(
     file: &[u8],
     clauses: &[u16],
-    nodes: &[u16; 32768],
-    values: &mut [u16; 524416],
-    text: &mut [u8; 131072],
+    nodes: &Nodes,
+    values: &mut ValueCells,
+    text: &mut TextBuffer,
     at: usize,
     c: u16,
 ) -> usize
-    requires { ⌜ Collectable (now file) (now clauses) 0 c 0 ⌝ }
-    requires { ⌜ Sized (now nodes) (now values) (now text) ⌝ }
+    requires { ⌜ LiteralsReady (now file) (now clauses) (now nodes) (now values) (now text) c ⌝ }
     ensures { λ end. ⌜ WritesLiterals (now (file .entry)) (now (clauses .entry)) (now (nodes .entry)) (now (values .entry)) (now (values .exit)) (now (text .entry)) (now (text .exit)) at c end × Sized (now (nodes .entry)) (now (values .exit)) (now (text .exit)) ⌝ }
 {
     if literals_cell(clauses, c) <= FEW {
@@ -136,9 +135,9 @@ pub fn write_line(
     file: &[u8],
     clauses: &[u16],
     bindings: &[u16],
-    nodes: &[u16; 32768],
-    values: &mut [u16; 524416],
-    text: &mut [u8; 131072],
+    nodes: &Nodes,
+    values: &mut ValueCells,
+    text: &mut TextBuffer,
     at: usize,
     c: u16,
 ) -> usize

@@ -6,14 +6,13 @@ use mathlib.Core.Option.{Option, none, some}
 use mathlib.Core.List.{List}
 use Prim.Native.Nat.{ℕ, _+_, _-_, _*_, _≤_}
 use native.Mathlib.Omega.{arith}
-use lib.Dec.{T}
 use lib.ListN.{length}
 use Rattle.following.specs.Clearing.{Cleared}
 use Rattle.unification.specs.Environment.{follow, Environment, Ends}
 use Rattle.unification.specs.Nodes.{isVariable, HasRow, nodeRow, NodesOk}
 use Rattle.unification.specs.Row.{Expression, Variable}
 use Rattle.unification.specs.Unification.{mostLinks, full}
-use Rattle.unification.specs.Values.{slot, indexOf, InStep, oneLink, Models}
+use Rattle.unification.specs.ValueArray.{slot, indexOf, InStep, oneLink, Models}
 use Rattle.derivation.specs.Derivation.{input, Derivation, resolve, factor, raise, maximumIndex, raiseAnswer, joined, lookup}
 use Rattle.loading.specs.Loaded.{heldValue, readCell, orElse, within, BindingsIn, Loaded}
 use Rattle.derivation.specs.Stored.{Stored, storedInput, storedResolve, storedFactor}

@@ -5,13 +5,13 @@ use mathlib.Core.Option.{Option, none, some}
 use mathlib.Core.List.{List, [], _∷_}
 use Prim.Native.Nat.{ℕ, suc, _+_, _-_, _≤_, _<_}
 use native.Mathlib.Omega.{arith}
-use lib.Dec.{eqb, leb, T}
+use lib.Dec.{eqb, leb}
 use lib.ListN.{length}
 use Rattle.record.specs.Record.{pick}
 use Rattle.unification.specs.Environment.{Binding, Environment, extend}
 use Rattle.unification.specs.Nodes.{isVariable, NodesOk}
 use Rattle.unification.specs.Row.{Expression, Variable, same}
-use Rattle.unification.specs.Values.{slot, put, InStep}
+use Rattle.unification.specs.ValueArray.{slot, put, InStep}
 use Rattle.unification.proofs.Tests.{same-eq, same-refl, some-not-none}
 use Rattle.following.proofs.Writing.{slot-eq, put-cell, put-index, put-cell-other, put-index-other, length-put}
 use Rattle.derivation.specs.Derivation.{input, Derivation, resolve, factor, maximumIndex, raiseAnswer, joined, lookup}

@@ -10,7 +10,7 @@ use Rattle.record.specs.Record.{pick}
 use Rattle.unification.specs.Environment.{Binding, Environment, extend}
 use Rattle.unification.specs.Nodes.{isVariable}
 use Rattle.unification.specs.Row.{Expression, Variable, same}
-use Rattle.unification.specs.Values.{InStep}
+use Rattle.unification.specs.ValueArray.{InStep}
 use Rattle.unification.proofs.Ranges.{Kept}
 use Rattle.unification.proofs.Tests.{same-eq, some-not-none, some-injective}
 use Rattle.derivation.specs.Derivation.{input, Derivation, resolve, factor, raise, maximumIndex, raiseAnswer, joined, lookup}

@@ -12,7 +12,7 @@ use Rattle.unification.specs.Bindings.{bindingsFrom}
 use Rattle.unification.specs.Environment.{Binding, Environment}
 use Rattle.unification.specs.Nodes.{isVariable, part, NodesOk}
 use Rattle.unification.specs.Row.{Expression, Variable}
-use Rattle.unification.specs.Values.{slot, put, cellOf, indexOf, InStep}
+use Rattle.unification.specs.ValueArray.{slot, put, cellOf, indexOf, InStep}
 use Rattle.derivation.specs.Derivation.{input, Derivation, resolve, factor, maximumIndex, raiseAnswer, joined, lookup}
 use Rattle.derivation.specs.Stored.{Stored}
 

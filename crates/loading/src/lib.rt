@@ -6,16 +6,13 @@ use clauses::bindings_cell;
 use clauses::first_cell;
 use clauses::index_cell;
 use clauses::origin_code;
+use following::nodes::Nodes;
+use following::nodes::Origins;
 use following::nodes::part_of;
+use following::values::ValueCells;
 
 // The binding at `at` is put into the array with its indices raised by the offset.
-fn put_binding(
-    bindings: &[u16],
-    nodes: &[u16; 32768],
-    values: &mut [u16; 524416],
-    at: usize,
-    offset: u16,
-)
+fn put_binding(bindings: &[u16], nodes: &Nodes, values: &mut ValueCells, at: usize, offset: u16)
     requires { ⌜ BindingThere (now bindings) (now nodes) (now values) at offset ⌝ }
     ensures { λ _. ⌜ now (values .exit) ≡ putCells (now (bindings .entry)) (now (nodes .entry)) (now (values .entry)) at offset ⌝ }
 {
@@ -30,8 +27,8 @@ fn put_binding(
 // n bindings of the table, from `first` on, are put into the array with their indices raised by the offset.
 fn put_bindings(
     bindings: &[u16],
-    nodes: &[u16; 32768],
-    values: &mut [u16; 524416],
+    nodes: &Nodes,
+    values: &mut ValueCells,
     first: u16,
     n: u16,
     offset: u16,
@@ -50,11 +47,11 @@ fn put_bindings(
 // The bindings of clause c and those of its parents are put into the array, indices raised by the offset; those of a right parent above the
 // left maximum index. Each parent has a smaller number. An input clause has no bindings, so that beside one the other parent is the last.
 pub fn load(
-    origins: &[u16; 32768],
+    origins: &Origins,
     clauses: &[u16],
     bindings: &[u16],
-    nodes: &[u16; 32768],
-    values: &mut [u16; 524416],
+    nodes: &Nodes,
+    values: &mut ValueCells,
     c: u16,
     offset: u16,
 )

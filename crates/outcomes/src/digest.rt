@@ -1,5 +1,7 @@
 // The length and the hash of a file's readout.
 use answer::Answer;
+use following::nodes::Nodes;
+use following::values::ValueCells;
 use hash::with_bytes;
 use readout::piece::Rest;
 use readout::piece::write_piece;
@@ -18,8 +20,8 @@ pub fn digest_of(
     file: &[u8],
     clauses: &[u16],
     bindings: &[u16],
-    nodes: &[u16; 32768],
-    values: &mut [u16; 524416],
+    nodes: &Nodes,
+    values: &mut ValueCells,
     a: Answer,
 ) -> Digest
     requires { ⌜ AfterCheck (now file) (now clauses) (now bindings) (now nodes) (now values) a ⌝ }

@@ -3,6 +3,8 @@ use super::digest::Digest;
 use super::digest::digest_of;
 use answer::Answer;
 use checker::check_with;
+use following::nodes::Nodes;
+use following::values::ValueCells;
 use hash::hash_of;
 ghost use Rattle.entry.specs.Progress.{tablesWith};
 ghost use Rattle.checker.specs.Reader.{Unwritten};
@@ -30,8 +32,8 @@ fn outcome_with(
     rows: &mut [u16],
     clauses: &mut [u16],
     bindings: &mut [u16],
-    nodes: &mut [u16; 32768],
-    values: &mut [u16; 524416],
+    nodes: &mut Nodes,
+    values: &mut ValueCells,
 ) -> Outcome
     requires { ⌜ Unwritten (now nodes) (now values) ⌝ }
     ensures { λ o. ⌜ OutcomeOf (now (file .entry)) (tablesWith (now (symbols .entry)) (now (rows .entry)) (now (clauses .entry)) (now (bindings .entry))) o ⌝ }

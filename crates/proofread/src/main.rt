@@ -2,6 +2,8 @@
 // may have, so that a longer input is refused and an endless one ends. Where the output is closed it stops.
 use answer::Answer;
 use checker::check_with;
+use following::nodes::Nodes;
+use following::values::ValueCells;
 use libc::STDIN_FILENO;
 use libc::STDOUT_FILENO;
 use readout::unit::unit_count;
@@ -14,8 +16,8 @@ fn print_lines(
     file: &[u8],
     clauses: &[u16],
     bindings: &[u16],
-    nodes: &[u16; 32768],
-    values: &mut [u16; 524416],
+    nodes: &Nodes,
+    values: &mut ValueCells,
     a: Answer,
 )
     requires { ⌜ AfterCheck (now file) (now clauses) (now bindings) (now nodes) (now values) a ⌝ }
@@ -39,8 +41,8 @@ fn print_with(
     rows: &mut [u16],
     clauses: &mut [u16],
     bindings: &mut [u16],
-    nodes: &mut [u16; 32768],
-    values: &mut [u16; 524416],
+    nodes: &mut Nodes,
+    values: &mut ValueCells,
 )
     requires { ⌜ Unwritten (now nodes) (now values) ⌝ }
 {

@@ -10,10 +10,10 @@ use lib.Seq.{paste}
 use Rattle.record.specs.Record.{pick}
 use Rattle.derivation.specs.Derivation.{Derivation}
 use Rattle.verdict.specs.Refusal.{reasonNumber}
-use Rattle.verdict.specs.State.{State, start, derivations, entry, clauseOf}
+use Rattle.verdict.specs.State.{State, emptyState, derivations, entry, clauseOf}
 use Rattle.verdict.specs.Step.{stateOf}
 use Rattle.verdict.specs.Tables.{Tables, lengthsOf}
-use Rattle.verdict.specs.Verdict.{Verdict, accepted, undecided, refusal, check, Lengths, longEnough, fittingLength, ending}
+use Rattle.verdict.specs.Verdict.{Verdict, accepted, open′, refusal, check, Lengths, longEnough, fittingLength, ending}
 use Rattle.verdict.proofs.Inversions.{entry-below, entry-more, entry-new}
 use Rattle.verdict.proofs.Reading.{ending-ok}
 use Rattle.checker.specs.Contract.{stateLeft, CheckedWith}
@@ -28,6 +28,7 @@ use Rattle.terms.specs.Writing.{Wrote}
 use Rattle.readout.specs.declared.piece.Piece.{Piece}
 use Rattle.readout.specs.declared.piece.Rest.the-variants.{Complete}
 use Rattle.terms.proofs.Decimals.{decimal-length}
+use Rattle.terms.proofs.Positions.{wrote-inside, wrote-position, wrote-bytes}
 use Rattle.lines.proofs.LineTexts.{line-short}
 use Rattle.readout.proofs.PieceLaws.{AllWithin, pieces-hold}
 use Rattle.readout.proofs.PieceRuns.{SoFar, so-far-none, so-far-all, so-far-stopped, so-far-more}
@@ -37,7 +38,7 @@ use Rattle.readout.proofs.UnitWriting.{after-again}
 -- The lines of a file fit into the buffer, the first two together as well.
 verdict-short : (v : Verdict) → length (verdictLine v) ≤ 24
 verdict-short (accepted n) = omega (arith, decimal-length n, length-append (97 ∷ 99 ∷ 99 ∷ 101 ∷ 112 ∷ 116 ∷ 101 ∷ 100 ∷ 32 ∷ decimal n) (10 ∷ []))
-verdict-short undecided = omega arith
+verdict-short open′ = omega arith
 verdict-short (refusal reason k) =
     omega (arith, decimal-length (reasonNumber reason), decimal-length k, length-append ((114 ∷ 101 ∷ 102 ∷ 117 ∷ 115 ∷ 101 ∷ 100 ∷ 32 ∷ decimal (reasonNumber reason)) ++ (32 ∷ 97 ∷ 116 ∷ 32 ∷ decimal k)) (10 ∷ []), length-append (114 ∷ 101 ∷ 102 ∷ 117 ∷ 115 ∷ 101 ∷ 100 ∷ 32 ∷ decimal (reasonNumber reason)) (32 ∷ 97 ∷ 116 ∷ 32 ∷ decimal k))
 
@@ -63,10 +64,10 @@ all-within F lengths =
     (units-within (verdictLine (check F lengths .verdict)) (clauseLines (stateLeft F lengths) (derivations (stateLeft F lengths))) (verdict-short (check F lengths .verdict))
     (lines-within (stateLeft F lengths) (derivations (stateLeft F lengths)) (try (fittingLength (length F)) refl (longEnough lengths))))
   where
-    none : (n : ℕ) (d : Derivation) → clauseOf start n ≡ some d → length (clauseLine start n d) ≤ 106780
+    none : (n : ℕ) (d : Derivation) → clauseOf emptyState n ≡ some d → length (clauseLine emptyState n d) ≤ 106780
     none n d q = let z = entry-below [] n d q in absurd (omega arith)
 
-    try : (f : Bool) → fittingLength (length F) ≡ f → (g : Bool) → (n : ℕ) (d : Derivation) → clauseOf (pick f (pick g (stateOf (ending F)) start) start) n ≡ some d → length (clauseLine (pick f (pick g (stateOf (ending F)) start) start) n d) ≤ 106780
+    try : (f : Bool) → fittingLength (length F) ≡ f → (g : Bool) → (n : ℕ) (d : Derivation) → clauseOf (pick f (pick g (stateOf (ending F)) emptyState) emptyState) n ≡ some d → length (clauseLine (pick f (pick g (stateOf (ending F)) emptyState) emptyState) n d) ≤ 106780
     try true p true n d q = line-short (stateOf (ending F)) (ending-ok F p) n d q
     try true p false n d q = none n d q
     try false p g n d q = none n d q
@@ -95,11 +96,11 @@ module _ {F C B N A : List ℕ} {a : Answer} (R : AfterCheck F C B N A a) where
       let i : n < length (units (readoutLines F (lengthsOf (R .before)))) = subst (λ (k : ℕ). n < k) number l in
       let w : Wrote T₀ T 0 end (unitAt F (lengthsOf (R .before)) n) = W .wrote (after-again R values) in
       let fits = one-within 131072 (units (readoutLines F (lengthsOf (R .before)))) n (all-within F (lengthsOf (R .before))) i in
-      let e = w .position (omega (arith, fits, room)) in
-      record { inside = i; size = omega (arith, e); bytes = w .bytes (omega (arith, fits, room)) }
+      let e = wrote-position w (omega (arith, fits, room)) in
+      record { inside = i; size = omega (arith, e); bytes = wrote-bytes w (omega (arith, fits, room)) }
 
 pub end-inside : {F C B N A A₂ T₀ T : List ℕ} {a : Answer} {n end : ℕ} → AfterCheck F C B N A a → length T₀ ≡ 131072 → UnitWritten F C B N A A₂ T₀ T 0 a n end → end ≤ 131072
-end-inside R room W = omega (arith, W .wrote R .inside (omega arith), room)
+end-inside R room W = omega (arith, wrote-inside (W .wrote R) (omega arith), room)
 
 -- The invariant of the loop and the ways out of it.
 abbrev pub Written : List ℕ → List ℕ → List ℕ → List ℕ → List ℕ → Answer → ℕ → List ℕ → List ℕ → ℕ → ℕ → Type 0

@@ -12,9 +12,9 @@ use borrow.Author.Tests.{eqb-true, ne-eqb}
 use Rattle.record.specs.Record.{pick}
 use Rattle.derivation.specs.Derivation.{Derivation}
 use Rattle.verdict.specs.Refusal.{badLength, shortTable}
-use Rattle.verdict.specs.State.{State, start, derivations, entry, clauseOf}
+use Rattle.verdict.specs.State.{State, emptyState, derivations, entry, clauseOf}
 use Rattle.verdict.specs.Step.{stateOf}
-use Rattle.verdict.specs.Verdict.{Verdict, accepted, undecided, refusal, verdictNumbers, answerNumbers, check, verdictOf, answerOf, longEnough, fittingLength, ending, Lengths}
+use Rattle.verdict.specs.Verdict.{Verdict, accepted, open′, refusal, verdictNumbers, answerNumbers, check, verdictOf, answerOf, longEnough, fittingLength, ending, Lengths}
 use Rattle.verdict.proofs.Inversions.{entry-below}
 use Rattle.unification.proofs.Tests.{some-injective}
 use Rattle.checker.specs.Contract.{stateLeft}
@@ -49,8 +49,8 @@ pub lines-left : (F : List ℕ) (lengths : Lengths) → readoutLines F lengths �
 unfolding readoutLines check
 lines-left F lengths = try (fittingLength (length F)) (longEnough lengths)
   where
-    try : (f l : Bool) → pick f (pick l (linesOf (verdictOf (ending F)) (stateOf (ending F))) (linesOf (refusal shortTable 0) start)) (linesOf (refusal badLength 0) start)
-        ≡ linesOf (pick f (pick l (answerOf (verdictOf (ending F)) (stateOf (ending F))) (answerOf (refusal shortTable 0) start)) (answerOf (refusal badLength 0) start) .verdict) (pick f (pick l (stateOf (ending F)) start) start)
+    try : (f l : Bool) → pick f (pick l (linesOf (verdictOf (ending F)) (stateOf (ending F))) (linesOf (refusal shortTable 0) emptyState)) (linesOf (refusal badLength 0) emptyState)
+        ≡ linesOf (pick f (pick l (answerOf (verdictOf (ending F)) (stateOf (ending F))) (answerOf (refusal shortTable 0) emptyState)) (answerOf (refusal badLength 0) emptyState) .verdict) (pick f (pick l (stateOf (ending F)) emptyState) emptyState)
     try true true = refl
     try true false = refl
     try false l = refl
@@ -59,8 +59,8 @@ counts-left : (F : List ℕ) (lengths : Lengths) → check F lengths .clauses �
 unfolding check
 counts-left F lengths = try (fittingLength (length F)) (longEnough lengths)
   where
-    try : (f l : Bool) → pick f (pick l (answerOf (verdictOf (ending F)) (stateOf (ending F))) (answerOf (refusal shortTable 0) start)) (answerOf (refusal badLength 0) start) .clauses
-        ≡ length (pick f (pick l (stateOf (ending F)) start) start .clauses)
+    try : (f l : Bool) → pick f (pick l (answerOf (verdictOf (ending F)) (stateOf (ending F))) (answerOf (refusal shortTable 0) emptyState)) (answerOf (refusal badLength 0) emptyState) .clauses
+        ≡ length (pick f (pick l (stateOf (ending F)) emptyState) emptyState .clauses)
     try true true = refl
     try true false = refl
     try false l = refl
@@ -73,7 +73,7 @@ rest-given (given-variants.Refused q k) xs = refl
 
 rest-numbers : (v : Verdict) (xs : List ℕ) → drop 3 (verdictNumbers v ++ xs) ≡ xs
 rest-numbers (accepted n) xs = refl
-rest-numbers undecided xs = refl
+rest-numbers open′ xs = refl
 rest-numbers (refusal reason k) xs = refl
 
 abbrev three : List ℕ → List ℕ
@@ -86,7 +86,7 @@ three-given (given-variants.Refused q k) xs = refl
 
 three-numbers : (v : Verdict) (xs : List ℕ) → three (verdictNumbers v ++ xs) ≡ verdictNumbers v
 three-numbers (accepted n) xs = refl
-three-numbers undecided xs = refl
+three-numbers open′ xs = refl
 three-numbers (refusal reason k) xs = refl
 
 module _ (F : List ℕ) (lengths : Lengths) (a : Answer) (isAnswer : answerGiven a ≡ answerNumbers (check F lengths)) where

@@ -9,7 +9,7 @@ use lib.Dec.{eqb}
 use lib.ListN.{length, length-replicate}
 use borrow.Author.Tests.{eqb-true, eqb-false, eq-eqb, ne-eqb}
 use Rattle.record.specs.Record.{pick}
-use Rattle.verdict.specs.State.{State, start, rowsOf, clauseOf}
+use Rattle.verdict.specs.State.{State, emptyState, rowsOf, clauseOf}
 use Rattle.verdict.specs.Step.{stateOf}
 use Rattle.verdict.specs.Tables.{Tables, lengthsOf}
 use Rattle.verdict.specs.Verdict.{check, longEnough, fittingLength, ending}
@@ -49,7 +49,7 @@ module _ {F C B N A : List ℕ} {a : Answer} (R : AfterCheck F C B N A a) where
   was-read : (n : ℕ) → n < a .clauses → WasRead
   was-read n l = try (fittingLength (length F)) refl (longEnough (lengthsOf t)) refl
     where
-      left : (f g : Bool) → fittingLength (length F) ≡ f → longEnough (lengthsOf t) ≡ g → stateLeft F (lengthsOf t) ≡ pick f (pick g (stateOf (ending F)) start) start
+      left : (f g : Bool) → fittingLength (length F) ≡ f → longEnough (lengthsOf t) ≡ g → stateLeft F (lengthsOf t) ≡ pick f (pick g (stateOf (ending F)) emptyState) emptyState
       left f g p q = rw (p, q)
 
       try : (f : Bool) → fittingLength (length F) ≡ f → (g : Bool) → longEnough (lengthsOf t) ≡ g → WasRead
@@ -69,7 +69,7 @@ module _ {F C B N A : List ℕ} {a : Answer} (R : AfterCheck F C B N A a) where
   pub nodes-length : length N ≡ 32768
   nodes-length = try (fittingLength (length F)) refl (longEnough (lengthsOf t)) refl
     where
-      none : stateLeft F (lengthsOf t) ≡ start → length N ≡ 32768
+      none : stateLeft F (lengthsOf t) ≡ emptyState → length N ≡ 32768
       none z = ap length (R .checked .nodes ∙ ap (λ (S : State). nodeTableOf (rowsOf S)) z) ∙ length-replicate {A = ℕ} 32768 0
 
       try : (f : Bool) → fittingLength (length F) ≡ f → (g : Bool) → longEnough (lengthsOf t) ≡ g → length N ≡ 32768

@@ -6,7 +6,7 @@ use native.Mathlib.Omega.{arith}
 use lib.ListN.{length, take}
 use lib.Seq.{take-at}
 use Rattle.verdict.specs.Refusal.{reasonNumber}
-use Rattle.verdict.specs.Verdict.{Verdict, refusal, accepted, undecided, verdictNumbers, Answer, answerNumbers}
+use Rattle.verdict.specs.Verdict.{Verdict, refusal, accepted, open′, verdictNumbers, Answer, answerNumbers}
 use Rattle.answer.specs.Given.{verdictGiven, answerGiven}
 use Rattle.answer.specs.declared.Answer as given-answer
 use Rattle.answer.specs.declared.Verdict as given
@@ -18,13 +18,13 @@ use Rattle.terms.proofs.Positions.{wrote-then}
 
 -- Three numbers decide the words.
 pub given-words : (v : given.Verdict) (u : Verdict) → verdictGiven v ≡ verdictNumbers u → givenText v ≡ verdictText u
-given-words Open undecided q = refl
+given-words Open open′ q = refl
 given-words Open (accepted n) q = absurd (let z : _≡_ {A = ℕ} 0 1 = cc in omega arith)
 given-words Open (refusal reason k) q = absurd (let z : _≡_ {A = ℕ} 0 2 = cc in omega arith)
-given-words (Accepted m) undecided q = absurd (let z : _≡_ {A = ℕ} 1 0 = cc in omega arith)
+given-words (Accepted m) open′ q = absurd (let z : _≡_ {A = ℕ} 1 0 = cc in omega arith)
 given-words (Accepted m) (accepted n) q = let z : m ≡ n = cc in ap (λ (i : ℕ). givenText (Accepted i)) z
 given-words (Accepted m) (refusal reason k) q = absurd (let z : _≡_ {A = ℕ} 1 2 = cc in omega arith)
-given-words (Refused p j) undecided q = absurd (let z : _≡_ {A = ℕ} 2 0 = cc in omega arith)
+given-words (Refused p j) open′ q = absurd (let z : _≡_ {A = ℕ} 2 0 = cc in omega arith)
 given-words (Refused p j) (accepted n) q = absurd (let z : _≡_ {A = ℕ} 2 1 = cc in omega arith)
 given-words (Refused p j) (refusal reason k) q =
     let a : p ≡ reasonNumber reason = cc in
@@ -53,6 +53,6 @@ verdict-told a b q =
     given-three (Refused p k) = refl
 
     three : (v : Verdict) → length (verdictNumbers v) ≡ 3
-    three undecided = refl
+    three open′ = refl
     three (accepted n) = refl
     three (refusal reason k) = refl

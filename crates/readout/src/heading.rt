@@ -1,5 +1,6 @@
 // The first line of the readout: the verdict.
 use answer::Verdict;
+use terms::text::TextBuffer;
 use terms::text::put_byte;
 use terms::text::put_decimal;
 use terms::text::put_word;
@@ -17,7 +18,7 @@ fn wide(q: u8) -> u16
 }
 
 // `accepted` and the clause.
-fn put_accepted(text: &mut [u8; 131072], at: usize, n: u16) -> usize
+fn put_accepted(text: &mut TextBuffer, at: usize, n: u16) -> usize
     requires { ⌜ length (now text) ≡ 131072 ⌝ }
     ensures { λ end. ⌜ Wrote (now (text .entry)) (now (text .exit)) at end (acceptedText n) ⌝ }
 {
@@ -26,7 +27,7 @@ fn put_accepted(text: &mut [u8; 131072], at: usize, n: u16) -> usize
 }
 
 // `refused`, the reason's number, `at` and the record.
-fn put_refused(text: &mut [u8; 131072], at: usize, q: u8, k: u16) -> usize
+fn put_refused(text: &mut TextBuffer, at: usize, q: u8, k: u16) -> usize
     requires { ⌜ length (now text) ≡ 131072 ⌝ }
     ensures { λ end. ⌜ Wrote (now (text .entry)) (now (text .exit)) at end (refusedText q k) ⌝ }
 {
@@ -37,7 +38,7 @@ fn put_refused(text: &mut [u8; 131072], at: usize, q: u8, k: u16) -> usize
 }
 
 // The verdict, without the line feed.
-fn put_verdict(text: &mut [u8; 131072], at: usize, verdict: Verdict) -> usize
+fn put_verdict(text: &mut TextBuffer, at: usize, verdict: Verdict) -> usize
     requires { ⌜ length (now text) ≡ 131072 ⌝ }
     ensures { λ end. ⌜ Wrote (now (text .entry)) (now (text .exit)) at end (givenText verdict) ⌝ }
 {
@@ -49,7 +50,7 @@ fn put_verdict(text: &mut [u8; 131072], at: usize, verdict: Verdict) -> usize
 }
 
 // The line of the verdict.
-pub fn write_verdict(verdict: Verdict, text: &mut [u8; 131072], at: usize) -> usize
+pub fn write_verdict(verdict: Verdict, text: &mut TextBuffer, at: usize) -> usize
     requires { ⌜ length (now text) ≡ 131072 ⌝ }
     ensures { λ end. ⌜ VerdictWritten verdict (now (text .entry)) (now (text .exit)) at end ⌝ }
 {

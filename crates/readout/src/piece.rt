@@ -2,6 +2,9 @@
 use super::unit::unit_count;
 use super::unit::write_unit;
 use answer::Answer;
+use following::nodes::Nodes;
+use following::values::ValueCells;
+use terms::text::TextBuffer;
 ghost use mathlib.Core.Path.{_≡_};
 ghost use Prim.Native.Nat.{_+_, _≤_};
 ghost use lib.ListN.{length};
@@ -23,7 +26,7 @@ pub struct Piece {
 }
 
 // The first n bytes of the text go to the output, from a position on.
-fn copy_text(text: &[u8; 131072], output: &mut [u8], at: usize, n: usize)
+fn copy_text(text: &TextBuffer, output: &mut [u8], at: usize, n: usize)
     requires { ⌜ length (now text) ≡ 131072 ⌝ }
     requires { ⌜ (n ≤ 131072) × (at + n ≤ length (now output)) ⌝ }
     ensures { λ _. ⌜ now (output .exit) ≡ paste (now (output .entry)) at (now (text .entry)) n ⌝ }
@@ -51,8 +54,8 @@ pub fn write_piece(
     file: &[u8],
     clauses: &[u16],
     bindings: &[u16],
-    nodes: &[u16; 32768],
-    values: &mut [u16; 524416],
+    nodes: &Nodes,
+    values: &mut ValueCells,
     a: Answer,
     begin: u16,
     output: &mut [u8],

@@ -2,7 +2,10 @@
 // line stands alone.
 use super::heading::write_verdict;
 use answer::Answer;
+use following::nodes::Nodes;
+use following::values::ValueCells;
 use lines::line::write_line;
+use terms::text::TextBuffer;
 ghost use mathlib.Core.Path.{_≡_};
 ghost use Rattle.readout.specs.Units.{unitsWithin, UnitReady, UnitWritten};
 
@@ -18,9 +21,9 @@ pub fn write_unit(
     file: &[u8],
     clauses: &[u16],
     bindings: &[u16],
-    nodes: &[u16; 32768],
-    values: &mut [u16; 524416],
-    text: &mut [u8; 131072],
+    nodes: &Nodes,
+    values: &mut ValueCells,
+    text: &mut TextBuffer,
     at: usize,
     a: Answer,
     n: u16,

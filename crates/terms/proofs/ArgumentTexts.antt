@@ -5,18 +5,19 @@ use mathlib.Core.List.{List, [], _∷_, _++_, append-assoc}
 use Prim.Native.Nat.{ℕ, _+_, _-_, _≤_, _<_}
 use native.Mathlib.Omega.{arith}
 use lib.Dec.{eqb}
+use lib.ListN.{length}
 use borrow.Author.Tests.{ne-eqb}
 use Rattle.record.specs.Record.{pick}
 use Rattle.unification.specs.Environment.{Environment}
 use Rattle.unification.specs.Nodes.{isVariable, part, nodeArity}
 use Rattle.unification.specs.Row.{Row, Variable, argumentTerms, writtenOut}
 use Rattle.unification.specs.Term.{Term, Terms, cons, applyAll, occurrences, allOccurrences}
-use Rattle.unification.specs.Values.{Models}
+use Rattle.unification.specs.ValueArray.{Models}
 use Rattle.following.proofs.Occurrence.{arg-good, args-eq}
 use Rattle.verdict.specs.Text.{termText, argumentsText, furtherText}
-use Rattle.terms.specs.Writing.{Wrote, markBefore, closingText, Writable, WritesTerm, argumentsOut, WritesArguments}
+use Rattle.terms.specs.Writing.{Wrote, markBefore, closingText, Writable, WritingReady, WritingArgumentsReady, WritesTerm, argumentsOut, WritesArguments}
 use Rattle.terms.specs.declared.term.Written.the-variants.{Done, TooMany}
-use Rattle.terms.proofs.Positions.{kept-then, wrote-nothing, wrote-then}
+use Rattle.terms.proofs.Positions.{kept-then, wrote-nothing, wrote-onward, wrote-then}
 use Rattle.terms.proofs.TermTexts.{writable-at}
 
 -- What is to be written where argument n is the next one.
@@ -95,7 +96,7 @@ module _ (N A T : List ℕ) (at r k left : ℕ) where
       scan-broke A₂ T₃ L top ρ row term σ W f =
           let L′ = L top ρ row term σ (argument-writable top ρ row term σ W f) in
           let M = marked top ρ row term σ W f in
-          record { models = L′ .models; came = (omega (arith, counted top ρ row term σ W f, L′ .came .0), kept-then T T₂ T₃ at begin (M .onward) (M .kept) (L′ .came .1)) }
+          record { models = L′ .models; came = (omega (arith, counted top ρ row term σ W f, L′ .came .0), kept-then T T₂ T₃ at begin (wrote-onward M) (M .kept) (L′ .came .1)) }
 
       pub scan-next : (A₂ T₃ : List ℕ) (after l : ℕ) → WritesTerm N A₁ A₂ T₂ T₃ begin (a, k) spare (Done after l) → Scanned N A A₂ T T₃ at r k left after (n + 1) (rest - 1) l
       scan-next A₂ T₃ after l L top ρ row term σ W f =
@@ -109,3 +110,19 @@ module _ (N A T : List ℕ) (at r k left : ℕ) where
             whole = append-assoc (S′ .before ++ (m ∷ [])) x (textFrom row (n + 1) (argumentsOut N term σ r k (rest - 1) (n + 1))) ∙ joined top ρ row term σ W f;
             count = omega (arith, counted top ρ row term σ W f, L′ .came .0);
           }
+
+-- What writing the argument at hand asks.
+pub argument-ready : {N A A₁ T T₁ : List ℕ} {at r k left end n rest spare : ℕ} → WritingArgumentsReady N A T r k → Scanned N A A₁ T T₁ at r k left end n rest spare → 0 < rest → 1 ≤ n → n + rest ≡ nodeArity N r + 1
+    → (T₂ : List ℕ) → length T₂ ≡ 131072 → (a : ℕ) → a ≡ part N r n → WritingReady N A₁ T₂ (a, k)
+argument-ready {N} {A} {A₁} {r = r} {k} {n = n} {rest} R S pos low all T₂ q a p =
+    let W = R .whole in
+    let S′ = S (W .top) (W .environment) (W .row) (W .term) (W .value) (W .writable) (R .application) in
+    record {
+      sized = record { nodes = W .sized .nodes; values = S′ .models .room; text = q };
+      top = W .top;
+      environment = W .environment;
+      row = W .row;
+      term = W .term;
+      value = W .value;
+      writable = writable-at N (W .top) A A₁ (W .environment) (W .row) (W .term) (W .value) (r, k) (a, k) (W .writable) (S′ .models) (arg-good N (W .top) r n rest pos a p k low all (S′ .models .table) (W .writable .inStep) (R .application));
+    }

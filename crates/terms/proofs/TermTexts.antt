@@ -4,22 +4,23 @@ use mathlib.Core.Option.{Option, none, some}
 use mathlib.Core.List.{List, _∷_, _++_}
 use Prim.Native.Nat.{ℕ, zero, suc, _-_, _<_}
 use native.Mathlib.Omega.{arith}
+use lib.ListN.{length}
 use Rattle.unification.specs.Environment.{follow, Environment, unbound, link, View, applied, viewVariable, viewRow, onward}
 use Rattle.unification.specs.Nodes.{part, nodeArity, HasRow, nodeRow}
 use Rattle.unification.specs.Row.{variable, Row, application, Expression, Variable as Var, writtenOut}
 use Rattle.unification.specs.Term.{Term, var, app, occurrences, allOccurrences}
 use Rattle.unification.specs.Unification.{mostLinks}
-use Rattle.unification.specs.Values.{InStep, Models}
-use Rattle.following.specs.Walks.{viewOf, Walked, Follows}
+use Rattle.unification.specs.ValueArray.{InStep, Models}
+use Rattle.following.specs.Walks.{viewOf, Followable, Walked, Follows}
 use Rattle.following.proofs.Halving.{walked-app}
 use Rattle.unification.proofs.Meaning.{writtenView, expressionOf, Ended, written-follow, follow-ends}
 use Rattle.following.specs.declared.follow.Followed.{Followed}
 use Rattle.following.specs.declared.follow.Followed.the-variants.{Variable, Application}
 use Rattle.verdict.specs.Text.{decimal, variableNumber, termText, argumentsText}
-use Rattle.terms.specs.Writing.{Wrote, Writable, Came, Writing, WritesTerm, argumentsOut, WritesArguments, LeavesLess, LeavesNoMore}
+use Rattle.terms.specs.Writing.{Wrote, Writable, WritingReady, WritingArgumentsReady, Came, Writing, WritesTerm, argumentsOut, WritesArguments, FewerOccurrencesLeft, NoMoreOccurrencesLeft}
 use Rattle.terms.specs.declared.term.Written.{Written}
 use Rattle.terms.specs.declared.term.Written.the-variants.{Done, TooMany}
-use Rattle.terms.proofs.Positions.{kept-same, kept-then, wrote-then}
+use Rattle.terms.proofs.Positions.{kept-same, kept-then, wrote-onward, wrote-then}
 
 -- Following sees the node table as it sees the rows.
 module _ (N : List ℕ) (top : ℕ) (ρ : Environment) (row : ℕ → Row) (kept : (e d : Expression) → ρ e ≡ some d → InStep N top e → InStep N top d) (rows : (r : ℕ) → HasRow N r → nodeRow N r ≡ row r) where
@@ -65,17 +66,17 @@ some-occurrence : (t : Term Var) → 0 < occurrences t
 some-occurrence (var x) = omega arith
 some-occurrence (app s ts) = omega arith
 
-pub leaves-less : (left l : ℕ) (w : Written) → l < left → LeavesNoMore l w → LeavesLess left w
+pub leaves-less : (left l : ℕ) (w : Written) → l < left → NoMoreOccurrencesLeft l w → FewerOccurrencesLeft left w
 leaves-less left l (Done end m) h k = omega arith
 leaves-less left l TooMany h k = tt
 
-pub done-less : {left end l : ℕ} {w : Written} → w ≡ Done end l → LeavesLess left w → l < left
-done-less {left} q h = subst (LeavesLess left) q h
+pub done-less : {left end l : ℕ} {w : Written} → w ≡ Done end l → FewerOccurrencesLeft left w → l < left
+done-less {left} q h = subst (FewerOccurrencesLeft left) q h
 
 -- An application is written by its symbol and then its arguments.
 came-application : (T T₁ T₂ : List ℕ) (at next left : ℕ) (x y : List ℕ) (count : ℕ) (w : Written) → (left ≡ 0 → ⊥) → Wrote T T₁ at next x → Came T₁ T₂ next (left - 1) y count w → Came T T₂ at left (x ++ y) (suc count) w
 came-application T T₁ T₂ at next left x y count (Done end l) nz v c = (omega (arith, c .0), wrote-then T T₁ T₂ at next end x y v (c .1))
-came-application T T₁ T₂ at next left x y count TooMany nz v c = (omega (arith, c .0), kept-then T T₁ T₂ at next (v .onward) (v .kept) (c .1))
+came-application T T₁ T₂ at next left x y count TooMany nz v c = (omega (arith, c .0), kept-then T T₁ T₂ at next (wrote-onward v) (v .kept) (c .1))
 
 -- The ways out of writing a term.
 module _ (N A T : List ℕ) (at : ℕ) (e : Expression) (left : ℕ) where
@@ -100,3 +101,27 @@ module _ (N A T : List ℕ) (at : ℕ) (e : Expression) (left : ℕ) where
         let symbol-text : Wrote T T₁ at next (115 ∷ decimal (part N r 0)) = subst (λ (m : ℕ). Wrote T T₁ at next (115 ∷ decimal m)) p v in
         subst (λ (t : Term Var). Writing N top A″ ρ T T₂ at left (termText row t) (occurrences t) w) (sym z)
         (record { models = R .models; came = came-application T T₁ T₂ at next left (115 ∷ decimal (part N r 0)) (argumentsText row (argumentsOut N term σ r k (nodeArity N r) 1)) (allOccurrences (argumentsOut N term σ r k (nodeArity N r) 1)) w nz symbol-text (R .came) })
+
+-- What a call asks, from what the caller was asked and what the calls before it ensured.
+pub followable : {N A T : List ℕ} {e : Expression} → WritingReady N A T e → Followable N A e
+followable R = record { nodes = R .sized .nodes; top = R .top; environment = R .environment; models = R .writable .models; inStep = R .writable .inStep }
+
+pub ready-then : {N A T : List ℕ} {e : Expression} → WritingReady N A T e → (T′ : List ℕ) → length T′ ≡ length T → WritingReady N A T′ e
+ready-then R T′ q =
+    record { sized = record { nodes = R .sized .nodes; values = R .sized .values; text = q ∙ R .sized .text }; top = R .top; environment = R .environment; row = R .row; term = R .term; value = R .value; writable = R .writable }
+
+pub arguments-ready : {N A T : List ℕ} {e : Expression} → WritingReady N A T e → (A′ T′ : List ℕ) → length T′ ≡ length T → (f : Followed) → Follows N A A′ e f → (r k : ℕ) → f ≡ Application r k → WritingArgumentsReady N A′ T′ r k
+arguments-ready {N} {A} {T} {e} R A′ T′ q f F r k p =
+    let K : Walked N (R .top) A′ (R .environment) e (Application r k) = subst (Walked N (R .top) A′ (R .environment) e) p (F (R .top) (R .environment) (R .writable .models) (R .writable .inStep)) in
+    record {
+      whole = record {
+        sized = record { nodes = R .sized .nodes; values = K .models .room; text = q ∙ R .sized .text };
+        top = R .top;
+        environment = R .environment;
+        row = R .row;
+        term = R .term;
+        value = R .value;
+        writable = writable-at N (R .top) A A′ (R .environment) (R .row) (R .term) (R .value) e (r, k) (R .writable) (K .models) (K .good);
+      };
+      application = walked-app N (R .top) A′ (R .environment) e r k K;
+    }

@@ -3,7 +3,7 @@
 use mathlib.Core.Path.{_≡_}
 use mathlib.Core.Bool.{Bool, false}
 use mathlib.Core.List.{List, [], _∷_, _++_}
-use Prim.Native.Nat.{ℕ, _+_, _%_, _≤_, _<_}
+use Prim.Native.Nat.{ℕ, _+_, _-_, _%_, _≤_, _<_}
 use lib.Dec.{eqb}
 use lib.ListN.{length, take}
 use Rattle.record.specs.Record.{pick}
@@ -11,7 +11,7 @@ use Rattle.unification.specs.Environment.{Environment}
 use Rattle.unification.specs.Nodes.{isVariable, nodeArity, HasRow, argumentsFrom, nodeRow}
 use Rattle.unification.specs.Row.{Row, Expression, Variable, argumentTerms, rowTerm, writtenOut}
 use Rattle.unification.specs.Term.{Term, Terms, applyAll, occurrences, allOccurrences}
-use Rattle.unification.specs.Values.{InStep, Models}
+use Rattle.unification.specs.ValueArray.{InStep, Models}
 use Rattle.derivation.specs.Written.{WritesOut}
 use Rattle.verdict.specs.Text.{termText, argumentsText, literalText}
 use Rattle.terms.specs.declared.term.Written.{Written}
@@ -22,14 +22,16 @@ pub record KeptBefore (T T′ : List ℕ) (at : ℕ) : Type 0 where
   pub room : length T′ ≡ length T
   pub before : take at T′ ≡ take at T
 
--- The text was written at a position, and `end` is the position after it. Where the text does not fit into the buffer, what is past
--- its end is dropped, and nothing is said of `end` but that it is within the buffer.
+-- The part of a text that fits into the buffer from a position on.
+abbrev pub fittingPart : List ℕ → ℕ → List ℕ → List ℕ
+fittingPart T at text = take (length T - at) text
+
+-- As much of the text as fits was written at a position, and `end` is the position after it. Nothing is said of the bytes from `end` on:
+-- after a literal that was broken off and became `~` they hold what was written of it.
 pub record Wrote (T T′ : List ℕ) (at end : ℕ) (text : List ℕ) : Type 0 where
   pub kept : KeptBefore T T′ at
-  pub onward : at ≤ end
-  pub inside : at ≤ length T → end ≤ length T
-  pub position : at + length text ≤ length T → end ≡ at + length text
-  pub bytes : at + length text ≤ length T → take end T′ ≡ take at T ++ text
+  pub position : end ≡ at + length (fittingPart T at text)
+  pub bytes : take end T′ ≡ take at T ++ fittingPart T at text
 
 -- The node table, the array of values and the buffer have their lengths.
 pub record Sized (N A T : List ℕ) : Type 0 where
@@ -58,6 +60,22 @@ pub record Writable (N : List ℕ) (top : ℕ) (A : List ℕ) (ρ : Environment)
   pub terms : (r : ℕ) → term r ≡ rowTerm term r (row r)
   pub values : WritesOut term ρ σ
 
+-- What writing an expression out asks: the tables and the buffer at their full size, and some environment, rows, terms and values with
+-- which it can be written out.
+pub record WritingReady (N A T : List ℕ) (e : Expression) : Type 0 where
+  pub sized : Sized N A T
+  pub top : ℕ
+  pub environment : Environment
+  pub row : ℕ → Row
+  pub term : ℕ → Term ℕ
+  pub value : Variable → Term Variable
+  pub writable : Writable N top A environment row term value e
+
+-- The same for the arguments of row r at index k, which is an application.
+pub record WritingArgumentsReady (N A T : List ℕ) (r k : ℕ) : Type 0 where
+  pub whole : WritingReady N A T (r, k)
+  pub application : isVariable N r ≡ false
+
 -- A text with so many occurrences, of which at most `left` may be written: it was written, and what is left was lowered by them;
 -- or it has more, and the buffer is kept up to where it would have begun.
 abbrev pub Came : List ℕ → List ℕ → ℕ → ℕ → List ℕ → ℕ → Written → Type 0
@@ -85,13 +103,13 @@ WritesArguments N A A′ T T′ at r k left w =
     → Writing N top A′ ρ T T′ at left (argumentsText row (argumentsOut N term σ r k (nodeArity N r) 1)) (allOccurrences (argumentsOut N term σ r k (nodeArity N r) 1)) w
 
 -- Less is left than before; no more than before.
-abbrev pub LeavesLess : ℕ → Written → Type 0
-LeavesLess left (Done end l) = l < left
-LeavesLess left TooMany = Unit {0}
+abbrev pub FewerOccurrencesLeft : ℕ → Written → Type 0
+FewerOccurrencesLeft left (Done end l) = l < left
+FewerOccurrencesLeft left TooMany = Unit {0}
 
-abbrev pub LeavesNoMore : ℕ → Written → Type 0
-LeavesNoMore left (Done end l) = l ≤ left
-LeavesNoMore left TooMany = Unit {0}
+abbrev pub NoMoreOccurrencesLeft : ℕ → Written → Type 0
+NoMoreOccurrencesLeft left (Done end l) = l ≤ left
+NoMoreOccurrencesLeft left TooMany = Unit {0}
 
 -- A literal was written, and the array still stands for ρ.
 pub record LiteralWritten (N : List ℕ) (top : ℕ) (A : List ℕ) (ρ : Environment) (T T′ : List ℕ) (at end : ℕ) (text : List ℕ) : Type 0 where

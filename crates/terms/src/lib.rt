@@ -1,5 +1,5 @@
 // The text of terms and literals. `Text` of the crate verdict has what it is; `Writing` in specs/ says how the parts of this program
 // go about it.
 pub mod literal;
-pub mod term;
+mod term;
 pub mod text;

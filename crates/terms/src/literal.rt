@@ -1,10 +1,13 @@
 // A literal of a clause written out: its sign and its atom.
 use super::term::Written;
 use super::term::write_term;
+use super::text::TextBuffer;
 use super::text::put_byte;
+use following::nodes::Nodes;
+use following::values::ValueCells;
 ghost use mathlib.Core.Path.{_≡_};
 ghost use Rattle.verdict.specs.Text.{signText};
-ghost use Rattle.terms.specs.Writing.{Sized, WritesLiteral};
+ghost use Rattle.terms.specs.Writing.{Sized, WritingReady, WritesLiteral};
 
 // The sign of a literal.
 fn sign(positive: bool) -> u8
@@ -15,15 +18,15 @@ fn sign(positive: bool) -> u8
 
 // A blank, the sign, and the row at the index written out; `~` for it where it has more than 64 occurrences.
 pub fn write_literal(
-    nodes: &[u16; 32768],
-    values: &mut [u16; 524416],
-    text: &mut [u8; 131072],
+    nodes: &Nodes,
+    values: &mut ValueCells,
+    text: &mut TextBuffer,
     at: usize,
     positive: bool,
     row: u16,
     index: u16,
 ) -> usize
-    requires { ⌜ Sized (now nodes) (now values) (now text) ⌝ }
+    requires { ⌜ WritingReady (now nodes) (now values) (now text) (row, index) ⌝ }
     ensures { λ end. ⌜ WritesLiteral (now (nodes .entry)) (now (values .entry)) (now (values .exit)) (now (text .entry)) (now (text .exit)) at positive (row, index) end × Sized (now (nodes .entry)) (now (values .exit)) (now (text .exit)) ⌝ }
 {
     let after = put_byte(text, at, b' ');

@@ -1,14 +1,17 @@
 // A term written out, with the occurrences that may be written counted down: a term that has more is broken off.
+use super::text::TextBuffer;
 use super::text::put_byte;
 use super::text::put_symbol;
 use super::text::put_variable;
 use following::follow::Followed;
 use following::follow::follow;
+use following::nodes::Nodes;
 use following::nodes::arity_of;
 use following::nodes::part_of;
+use following::values::ValueCells;
 ghost use mathlib.Core.Path.{_≡_};
 ghost use lib.ListN.{length};
-ghost use Rattle.terms.specs.Writing.{Wrote, Sized, markBefore, closingText, WritesTerm, WritesArguments, LeavesLess, LeavesNoMore};
+ghost use Rattle.terms.specs.Writing.{Wrote, Sized, markBefore, closingText, WritingReady, WritingArgumentsReady, WritesTerm, WritesArguments, FewerOccurrencesLeft, NoMoreOccurrencesLeft};
 
 // The position after the term, and how many occurrences may still be written; or there are too many.
 pub enum Written {
@@ -24,7 +27,7 @@ fn mark(n: u16) -> u8
 }
 
 // What stands after the last argument, where argument n would be the next one.
-fn put_closing(text: &mut [u8; 131072], at: usize, n: u16) -> usize
+fn put_closing(text: &mut TextBuffer, at: usize, n: u16) -> usize
     requires { ⌜ length (now text) ≡ 131072 ⌝ }
     ensures { λ end. ⌜ Wrote (now (text .entry)) (now (text .exit)) at end (closingText n) ⌝ }
 {
@@ -36,16 +39,16 @@ fn put_closing(text: &mut [u8; 131072], at: usize, n: u16) -> usize
 
 // The row at the index, written out. Every expression taken up costs one of the occurrences that may be written.
 pub fn write_term(
-    nodes: &[u16; 32768],
-    values: &mut [u16; 524416],
-    text: &mut [u8; 131072],
+    nodes: &Nodes,
+    values: &mut ValueCells,
+    text: &mut TextBuffer,
     at: usize,
     row: u16,
     index: u16,
     left: u16,
 ) -> Written
-    requires { ⌜ Sized (now nodes) (now values) (now text) ⌝ }
-    ensures { λ w. ⌜ WritesTerm (now (nodes .entry)) (now (values .entry)) (now (values .exit)) (now (text .entry)) (now (text .exit)) at (row, index) left w × LeavesLess left w × Sized (now (nodes .entry)) (now (values .exit)) (now (text .exit)) ⌝ }
+    requires { ⌜ WritingReady (now nodes) (now values) (now text) (row, index) ⌝ }
+    ensures { λ w. ⌜ WritesTerm (now (nodes .entry)) (now (values .entry)) (now (values .exit)) (now (text .entry)) (now (text .exit)) at (row, index) left w × FewerOccurrencesLeft left w × Sized (now (nodes .entry)) (now (values .exit)) (now (text .exit)) ⌝ }
 {
     if left == 0 {
         return Written::TooMany;
@@ -68,16 +71,16 @@ pub fn write_term(
 // The arguments of an application: in parentheses with commas, and nothing where there are none. A loop, so that only nesting takes
 // room on the stack.
 fn write_arguments(
-    nodes: &[u16; 32768],
-    values: &mut [u16; 524416],
-    text: &mut [u8; 131072],
+    nodes: &Nodes,
+    values: &mut ValueCells,
+    text: &mut TextBuffer,
     at: usize,
     r: u16,
     k: u16,
     left: u16,
 ) -> Written
-    requires { ⌜ Sized (now nodes) (now values) (now text) ⌝ }
-    ensures { λ w. ⌜ WritesArguments (now (nodes .entry)) (now (values .entry)) (now (values .exit)) (now (text .entry)) (now (text .exit)) at r k left w × LeavesNoMore left w × Sized (now (nodes .entry)) (now (values .exit)) (now (text .exit)) ⌝ }
+    requires { ⌜ WritingArgumentsReady (now nodes) (now values) (now text) r k ⌝ }
+    ensures { λ w. ⌜ WritesArguments (now (nodes .entry)) (now (values .entry)) (now (values .exit)) (now (text .entry)) (now (text .exit)) at r k left w × NoMoreOccurrencesLeft left w × Sized (now (nodes .entry)) (now (values .exit)) (now (text .exit)) ⌝ }
 {
     let mut end = at;
     let mut n: u16 = 1;

@@ -7,8 +7,11 @@ ghost use lib.ListN.{length};
 ghost use Rattle.verdict.specs.Text.{decimal};
 ghost use Rattle.terms.specs.Writing.{Wrote, digitText};
 
+// The buffer: it holds any line of the readout.
+pub type TextBuffer = [u8; 131072];
+
 // One byte.
-pub fn put_byte(text: &mut [u8; 131072], at: usize, b: u8) -> usize
+pub fn put_byte(text: &mut TextBuffer, at: usize, b: u8) -> usize
     requires { ⌜ length (now text) ≡ 131072 ⌝ }
     ensures { λ end. ⌜ Wrote (now (text .entry)) (now (text .exit)) at end (b ∷ []) ⌝ }
 {
@@ -21,7 +24,7 @@ pub fn put_byte(text: &mut [u8; 131072], at: usize, b: u8) -> usize
 }
 
 // Several bytes.
-pub fn put_word(text: &mut [u8; 131072], at: usize, word: &[u8]) -> usize
+pub fn put_word(text: &mut TextBuffer, at: usize, word: &[u8]) -> usize
     requires { ⌜ length (now text) ≡ 131072 ⌝ }
     ensures { λ end. ⌜ Wrote (now (text .entry)) (now (text .exit)) at end (now (word .entry)) ⌝ }
 {
@@ -43,7 +46,7 @@ fn digit(n: u16) -> u8
 }
 
 // The last digit of a number, and nothing for 0.
-fn put_digit(text: &mut [u8; 131072], at: usize, n: u16) -> usize
+fn put_digit(text: &mut TextBuffer, at: usize, n: u16) -> usize
     requires { ⌜ length (now text) ≡ 131072 ⌝ }
     ensures { λ end. ⌜ Wrote (now (text .entry)) (now (text .exit)) at end (digitText n) ⌝ }
 {
@@ -54,7 +57,7 @@ fn put_digit(text: &mut [u8; 131072], at: usize, n: u16) -> usize
 }
 
 // A number in decimal: five digits at most, without the zeros before the first one.
-pub fn put_decimal(text: &mut [u8; 131072], at: usize, n: u16) -> usize
+pub fn put_decimal(text: &mut TextBuffer, at: usize, n: u16) -> usize
     requires { ⌜ length (now text) ≡ 131072 ⌝ }
     ensures { λ end. ⌜ Wrote (now (text .entry)) (now (text .exit)) at end (decimal n) ⌝ }
 {
@@ -66,7 +69,7 @@ pub fn put_decimal(text: &mut [u8; 131072], at: usize, n: u16) -> usize
 }
 
 // `s` and the number of a symbol.
-pub fn put_symbol(text: &mut [u8; 131072], at: usize, symbol: u16) -> usize
+pub(crate) fn put_symbol(text: &mut TextBuffer, at: usize, symbol: u16) -> usize
     requires { ⌜ length (now text) ≡ 131072 ⌝ }
     ensures { λ end. ⌜ Wrote (now (text .entry)) (now (text .exit)) at end (115 ∷ decimal symbol) ⌝ }
 {
@@ -75,7 +78,7 @@ pub fn put_symbol(text: &mut [u8; 131072], at: usize, symbol: u16) -> usize
 }
 
 // `v`, the number of a variable, a dot and its index.
-pub fn put_variable(text: &mut [u8; 131072], at: usize, variable: u16, index: u16) -> usize
+pub(crate) fn put_variable(text: &mut TextBuffer, at: usize, variable: u16, index: u16) -> usize
     requires { ⌜ length (now text) ≡ 131072 ⌝ }
     ensures { λ end. ⌜ Wrote (now (text .entry)) (now (text .exit)) at end (118 ∷ (decimal variable ++ (46 ∷ decimal index))) ⌝ }
 {

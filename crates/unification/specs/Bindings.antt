@@ -4,7 +4,7 @@ use mathlib.Core.List.{List, [], _∷_}
 use Prim.Native.Nat.{ℕ, zero, suc, _+_, _*_, _≤_, _<_}
 use lib.ListN.{getD}
 use Rattle.unification.specs.Environment.{Binding}
-use Rattle.unification.specs.Values.{put}
+use Rattle.unification.specs.ValueArray.{put}
 
 -- Binding h of the table, and the n bindings from the first on, the newest first.
 abbrev pub bindingAt : List ℕ → ℕ → Binding

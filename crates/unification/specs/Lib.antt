@@ -6,6 +6,6 @@ pub mod Unification
 pub mod Failing
 pub mod Unifier
 pub mod Nodes
-pub mod Values
+pub mod ValueArray
 pub mod Bindings
 pub mod Cases

@@ -8,10 +8,10 @@ use Rattle.unification.specs.Environment.{follow, Environment, Ends}
 use Rattle.unification.specs.Nodes.{HasRow, nodeRow}
 use Rattle.unification.specs.Row.{Expression}
 use Rattle.unification.specs.Unification.{unify, failureNumber, Outcome, unified, failed}
-use Rattle.unification.specs.Values.{InStep, Models}
-use Rattle.pairs.specs.Pairs.{failureOf}
-use Rattle.pairs.specs.declared.Unified.{Unified}
-use Rattle.pairs.specs.declared.Unified.the-variants.{Done, Refused}
+use Rattle.unification.specs.ValueArray.{InStep, Models}
+use Rattle.unify.specs.Pairs.{failureOf}
+use Rattle.unify.specs.declared.Unified.{Unified}
+use Rattle.unify.specs.declared.Unified.the-variants.{Done, Refused}
 
 -- The answer as an outcome of unification: the bindings are those that the table holds from `held` on.
 abbrev pub outcomeOf : List ℕ → ℕ → Unified → Outcome

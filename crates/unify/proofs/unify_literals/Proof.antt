@@ -1,11 +1,11 @@
 use Rattle.unification.proofs.Limits.{work-16384}
-use Rattle.unify.proofs.Answer.{answered}
+use Rattle.unify.proofs.Answer.{answered, pair-ready}
 use borrow.Author.Needs.{needs}
 use Rattle.unify.proofs.unify_literals.Statement.{statement}
 use Rattle.unify.proofs.unify_literals.Tie as tie
 
 unify-pair-requires : tie.Need-unify-pair-requires
-unify-pair-requires c κs = search needs
+unify-pair-requires c κs = pair-ready (c .before .before .before .pre)
 
 same-length : tie.Need-same-length
 same-length c = search needs

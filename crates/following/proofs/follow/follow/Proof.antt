@@ -4,7 +4,7 @@ use native.Mathlib.Omega.{arith}
 use borrow.Author.Tests.{not-true, not-false}
 use lib.ListN.{length}
 use Rattle.unification.specs.Environment.{Environment}
-use Rattle.unification.specs.Values.{Models, InStep}
+use Rattle.unification.specs.ValueArray.{Models, InStep}
 use Rattle.following.proofs.Halving.{Going, going-start, going-none, going-app, going-free, going-on}
 use borrow.Author.Needs.{needs}
 use Rattle.following.proofs.follow.follow.Statement.{statement}
@@ -20,7 +20,7 @@ abbrev μ-loop : tie.MeasureT-loop
 
 loop-holds : tie.Need-loop-holds Inv-loop μ-loop
 loop-holds c =
-    (c .pre .1, omega arith, λ top ρ M g. going-start _ top _ ρ _ M g)
+    (c .pre .models .room, omega arith, λ top ρ M g. going-start _ top _ ρ _ M g)
 
 is-variable-requires : tie.Need-is-variable-requires Inv-loop μ-loop
 is-variable-requires c κs = search needs
@@ -54,7 +54,7 @@ sub-halve c = search needs
 
 halve-requires : tie.Need-halve-requires Inv-loop μ-loop
 halve-requires c κs =
-    ((c .before .before .before .before .before .before .before .before .before .before .before .pre .0, c .before .before .before .before .before .before .before .before .before .before .loop .inv .0), omega arith)
+    ((c .before .before .before .before .before .before .before .before .before .before .before .pre .nodes, c .before .before .before .before .before .before .before .before .before .before .loop .inv .0), omega arith)
 
 sub-v : tie.Need-sub-v Inv-loop μ-loop
 sub-v c = search needs

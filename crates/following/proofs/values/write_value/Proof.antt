@@ -1,7 +1,7 @@
 use mathlib.Core.Path.{ap, _∙_}
 use lib.ListN.{set}
 use Prim.Native.Nat.{_+_}
-use Rattle.unification.specs.Values.{put}
+use Rattle.unification.specs.ValueArray.{put}
 use borrow.Author.Needs.{needs}
 use Rattle.following.proofs.values.write_value.Statement.{statement}
 use Rattle.following.proofs.values.write_value.Tie as tie

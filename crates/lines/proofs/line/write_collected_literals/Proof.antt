@@ -3,7 +3,7 @@ use Prim.Native.Nat.{ℕ, _-_, _≤_}
 use native.Mathlib.Omega.{arith}
 use lib.ListN.{length-replicate}
 use Rattle.terms.specs.Writing.{Sized}
-use Rattle.lines.proofs.LineTexts.{WritesSoFar, literals-start, literals-end, literals-next, collected-few, numbered-listed, collected-literals}
+use Rattle.lines.proofs.LineTexts.{WritesSoFar, literals-start, literals-end, literals-next, collected-few, numbered-listed, collected-literals, listed-ready, numbered-ready}
 use Rattle.lines.proofs.line.write_collected_literals.Statement.{statement}
 use Rattle.lines.proofs.line.write_collected_literals.Tie as tie
 
@@ -17,19 +17,23 @@ abbrev μ-loop : tie.MeasureT-loop
 
 collect-requires : tie.Need-collect-requires Inv-loop μ-loop
 collect-requires c κs =
-    (length-replicate {A = ℕ} 8704 0, c .before .before .before .pre .0)
+    (length-replicate {A = ℕ} 8704 0, c .before .before .before .pre .collectable)
 
 loop-holds : tie.Need-loop-holds Inv-loop μ-loop
 loop-holds c =
-    (c .before .before .before .before .pre .1, omega arith, literals-start _ _ _ _ _ _ _)
+    (c .before .before .before .before .pre .sized, omega arith, literals-start _ _ _ _ _ _ _)
 
 add-n : tie.Need-add-n Inv-loop μ-loop
 add-n c =
-    omega (arith, c .loop-test .taken, collected-few (c .before .before .before .before .before .before .pre .0) (c .before .before .collect .ensures))
+    omega (arith, c .loop-test .taken, collected-few (c .before .before .before .before .before .before .pre .collectable) (c .before .before .collect .ensures))
 
 write-listed-requires : tie.Need-write-listed-requires Inv-loop μ-loop
 write-listed-requires c κs =
-    (c .before .before .before .before .loop .inv .0, (c .before .before .before .before .before .collect .ensures .room, omega (arith, c .before .before .before .loop-test .taken, collected-few (c .before .before .before .before .before .before .before .before .before .pre .0) (c .before .before .before .before .before .collect .ensures))))
+    let s = c .before .before .before .before .before .before .before .before .before in
+    let l = c .before .before .before .before .loop in
+    let K = c .before .before .before .before .before .collect .ensures in
+    let more = c .before .before .before .loop-test .taken in
+    (listed-ready K _ (omega arith) (omega (arith, more)) (numbered-ready (s .pre) (l .inv .2) (collected-literals K) more (l .inv .0)), (K .room, omega (arith, more, collected-few (s .pre .collectable) K)))
 
 loop-less : tie.Need-loop-less Inv-loop μ-loop
 loop-less c =

@@ -2,7 +2,7 @@
 use Prim.Native.Nat.{_-_, _≤_}
 use native.Mathlib.Omega.{arith}
 use Rattle.terms.specs.Writing.{Sized}
-use Rattle.lines.proofs.LineTexts.{WritesSoFar, literals-start, literals-end, literals-next, collectable-stored, cell-literals}
+use Rattle.lines.proofs.LineTexts.{WritesSoFar, literals-start, literals-end, literals-next, numbered-ready, cell-literals}
 use borrow.Author.Needs.{needs}
 use Rattle.lines.proofs.line.write_found_literals.Statement.{statement}
 use Rattle.lines.proofs.line.write_found_literals.Tie as tie
@@ -21,7 +21,7 @@ literals-cell-requires c κs =
 
 loop-holds : tie.Need-loop-holds Inv-loop μ-loop
 loop-holds c =
-    (c .before .before .before .pre .1, omega arith, literals-start _ _ _ _ _ _ _)
+    (c .before .before .before .pre .sized, omega arith, literals-start _ _ _ _ _ _ _)
 
 add-n : tie.Need-add-n Inv-loop μ-loop
 add-n c =
@@ -29,7 +29,8 @@ add-n c =
 
 write-numbered-requires : tie.Need-write-numbered-requires Inv-loop μ-loop
 write-numbered-requires c κs =
-    (collectable-stored (c .before .before .before .before .before .before .before .pre .0), c .before .before .before .loop .inv .0)
+    let l = c .before .before .before .loop in
+    numbered-ready (c .before .before .before .before .before .before .before .pre) (l .inv .2) (cell-literals (c .before .before .before .before .literals-cell .ensures)) (c .before .before .loop-test .taken) (l .inv .0)
 
 loop-less : tie.Need-loop-less Inv-loop μ-loop
 loop-less c =

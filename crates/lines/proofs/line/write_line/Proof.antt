@@ -1,5 +1,6 @@
 use mathlib.Core.Path.{_∙_}
-use Rattle.lines.proofs.LineTexts.{line-clear, line-load, line-collect, line-nodes, line-written}
+use native.Mathlib.Omega.{arith}
+use Rattle.lines.proofs.LineTexts.{line-clear, line-load, line-literals, line-written}
 use borrow.Author.Needs.{needs}
 use Rattle.lines.proofs.line.write_line.Statement.{statement}
 use Rattle.lines.proofs.line.write_line.Tie as tie
@@ -9,7 +10,8 @@ index-cell-requires c κs = search needs
 
 clear-requires : tie.Need-clear-requires
 clear-requires c κs =
-    line-clear (c .before .before .before .before .before .pre) _ (c .before .index-cell .ensures)
+    let h = line-clear (c .before .before .before .before .before .pre) _ (c .before .index-cell .ensures) in
+    (h .0, omega (arith, h .1))
 
 load-requires : tie.Need-load-requires
 load-requires c κs =
@@ -26,7 +28,8 @@ put-decimal-requires-2 c κs = search needs
 
 write-literals-requires : tie.Need-write-literals-requires
 write-literals-requires c κs =
-    (line-collect (c .before .before .before .before .before .before .before .before .before .before .before .before .before .before .before .before .pre), record { nodes = line-nodes (c .before .before .before .before .before .before .before .before .before .before .before .before .before .before .before .before .pre); values = c .before .before .before .before .before .before .before .before .load .ensures .room; text = c .before .before .put-decimal2 .ensures .kept .room ∙ c .before .before .before .before .put-byte .ensures .kept .room ∙ c .before .before .before .before .before .before .put-decimal .ensures .kept .room ∙ c .before .before .before .before .before .before .before .before .before .before .before .before .before .before .before .before .pre .text })
+    line-literals (c .before .before .before .before .before .before .before .before .before .before .before .before .before .before .before .before .pre) _ (c .before .before .before .before .before .before .before .before .before .before .before .before .index-cell .ensures) _ _ (c .before .before .before .before .before .before .before .before .before .before .clear .ensures .0) (c .before .before .before .before .before .before .before .before .load .ensures) _
+    (c .before .before .put-decimal2 .ensures .kept .room ∙ c .before .before .before .before .put-byte .ensures .kept .room ∙ c .before .before .before .before .before .before .put-decimal .ensures .kept .room ∙ c .before .before .before .before .before .before .before .before .before .before .before .before .before .before .before .before .pre .text)
 
 put-byte-requires-2 : tie.Need-put-byte-requires-2
 put-byte-requires-2 c κs = search needs

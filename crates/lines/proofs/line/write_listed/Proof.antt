@@ -25,7 +25,9 @@ element-copy-out-index : tie.Need-element-copy-out-index
 element-copy-out-index c = search needs
 
 write-literal-requires : tie.Need-write-literal-requires
-write-literal-requires c κs = search needs
+unfolding listed
+write-literal-requires c κs =
+    c .before .before .before .before .pre .0
 
 returns : tie.Need-returns
 unfolding listed

@@ -1,11 +1,12 @@
 -- The literal found is the one with the number; where none is found, the clause has none.
-use Rattle.lines.proofs.LineTexts.{numbered-found, numbered-absent}
+use Rattle.lines.proofs.LineTexts.{numbered-found, found-ready, numbered-absent}
 use borrow.Author.Needs.{needs}
 use Rattle.lines.proofs.line.write_numbered.Statement.{statement}
 use Rattle.lines.proofs.line.write_numbered.Tie as tie
 
 literal-requires : tie.Need-literal-requires
-literal-requires c κs = search needs
+literal-requires c κs =
+    c .before .before .pre .clause
 
 enum-known-l : tie.Need-enum-known-l
 enum-known-l c = search needs
@@ -15,10 +16,11 @@ enum-told c = search needs
 
 returns : tie.Need-returns
 returns c =
-    (numbered-absent _ _ _ (c .before .before .before .before .before .args .values .now) (c .before .before .before .before .before .args .text .now) _ _ _ _ (c .before .before .literal .ensures) (c .enum-told .given .1), c .before .before .before .before .before .pre .1)
+    (numbered-absent _ _ _ (c .before .before .before .before .before .args .values .now) (c .before .before .before .before .before .args .text .now) _ _ _ _ (c .before .before .literal .ensures) (c .enum-told .given .1), c .before .before .before .before .before .pre .ready .sized)
 
 write-literal-requires : tie.Need-write-literal-requires
-write-literal-requires c κs = search needs
+write-literal-requires c κs =
+    found-ready _ _ _ _ _ (c .before .before .before .before .before .before .before .before .args .at) _ _ _ (c .before .before .before .before .before .literal .ensures) (c .before .before .before .before .before .before .before .before .pre) _ _ _ (c .before .before .before .l .given .1)
 
 returns-2 : tie.Need-returns-2
 returns-2 c =

@@ -1,5 +1,6 @@
 use mathlib.Core.Path.{_∙_}
 use Rattle.terms.proofs.LiteralTexts.{literal-done, literal-over}
+use Rattle.terms.proofs.TermTexts.{ready-then}
 use borrow.Author.Needs.{needs}
 use Rattle.terms.proofs.literal.write_literal.Statement.{statement}
 use Rattle.terms.proofs.literal.write_literal.Tie as tie
@@ -14,7 +15,8 @@ put-byte-requires-2 : tie.Need-put-byte-requires-2
 put-byte-requires-2 c κs = search needs
 
 write-term-requires : tie.Need-write-term-requires
-write-term-requires c κs = search needs
+write-term-requires c κs =
+    ready-then (c .before .before .before .before .before .before .before .pre) _ (c .before .before .put-byte2 .ensures .kept .room ∙ c .before .before .before .before .before .put-byte .ensures .kept .room)
 
 enum-known-w : tie.Need-enum-known-w
 enum-known-w c = search needs

@@ -3,8 +3,8 @@ use native.Mathlib.Omega.{arith}
 use Prim.Native.Nat.{_≤_, _+_, _*_, ℕ, _<_}
 use Rattle.unification.specs.Nodes.{nodeArity}
 use Rattle.terms.specs.Writing.{Sized}
-use Rattle.terms.proofs.TermTexts.{leaves-less, done-less, term-too-many, term-variable, term-application}
-use Rattle.terms.proofs.ArgumentTexts.{Scanned, scan-start, scan-end, scan-broke, scan-next}
+use Rattle.terms.proofs.TermTexts.{leaves-less, done-less, term-too-many, term-variable, term-application, followable, arguments-ready}
+use Rattle.terms.proofs.ArgumentTexts.{Scanned, scan-start, scan-end, scan-broke, scan-next, argument-ready}
 use borrow.Author.Needs.{needs}
 use borrow.Fn.Kinds.{In}
 use borrow.Fn.PlainCycle.{Measures, is, falls, and}
@@ -75,12 +75,12 @@ write-term-told t = (follow-reads.Asked, follow-reads.Learnt, part-of-reads.Aske
 
 write-arguments-arity-of-requires : (t : ℕ) → write-arguments-lts.Need-arity-of-requires (write-arguments-told t) (write-arguments-at t) write-arguments.Post write-arguments-Inv-loop write-arguments-μ-loop
 write-arguments-arity-of-requires t c κs =
-    c .pre .1 .nodes
+    c .pre .1 .whole .sized .nodes
 
 write-arguments-loop-holds : (t : ℕ) → write-arguments-lts.Need-loop-holds (write-arguments-told t) (write-arguments-at t) write-arguments.Post write-arguments-Inv-loop write-arguments-μ-loop
 write-arguments-loop-holds t c =
     let h = c .arity-of .ensures in
-    (c .before .pre .1, omega arith, omega arith, omega arith, omega arith, scan-start _ _ _ _ _ _ _ _ (h .0))
+    (c .before .pre .1 .whole .sized, omega arith, omega arith, omega arith, omega arith, scan-start _ _ _ _ _ _ _ _ (h .0))
 
 write-arguments-mark-requires : (t : ℕ) → write-arguments-lts.Need-mark-requires (write-arguments-told t) (write-arguments-at t) write-arguments.Post write-arguments-Inv-loop write-arguments-μ-loop
 write-arguments-mark-requires t c κs = search needs
@@ -91,12 +91,13 @@ write-arguments-put-byte-requires t c κs =
 
 write-arguments-part-of-requires : (t : ℕ) → write-arguments-lts.Need-part-of-requires (write-arguments-told t) (write-arguments-at t) write-arguments.Post write-arguments-Inv-loop write-arguments-μ-loop
 write-arguments-part-of-requires t c κs =
-    c .before .before .before .before .before .before .pre .1 .nodes
+    c .before .before .before .before .before .before .pre .1 .whole .sized .nodes
 
 write-arguments-write-term-requires : (t : ℕ) → write-arguments-lts.Need-write-term-requires (write-arguments-told t) (write-arguments-at t) write-arguments.Post write-arguments-Inv-loop write-arguments-μ-loop
 write-arguments-write-term-requires t c κs =
-    let v = c .before .before .before .before .before .before .before .loop .inv in
-    (omega (arith, c .before .before .before .before .before .before .before .before .before .pre .0), record { nodes = v .0 .nodes; values = v .0 .values; text = c .before .before .before .put-byte .ensures .kept .room ∙ v .0 .text })
+    let s = c .before .before .before .before .before .before .before .before .before in
+    let l = c .before .before .before .before .before .before .before .loop in
+    (omega (arith, s .pre .0), argument-ready (s .pre .1) (l .inv .5) (c .before .before .before .before .before .before .loop-test .taken) (l .inv .2) (l .inv .3) _ (c .before .before .before .put-byte .ensures .kept .room ∙ l .inv .0 .text) _ (c .before .before .part-of .ensures))
 
 write-arguments-enum-known-one : (t : ℕ) → write-arguments-lts.Need-enum-known-one (write-arguments-told t) (write-arguments-at t) write-arguments.Post write-arguments-Inv-loop write-arguments-μ-loop
 write-arguments-enum-known-one t c = search needs
@@ -134,22 +135,22 @@ write-arguments-returns-2 t c =
 
 write-term-returns : (t : ℕ) → write-term-lts.Need-returns (write-term-told t) (write-term-at t) write-term.Post
 write-term-returns t c =
-    (term-too-many _ (c .before .args .values .now) (c .before .args .text .now) _ _ _ (c .if1 .taken), tt, c .before .pre .1)
+    (term-too-many _ (c .before .args .values .now) (c .before .args .text .now) _ _ _ (c .if1 .taken), tt, c .before .pre .1 .sized)
 
 write-term-follow-requires : (t : ℕ) → write-term-lts.Need-follow-requires (write-term-told t) (write-term-at t) write-term.Post
 write-term-follow-requires t c κs =
-    (c .before .before .pre .1 .nodes, c .before .before .pre .1 .values)
+    followable (c .before .before .pre .1)
 
 write-term-enum-known-x : (t : ℕ) → write-term-lts.Need-enum-known-x (write-term-told t) (write-term-at t) write-term.Post
 write-term-enum-known-x t c = search needs
 
 write-term-part-of-requires : (t : ℕ) → write-term-lts.Need-part-of-requires (write-term-told t) (write-term-at t) write-term.Post
 write-term-part-of-requires t c κs =
-    c .before .before .before .before .before .before .pre .1 .nodes
+    c .before .before .before .before .before .before .pre .1 .sized .nodes
 
 write-term-put-variable-requires : (t : ℕ) → write-term-lts.Need-put-variable-requires (write-term-told t) (write-term-at t) write-term.Post
 write-term-put-variable-requires t c κs =
-    c .before .before .before .before .before .before .before .before .pre .1 .text
+    c .before .before .before .before .before .before .before .before .pre .1 .sized .text
 
 write-term-sub-t21 : (t : ℕ) → write-term-lts.Need-sub-t21 (write-term-told t) (write-term-at t) write-term.Post
 write-term-sub-t21 t c = search needs
@@ -159,22 +160,23 @@ write-term-enum-known-x-2 t c = search needs
 
 write-term-part-of-requires-2 : (t : ℕ) → write-term-lts.Need-part-of-requires-2 (write-term-told t) (write-term-at t) write-term.Post
 write-term-part-of-requires-2 t c κs =
-    c .before .before .before .before .before .before .pre .1 .nodes
+    c .before .before .before .before .before .before .pre .1 .sized .nodes
 
 write-term-put-symbol-requires : (t : ℕ) → write-term-lts.Need-put-symbol-requires (write-term-told t) (write-term-at t) write-term.Post
 write-term-put-symbol-requires t c κs =
-    c .before .before .before .before .before .before .before .before .pre .1 .text
+    c .before .before .before .before .before .before .before .before .pre .1 .sized .text
 
 write-term-sub-write-arguments : (t : ℕ) → write-term-lts.Need-sub-write-arguments (write-term-told t) (write-term-at t) write-term.Post
 write-term-sub-write-arguments t c = search needs
 
 write-term-write-arguments-requires : (t : ℕ) → write-term-lts.Need-write-arguments-requires (write-term-told t) (write-term-at t) write-term.Post
 write-term-write-arguments-requires t c κs =
-    (omega (arith, c .before .before .before .before .before .before .before .before .before .before .before .pre .0, c .before .before .before .before .before .before .before .before .before .before .if1 .left), record { nodes = c .before .before .before .before .before .before .before .before .before .before .before .pre .1 .nodes; values = c .before .before .before .before .before .before .before .before .follow .ensures .1; text = c .before .before .put-symbol .ensures .kept .room ∙ c .before .before .before .before .before .before .before .before .before .before .before .pre .1 .text })
+    let s = c .before .before .before .before .before .before .before .before .before .before .before in
+    (omega (arith, s .pre .0, c .before .before .before .before .before .before .before .before .before .before .if1 .left), arguments-ready (s .pre .1) _ _ (c .before .before .put-symbol .ensures .kept .room) _ (c .before .before .before .before .before .before .before .before .follow .ensures .0) _ _ (c .before .before .before .before .before .before .x2 .given .1))
 
 write-term-returns-2 : (t : ℕ) → write-term-lts.Need-returns-2 (write-term-told t) (write-term-at t) write-term.Post
 write-term-returns-2 t c =
-    (term-variable _ _ _ _ _ _ (c .before .before .before .before .before .before .before .before .if1 .left) _ _ (c .before .before .before .before .before .before .follow .ensures .0) _ _ (c .before .before .before .before .x .given .1) _ (c .before .before .part-of .ensures) _ _ (c .put-variable .ensures), omega (arith, c .before .before .before .before .before .before .before .before .if1 .left), record { nodes = c .before .before .before .before .before .before .before .before .before .pre .1 .nodes; values = c .before .before .before .before .before .before .follow .ensures .1; text = c .put-variable .ensures .kept .room ∙ c .before .before .before .before .before .before .before .before .before .pre .1 .text })
+    (term-variable _ _ _ _ _ _ (c .before .before .before .before .before .before .before .before .if1 .left) _ _ (c .before .before .before .before .before .before .follow .ensures .0) _ _ (c .before .before .before .before .x .given .1) _ (c .before .before .part-of .ensures) _ _ (c .put-variable .ensures), omega (arith, c .before .before .before .before .before .before .before .before .if1 .left), record { nodes = c .before .before .before .before .before .before .before .before .before .pre .1 .sized .nodes; values = c .before .before .before .before .before .before .follow .ensures .1; text = c .put-variable .ensures .kept .room ∙ c .before .before .before .before .before .before .before .before .before .pre .1 .sized .text })
 
 write-term-returns-3 : (t : ℕ) → write-term-lts.Need-returns-3 (write-term-told t) (write-term-at t) write-term.Post
 write-term-returns-3 t c =

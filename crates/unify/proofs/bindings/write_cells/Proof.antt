@@ -1,10 +1,10 @@
 use mathlib.Core.Path.{ap, _∙_}
 use lib.ListN.{set}
 use Prim.Native.Nat.{_+_}
-use Rattle.unification.specs.Values.{put}
+use Rattle.unification.specs.ValueArray.{put}
 use borrow.Author.Needs.{needs}
-use Rattle.pairs.proofs.bindings.write_cells.Statement.{statement}
-use Rattle.pairs.proofs.bindings.write_cells.Tie as tie
+use Rattle.unify.proofs.bindings.write_cells.Statement.{statement}
+use Rattle.unify.proofs.bindings.write_cells.Tie as tie
 
 set-cell-requires : tie.Need-set-cell-requires
 set-cell-requires c κs = search needs

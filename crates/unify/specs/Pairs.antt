@@ -1,6 +1,6 @@
--- The contracts of the walk over pairs. What unification promises its callers is in `Unifying` of the crate unify; this file only says
--- how the parts of the program fit together. Each contract is stated for every environment that the array stands for, and for every
--- rest of the machine's task.
+-- The contracts of the walk over pairs. What unification promises its callers is in `Unifying`; this file only says
+-- how the parts of the program fit together. Each function asks for a step whose bindings the array stands for. What it ensures is
+-- stated for every such step, and for every rest of the machine's task.
 use mathlib.Core.Path.{_≡_}
 use mathlib.Core.Bool.{true, false}
 use mathlib.Core.Option.{none}
@@ -14,13 +14,13 @@ use Rattle.unification.specs.Environment.{follow, Binding, Environment, extend,
 use Rattle.unification.specs.Nodes.{isVariable, part, nodeArity, HasRow, argumentsFrom, nodeRow}
 use Rattle.unification.specs.Row.{Expression, same}
 use Rattle.unification.specs.Unification.{mostLinks, failureNumber, Failure, clash, occurs, overwork, full, Outcome, unified, failed, noRoom}
-use Rattle.unification.specs.Values.{InStep, Models}
+use Rattle.unification.specs.ValueArray.{InStep, Models}
 use Rattle.following.specs.declared.follow.Followed.{Followed}
 use Rattle.following.specs.declared.follow.Followed.the-variants.{Variable, Application}
-use Rattle.pairs.specs.declared.Meeting.{Meeting}
-use Rattle.pairs.specs.declared.Meeting.the-variants.{Bind, Nothing, Clash, Arguments}
-use Rattle.pairs.specs.declared.Unified.{Unified}
-use Rattle.pairs.specs.declared.Unified.the-variants.{Done, Refused}
+use Rattle.unify.specs.declared.pairs.Meeting.{Meeting}
+use Rattle.unify.specs.declared.pairs.Meeting.the-variants.{Bind, Nothing, Clash, Arguments}
+use Rattle.unify.specs.declared.Unified.{Unified}
+use Rattle.unify.specs.declared.Unified.the-variants.{Done, Refused}
 use Rattle.following.specs.Walks.{Tested, PairRuns, ArgumentsRun, TestRuns, bindOutcome}
 
 -- The failures by the numbers of document 01's table.
@@ -28,13 +28,13 @@ abbrev pub failureOf : ℕ → Failure
 failureOf n = pick (eqb n 10) clash (pick (eqb n 11) occurs (pick (eqb n 12) overwork full))
 
 -- Less work is left than w; no more than w.
-abbrev pub LeavesLess : ℕ → Unified → Type 0
-LeavesLess w (Done l h) = l < w
-LeavesLess w (Refused n) = Unit {0}
+abbrev pub LessWorkLeft : ℕ → Unified → Type 0
+LessWorkLeft w (Done l h) = l < w
+LessWorkLeft w (Refused n) = Unit {0}
 
-abbrev pub LeavesNoMore : ℕ → Unified → Type 0
-LeavesNoMore w (Done l h) = l ≤ w
-LeavesNoMore w (Refused n) = Unit {0}
+abbrev pub NoMoreWorkLeft : ℕ → Unified → Type 0
+NoMoreWorkLeft w (Done l h) = l ≤ w
+NoMoreWorkLeft w (Refused n) = Unit {0}
 
 -- What the answer says of the table of bindings, whatever the array stands for; and a refusal has a number of the table of failures.
 abbrev pub Filed : List ℕ → List ℕ → ℕ → Unified → Type 0
@@ -58,6 +58,15 @@ pub record Stand (N : List ℕ) (top : ℕ) (A B : List ℕ) (first : ℕ) (base
   pub short : (e : Expression) → HasRow N (e .0) → Ends (follow (nodeRow N) held (extend base bs) e)
   pub room : 32768 ≤ length B
 
+-- Some step stands: its maximum index, the bindings held before it, what its parents say, and its bindings.
+pub record StepReady (N A B : List ℕ) (held : ℕ) : Type 0 where
+  pub nodes : length N ≡ 32768
+  pub top : ℕ
+  pub first : ℕ
+  pub base : Environment
+  pub bindings : List Binding
+  pub stand : Stand N top A B first base bindings held
+
 abbrev pub Stands : List ℕ → ℕ → List ℕ → List ℕ → ℕ → Environment → List Binding → ℕ → Unified → Type 0
 Stands N top A B first base bs held (Done w h) = Stand N top A B first base (bindingsOnto B held (h - held) bs) h
 Stands N top A B first base bs held (Refused n) = Unit {0}
@@ -74,6 +83,28 @@ pub record Alike (N : List ℕ) (top v a t b : ℕ) : Type 0 where
   pub leftRow : isVariable N v ≡ false
   pub rightRow : isVariable N t ≡ false
   pub symbol : part N v 0 ≡ part N t 0
+
+-- What the pair walk asks: a step that stands, with both sides in it.
+pub record PairReady (N A B : List ℕ) (held : ℕ) (e d : Expression) : Type 0 where
+  pub step : StepReady N A B held
+  pub left : InStep N (step .top) e
+  pub right : InStep N (step .top) d
+
+-- What binding x to d asks: x is an unbound variable, and d was followed and is not x.
+pub record BindReady (N A B : List ℕ) (held : ℕ) (x d : Expression) : Type 0 where
+  pub step : StepReady N A B held
+  pub variableInStep : InStep N (step .top) x
+  pub variableRow : isVariable N (x .0) ≡ true
+  pub inStep : InStep N (step .top) d
+  pub free : extend (step .base) (step .bindings) x ≡ none
+  pub settled : Settled N (extend (step .base) (step .bindings)) x d
+
+-- What the argument walk asks: two applications of one symbol, whose last arguments are number `last`.
+pub record ArgumentsReady (N A B : List ℕ) (held v a t b last : ℕ) : Type 0 where
+  pub step : StepReady N A B held
+  pub alike : Alike N (step .top) v a t b
+  pub arity : last ≡ nodeArity N v
+  pub some : 1 ≤ last
 
 -- What is to be done with two followed sides (document 01, "Unification, and what it counts").
 pub data Meets (N : List ℕ) : Followed → Followed → Meeting → Type 0 where
@@ -96,7 +127,7 @@ module _ (N : List ℕ) (top : ℕ) (A B : List ℕ) (first : ℕ) (base : Envir
   pub record Tying (x d : Expression) (w : ℕ) (u : Unified) : Type 0 where
     pub tested : Tested
     pub ok : TestRuns (nodeRow N) mostLinks (noRoom first) base w bs x d d tested
-    pub res : bindOutcome (nodeRow N) mostLinks (noRoom first) base tested bs x d ≡ outcomeOnto u B held bs
+    pub outcome : bindOutcome (nodeRow N) mostLinks (noRoom first) base tested bs x d ≡ outcomeOnto u B held bs
     pub after : Stands N top A B first base bs held u
 
   pub record Arguing (v a t b w : ℕ) (u : Unified) : Type 0 where

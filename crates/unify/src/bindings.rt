@@ -2,7 +2,7 @@
 use tables::set_cell;
 ghost use mathlib.Core.Path.{_≡_};
 ghost use Prim.Native.Nat.{_<_};
-ghost use Rattle.unification.specs.Values.{put};
+ghost use Rattle.unification.specs.ValueArray.{put};
 ghost use Rattle.unification.specs.Bindings.{push};
 
 // The two cells at `at` written.

@@ -8,8 +8,8 @@ use lib.ListN.{length, getD, set, length-set}
 use lib.Seq.{getD-set-same, getD-set-other}
 use Rattle.unification.specs.Bindings.{bindingAt, push, KeptBelow, Added}
 use Rattle.unification.specs.Environment.{Binding}
-use Rattle.unification.specs.Values.{put}
-use Rattle.pairs.specs.Pairs.{bindingsOnto}
+use Rattle.unification.specs.ValueArray.{put}
+use Rattle.unify.specs.Pairs.{bindingsOnto}
 use Rattle.following.proofs.Writing.{length-put}
 
 pub added-none : (B : List ℕ) (h : ℕ) → Added B B h h

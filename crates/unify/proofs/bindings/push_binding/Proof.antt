@@ -1,11 +1,11 @@
 use mathlib.Core.Path.{ap, _∙_}
 use mathlib.Core.List.{List}
 use Prim.Native.Nat.{ℕ, _+_, _*_}
-use Rattle.unification.specs.Values.{put}
+use Rattle.unification.specs.ValueArray.{put}
 use Rattle.unification.specs.Bindings.{push}
 use borrow.Author.Needs.{needs}
-use Rattle.pairs.proofs.bindings.push_binding.Statement.{statement}
-use Rattle.pairs.proofs.bindings.push_binding.Tie as tie
+use Rattle.unify.proofs.bindings.push_binding.Statement.{statement}
+use Rattle.unify.proofs.bindings.push_binding.Tie as tie
 
 mul-write-cells : tie.Need-mul-write-cells
 mul-write-cells c = search needs

@@ -5,7 +5,7 @@ use mathlib.Core.Option.{none}
 use mathlib.Core.List.{List, [], _∷_}
 use Prim.Native.Nat.{ℕ, suc, _+_, _-_, _%_, _≤_, _<_}
 use native.Mathlib.Omega.{arith}
-use lib.Dec.{leb, T}
+use lib.Dec.{leb}
 use lib.ListN.{length}
 use native.Mathlib.Numerals.{add-one}
 use borrow.Author.Tests.{ne-eqb, le-leb, lt-leb}
@@ -15,10 +15,10 @@ use Rattle.unification.specs.Environment.{Binding, Environment, extend, unbound
 use Rattle.unification.specs.Nodes.{isVariable, part, nodeArity, HasRow, argumentsFrom, nodeRow, nodeRowIf, NodesOk}
 use Rattle.unification.specs.Row.{Expression, same}
 use Rattle.unification.specs.Unification.{mostLinks, failureNumber, clash, occurs, overwork, Outcome, unified, failed, unifying, testing, goOn, noRoom, withWork, run}
-use Rattle.pairs.specs.Pairs.{failureOf, LeavesLess, LeavesNoMore, Filed, bindingsOnto, outcomeOnto, Stand, Stands, Settled, isApplication, isOther, Alike, Pairing, Paired, Bound, Argued, Meets, sameVariable, leftToVariable, leftToApplication, rightVariable, sameApplication, otherSymbol, noArguments, someArguments, Matching, Matched, ArguedBefore}
-use Rattle.unification.specs.Values.{slot, put, InStep, Models}
-use Rattle.following.specs.Walks.{viewOf, endOf, Walked, Follows, absent, broken, testedOf, thenRun, PairRuns, ArgumentsRun, TestRuns, Looking, Looked}
-use Rattle.pairs.proofs.BindingsAdded.{added-then, added-below, onto-none, onto-then, onto-push, length-push}
+use Rattle.unify.specs.Pairs.{failureOf, LessWorkLeft, NoMoreWorkLeft, Filed, bindingsOnto, outcomeOnto, Stand, StepReady, Stands, PairReady, BindReady, ArgumentsReady, Settled, isApplication, isOther, Alike, Pairing, Paired, Bound, Argued, Meets, sameVariable, leftToVariable, leftToApplication, rightVariable, sameApplication, otherSymbol, noArguments, someArguments, Matching, Matched, ArguedBefore}
+use Rattle.unification.specs.ValueArray.{slot, put, InStep, Models}
+use Rattle.following.specs.Walks.{viewOf, endOf, Followable, Walked, Follows, absent, broken, testedOf, thenRun, PairRuns, ArgumentsRun, TestRuns, Looking, Looked}
+use Rattle.unify.proofs.BindingsAdded.{added-then, added-below, onto-none, onto-then, onto-push, length-push}
 use Rattle.unification.proofs.Chains.{Short, short-le, Firm, short-with}
 use Rattle.following.proofs.Halving.{EndsAt, walked-app, walked-var, walked-ends}
 use Rattle.unification.proofs.Limits.{links-8192, bindings-8192}
@@ -31,10 +31,10 @@ use Rattle.following.specs.declared.follow.Followed.{Followed}
 use Rattle.following.specs.declared.follow.Followed.the-variants.{Variable, Application}
 use Rattle.following.specs.declared.occurs.Occurs.{Occurs}
 use Rattle.following.specs.declared.occurs.Occurs.the-variants.{No, Yes, Spent}
-use Rattle.pairs.specs.declared.Meeting.{Meeting}
-use Rattle.pairs.specs.declared.Meeting.the-variants.{Bind, Nothing, Clash, Arguments}
-use Rattle.pairs.specs.declared.Unified.{Unified}
-use Rattle.pairs.specs.declared.Unified.the-variants.{Done, Refused}
+use Rattle.unify.specs.declared.pairs.Meeting.{Meeting}
+use Rattle.unify.specs.declared.pairs.Meeting.the-variants.{Bind, Nothing, Clash, Arguments}
+use Rattle.unify.specs.declared.Unified.{Unified}
+use Rattle.unify.specs.declared.Unified.the-variants.{Done, Refused}
 
 -- A free variable x and what the other side ends on.
 module _ (N : List ℕ) (top : ℕ) (A B : List ℕ) (first : ℕ) (base : Environment) (bs : List Binding) (held : ℕ) where
@@ -47,7 +47,7 @@ Met N A A′ B B′ held x y w u =
     (top first : ℕ) (base : Environment) (bs : List Binding) → Stand N top A B first base bs held → InStep N top x → isVariable N (x .0) ≡ true → extend base bs x ≡ none
     → InStep N top (endOf y) → EndsAt N (extend base bs) y → MetRuns N top A′ B′ first base bs held x y w u
 
-pub leaves-less : (w v : ℕ) (u : Unified) → v < w → LeavesNoMore v u → LeavesLess w u
+pub leaves-less : (w v : ℕ) (u : Unified) → v < w → NoMoreWorkLeft v u → LessWorkLeft w u
 leaves-less w v (Done l h) p q = omega arith
 leaves-less w v (Refused n) p q = tt
 
@@ -63,22 +63,22 @@ module _ (N A A₁ B : List ℕ) (held : ℕ) (x : Expression) (d : Expression) 
   pub bound-yes : o ≡ Yes → Bound N A A₁ B B held x d w (Refused 11)
   bound-yes q top first base bs S gx vx gd f F =
       let L′ = L top (noRoom first) base bs (S .models) gd in
-      record { tested = broken occurs; ok = subst (λ (z : Occurs). TestRuns (nodeRow N) mostLinks (noRoom first) base w bs x d d (testedOf z)) q (L′ .ok d); res = refl; after = tt }
+      record { tested = broken occurs; ok = subst (λ (z : Occurs). TestRuns (nodeRow N) mostLinks (noRoom first) base w bs x d d (testedOf z)) q (L′ .ok d); outcome = refl; after = tt }
 
   pub bound-spent : o ≡ Spent → Bound N A A₁ B B held x d w (Refused 12)
   bound-spent q top first base bs S gx vx gd f F =
       let L′ = L top (noRoom first) base bs (S .models) gd in
-      record { tested = broken overwork; ok = subst (λ (z : Occurs). TestRuns (nodeRow N) mostLinks (noRoom first) base w bs x d d (testedOf z)) q (L′ .ok d); res = refl; after = tt }
+      record { tested = broken overwork; ok = subst (λ (z : Occurs). TestRuns (nodeRow N) mostLinks (noRoom first) base w bs x d d (testedOf z)) q (L′ .ok d); outcome = refl; after = tt }
 
   pub bound-full : (l : ℕ) → o ≡ No l → 8192 ≤ held → Bound N A A₁ B B held x d w (Refused 13)
   bound-full l q h top first base bs S gx vx gd f F =
       let L′ = L top (noRoom first) base bs (S .models) gd in
       let c = S .count in
-      record { tested = absent l; ok = subst (λ (z : Occurs). TestRuns (nodeRow N) mostLinks (noRoom first) base w bs x d d (testedOf z)) q (L′ .ok d); res = rw (full-at first bs true (le-leb 8192 (first + length bs) (omega arith))); after = tt }
+      record { tested = absent l; ok = subst (λ (z : Occurs). TestRuns (nodeRow N) mostLinks (noRoom first) base w bs x d d (testedOf z)) q (L′ .ok d); outcome = rw (full-at first bs true (le-leb 8192 (first + length bs) (omega arith))); after = tt }
 
   pub bound-done : (l : ℕ) → o ≡ No l → held < 8192 → (at m : ℕ) → at ≡ slot N (x .0) (x .1) → m ≡ (d .0 + 1) % 65536 → (A₂ B₂ : List ℕ) → A₂ ≡ put A₁ at m (d .1) → B₂ ≡ push B held (x .0) (x .1) (d .0) (d .1) → Bound N A A₂ B B₂ held x d w (Done l (held + 1))
   bound-done l q h at m ps pm A₂ B₂ pa pb top first base bs S gx vx gd f F =
-      record { tested = absent l; ok = subst (λ (z : Occurs). TestRuns (nodeRow N) mostLinks (noRoom first) base w bs x d d (testedOf z)) q (L′ .ok d); res = rw (full-at first bs false (lt-leb 8192 (first + length bs) (let c = S .count in omega arith))) (ap (λ (z : List Binding). unified z l) (sym made)); after = subst (λ (z : List Binding). Stand N top A₂ B₂ first base z (held + 1)) (sym made) stands }
+      record { tested = absent l; ok = subst (λ (z : Occurs). TestRuns (nodeRow N) mostLinks (noRoom first) base w bs x d d (testedOf z)) q (L′ .ok d); outcome = rw (full-at first bs false (lt-leb 8192 (first + length bs) (let c = S .count in omega arith))) (ap (λ (z : List Binding). unified z l) (sym made)); after = subst (λ (z : List Binding). Stand N top A₂ B₂ first base z (held + 1)) (sym made) stands }
     where
       L′ : Looking N top A₁ (noRoom first) base bs x d w o
       L′ = L top (noRoom first) base bs (S .models) gd
@@ -98,11 +98,11 @@ module _ (N A A₁ B : List ℕ) (held : ℕ) (x : Expression) (d : Expression) 
       stands : Stand N top A₂ B₂ first base ((x, d) ∷ bs) (held + 1)
       stands = record { models = subst (λ (z : List ℕ). Models N top z (with (extend base bs) x d)) (sym cells) (models-bind N top A₁ (extend base bs) (L′ .models) x gx vx (d .0) (d .1) f gd (short-le (HasRow N) (nodeRow N) (suc held) mostLinks (with (extend base bs) x d) (let l = links-8192 in omega arith) more)); count = let c = S .count in omega arith; few = omega arith; short = rw add-one more; room = rw (ap length pb ∙ length-push B held (x .0) (x .1) (d .0) (d .1)) (S .room) }
 
+differ : (x y : Expression) → same x y ≡ false → ¬ (x ≡ y)
+differ x y p q = true-not-false (ap (same x) (sym q) ∙ same-refl x) p
+
 -- An unbound variable on the left meets what the right side was followed to.
 module _ (N A B : List ℕ) (held : ℕ) (x : Expression) (y : Followed) (w : ℕ) where
-  differ : (x y : Expression) → same x y ≡ false → ¬ (x ≡ y)
-  differ x y p q = true-not-false (ap (same x) (sym q) ∙ same-refl x) p
-
   apart : (g b : ℕ) → isVariable N (x .0) ≡ true → isVariable N g ≡ false → (s : Bool) → same x (g, b) ≡ s → s ≡ false
   apart g b p q false r = refl
   apart g b p q true r = absurd (true-not-false (ap (λ (c : Expression). isVariable N (c .0)) (sym (same-eq x (g, b) r)) ∙ p) q)
@@ -121,7 +121,7 @@ module _ (N A B : List ℕ) (held : ℕ) (x : Expression) (y : Followed) (w : �
         met : Met N A A′ B B′ held x (Variable t b) w u
         met top first base bs S gx vx fx gy ey =
             let k = K top first base bs S gx vx gy fx (isOther (ey .0) (ey .1) (λ z. differ x (t, b) (sym q ∙ h) (sym z))) in
-            record { ok = λ ps. meet-left (nodeRow N) mostLinks (noRoom first) base w bs (part N (x .0) 0) x (unbound (part N t 0) (t, b)) tt (sym q ∙ h) (k .tested) (k .ok) ps ∙ ap (λ (r : Outcome). thenRun (nodeRow N) mostLinks (noRoom first) base r ps) (k .res); after = k .after }
+            record { ok = λ ps. meet-left (nodeRow N) mostLinks (noRoom first) base w bs (part N (x .0) 0) x (unbound (part N t 0) (t, b)) tt (sym q ∙ h) (k .tested) (k .ok) ps ∙ ap (λ (r : Outcome). thenRun (nodeRow N) mostLinks (noRoom first) base r ps) (k .outcome); after = k .after }
 
     pub met-application : (g b : ℕ) → y ≡ Application g b → Bound N A A′ B B′ held x (g, b) w u → Met N A A′ B B′ held x y w u
     met-application g b p K = subst (λ (z : Followed). Met N A A′ B B′ held x z w u) (sym p) met
@@ -129,7 +129,7 @@ module _ (N A B : List ℕ) (held : ℕ) (x : Expression) (y : Followed) (w : �
         met : Met N A A′ B B′ held x (Application g b) w u
         met top first base bs S gx vx fx gy ey =
             let k = K top first base bs S gx vx gy fx (isApplication ey) in
-            record { ok = λ ps. meet-left (nodeRow N) mostLinks (noRoom first) base w bs (part N (x .0) 0) x (viewOf N (Application g b)) tt (apart g b vx ey (same x (g, b)) refl) (k .tested) (k .ok) ps ∙ ap (λ (r : Outcome). thenRun (nodeRow N) mostLinks (noRoom first) base r ps) (k .res); after = k .after }
+            record { ok = λ ps. meet-left (nodeRow N) mostLinks (noRoom first) base w bs (part N (x .0) 0) x (viewOf N (Application g b)) tt (apart g b vx ey (same x (g, b)) refl) (k .tested) (k .ok) ps ∙ ap (λ (r : Outcome). thenRun (nodeRow N) mostLinks (noRoom first) base r ps) (k .outcome); after = k .after }
 
 module _ (N A B : List ℕ) (held : ℕ) (e d : Expression) (w : ℕ) where
   pub paired-spent : w ≡ 0 → Paired N A A B B held e d w (Refused 12)
@@ -173,7 +173,7 @@ module _ (N A B : List ℕ) (held : ℕ) (e d : Expression) (w : ℕ) where
           let y = Y (Application v a) (Variable t b) pf pg top first base bs S ge gd in
           let z = walked-var N top A₂ (extend base bs) d t b y in
           let k = K top first base bs (S₂ (Application v a) (Variable t b) pf pg top first base bs S ge gd) (y .good) (z .0) (x .good) (z .1) (isApplication (walked-app N top A₁ (extend base bs) e v a x)) in
-          record { ok = at-w (Application v a) (Variable t b) pf pg top first base bs S ge gd (outcomeOnto u B₃ held bs) (rw (k .res) at (pair-right (nodeRow N) mostLinks (noRoom first) base (w - 1) bs e d (part N v 0) (argumentsFrom N v (nodeArity N v) 1) (v, a) (part N t 0) (t, b) (x .seen) (y .seen) (k .tested) (k .ok))); after = k .after }
+          record { ok = at-w (Application v a) (Variable t b) pf pg top first base bs S ge gd (outcomeOnto u B₃ held bs) (rw (k .outcome) at (pair-right (nodeRow N) mostLinks (noRoom first) base (w - 1) bs e d (part N v 0) (argumentsFrom N v (nodeArity N v) 1) (v, a) (part N t 0) (t, b) (x .seen) (y .seen) (k .tested) (k .ok))); after = k .after }
 
       module _ (v a t b : ℕ) (pf : f ≡ Application v a) (pg : g ≡ Application t b) (s : Bool) (ps : s ≡ same (v, a) (t, b)) (h : s ≡ false) (m n : ℕ) (pm : m ≡ part N v 0) (pn : n ≡ part N t 0) where
         pub paired-args : m ≡ n → Argued N A₂ A₃ B B₃ held v a t b (w - 1) u → Paired N A A₃ B B₃ held e d w u
@@ -237,11 +237,11 @@ filed-done B B′ held u l h p k = subst (Filed B B′ held) p k
 pub filed-refused : (B B′ : List ℕ) (held : ℕ) (u : Unified) (n : ℕ) → u ≡ Refused n → Filed B B′ held u → KeptBelow B B′ held × (n ≡ failureNumber (failureOf n))
 filed-refused B B′ held u n p k = subst (Filed B B′ held) p k
 
-pub less-done : (w : ℕ) (u : Unified) (l h : ℕ) → u ≡ Done l h → LeavesLess w u → l < w
-less-done w u l h p k = subst (LeavesLess w) p k
+pub less-done : (w : ℕ) (u : Unified) (l h : ℕ) → u ≡ Done l h → LessWorkLeft w u → l < w
+less-done w u l h p k = subst (LessWorkLeft w) p k
 
-pub no-more-done : (w : ℕ) (u : Unified) (l h : ℕ) → u ≡ Done l h → LeavesNoMore w u → l ≤ w
-no-more-done w u l h p k = subst (LeavesNoMore w) p k
+pub no-more-done : (w : ℕ) (u : Unified) (l h : ℕ) → u ≡ Done l h → NoMoreWorkLeft w u → l ≤ w
+no-more-done w u l h p k = subst (NoMoreWorkLeft w) p k
 
 pub match-last : (N A A₁ B B₁ : List ℕ) (held v a t b w n last left total : ℕ) → last ≡ nodeArity N v → n ≡ last → Matched N A A₁ B B₁ held v a t b w n (last + 1 - n) left total → Matched N A A₁ B B₁ held v a t b w (nodeArity N v) 1 left total
 match-last N A A₁ B B₁ held v a t b w n last left total p q K =
@@ -250,9 +250,6 @@ match-last N A A₁ B B₁ held v a t b w n last left total p q K =
 
 pub meets-as : {N : List ℕ} {x y x′ y′ : Followed} {m : Meeting} → x ≡ x′ → y ≡ y′ → Meets N x′ y′ m → Meets N x y m
 meets-as {N} {x} {y} {x′} {y′} {m} p q h = subst (λ (z : Followed). Meets N z y m) (sym p) (subst (λ (z : Followed). Meets N x′ z m) (sym q) h)
-
-pub meets-last : {N : List ℕ} {x y : Followed} {f a g b : ℕ} → Meets N x y (Arguments f a g b) → 1 ≤ nodeArity N f
-meets-last (someArguments q s some) = some
 
 -- The ways out of a pair whose sides were followed, by what is to be done with them.
 module _ (N A B : List ℕ) (held : ℕ) (e d : Expression) (w : ℕ) (A₁ A₂ : List ℕ) (nz : w ≡ 0 → ⊥) (f g : Followed) (W₁ : Follows N A A₁ e f) (W₂ : Follows N A₁ A₂ d g) where
@@ -365,3 +362,96 @@ module _ (N A A₁ B B₁ : List ℕ) (held : ℕ) (e d : Expression) (w : ℕ) 
             subst (λ (z : ℕ). PairRuns (nodeRow N) mostLinks (noRoom first) base l (bindingsOnto B₄ total (h - total) bs₁) (z, a) (part N t (nodeArity N v), b) o) (pp ∙ ap (part N v) isLast)
             (subst (λ (z : ℕ). PairRuns (nodeRow N) mostLinks (noRoom first) base l (bindingsOnto B₄ total (h - total) bs₁) (p, a) (z, b) o) (pq ∙ ap (part N t) isLast)
             (subst (λ (z : List Binding). PairRuns (nodeRow N) mostLinks (noRoom first) base l z (p, a) (q, b) o) (sym j) r))
+
+-- What a call asks, from what the caller was asked and what the calls before it ensured.
+pub pursued-ready : {N A A₁ B B₁ : List ℕ} {held : ℕ} {e d : Expression} {w : ℕ} {c k : Expression} {left total : ℕ} → PairReady N A B held e d → Pursued N A A₁ B B₁ held e d w c k left total → PairReady N A₁ B₁ total c k
+pursued-ready {B₁ = B₁} {held} {total = total} R P =
+    let s = R .step in
+    let P′ = P (s .top) (s .first) (s .base) (s .bindings) (s .stand) (R .left) (R .right) in
+    record {
+      step = record { nodes = s .nodes; top = s .top; first = s .first; base = s .base; bindings = bindingsOnto B₁ held (total - held) (s .bindings); stand = P′ .stand };
+      left = P′ .goodLeft;
+      right = P′ .goodRight;
+    }
+
+pub left-followable : {N A B : List ℕ} {held : ℕ} {e d : Expression} → PairReady N A B held e d → Followable N A e
+left-followable R =
+    let s = R .step in
+    record { nodes = s .nodes; top = s .top; environment = extend (s .base) (s .bindings); models = s .stand .models; inStep = R .left }
+
+pub target-followable : {N A B : List ℕ} {held : ℕ} {x d : Expression} → BindReady N A B held x d → Followable N A d
+target-followable R =
+    let s = R .step in
+    record { nodes = s .nodes; top = s .top; environment = extend (s .base) (s .bindings); models = s .stand .models; inStep = R .inStep }
+
+module _ {N A B : List ℕ} {held : ℕ} {e d : Expression} (R : PairReady N A B held e d) (A₁ : List ℕ) (f : Followed) (W₁ : Follows N A A₁ e f) where
+  leftWalked : (f′ : Followed) → f ≡ f′ → Walked N (R .step .top) A₁ (extend (R .step .base) (R .step .bindings)) e f′
+  leftWalked f′ pf =
+      let s = R .step in
+      subst (Walked N (s .top) A₁ (extend (s .base) (s .bindings)) e) pf (W₁ (s .top) (extend (s .base) (s .bindings)) (s .stand .models) (R .left))
+
+  pub right-followable : Followable N A₁ d
+  right-followable =
+      let s = R .step in
+      record { nodes = s .nodes; top = s .top; environment = extend (s .base) (s .bindings); models = leftWalked f refl .models; inStep = R .right }
+
+  module _ (A₂ : List ℕ) (g : Followed) (W₂ : Follows N A₁ A₂ d g) where
+    rightWalked : (g′ : Followed) → g ≡ g′ → Walked N (R .step .top) A₂ (extend (R .step .base) (R .step .bindings)) d g′
+    rightWalked g′ pg =
+        let s = R .step in
+        subst (Walked N (s .top) A₂ (extend (s .base) (s .bindings)) d) pg (W₂ (s .top) (extend (s .base) (s .bindings)) (leftWalked f refl .models) (R .right))
+
+    abbrev still : StepReady N A₂ B held
+    still =
+        let s = R .step in
+        let S = s .stand in
+        record { nodes = s .nodes; top = s .top; first = s .first; base = s .base; bindings = s .bindings; stand = record { models = rightWalked g refl .models; count = S .count; few = S .few; short = S .short; room = S .room } }
+
+    leftVariable : (v a : ℕ) → f ≡ Variable v a → (t b : ℕ) → InStep N (R .step .top) (t, b) → Settled N (extend (R .step .base) (R .step .bindings)) (v, a) (t, b) → BindReady N A₂ B held (v, a) (t, b)
+    leftVariable v a pf t b gt settled =
+        let s = R .step in
+        let x = leftWalked (Variable v a) pf in
+        let z = walked-var N (s .top) A₁ (extend (s .base) (s .bindings)) e v a x in
+        record { step = still; variableInStep = x .good; variableRow = z .0; inStep = gt; free = z .1; settled = settled }
+
+    pub bind-ready : {f′ g′ : Followed} {v a t b : ℕ} → Meets N f′ g′ (Bind v a t b) → f ≡ f′ → g ≡ g′ → BindReady N A₂ B held (v, a) (t, b)
+    bind-ready (leftToVariable {v} {a} {t} {b} q) pf pg =
+        let s = R .step in
+        let y = rightWalked (Variable t b) pg in
+        let z = walked-var N (s .top) A₂ (extend (s .base) (s .bindings)) d t b y in
+        leftVariable v a pf t b (y .good) (isOther (z .0) (z .1) (λ h. differ (v, a) (t, b) q (sym h)))
+    bind-ready (leftToApplication {v} {a} {g = t} {b}) pf pg =
+        let s = R .step in
+        let y = rightWalked (Application t b) pg in
+        leftVariable v a pf t b (y .good) (isApplication (walked-app N (s .top) A₂ (extend (s .base) (s .bindings)) d t b y))
+    bind-ready (rightVariable {f = v} {a} {t} {b}) pf pg =
+        let s = R .step in
+        let x = leftWalked (Application v a) pf in
+        let y = rightWalked (Variable t b) pg in
+        let z = walked-var N (s .top) A₂ (extend (s .base) (s .bindings)) d t b y in
+        record { step = still; variableInStep = y .good; variableRow = z .0; inStep = x .good; free = z .1; settled = isApplication (walked-app N (s .top) A₁ (extend (s .base) (s .bindings)) e v a x) }
+
+    pub arguments-ready : {f′ g′ : Followed} {v a t b : ℕ} → Meets N f′ g′ (Arguments v a t b) → f ≡ f′ → g ≡ g′ → (last : ℕ) → last ≡ nodeArity N v → ArgumentsReady N A₂ B held v a t b last
+    arguments-ready (someArguments {f = v} {a} {g = t} {b} q symbol any) pf pg last isLast =
+        let s = R .step in
+        let x = leftWalked (Application v a) pf in
+        let y = rightWalked (Application t b) pg in
+        record {
+          step = still;
+          alike = record { left = x .good; right = y .good; leftRow = walked-app N (s .top) A₁ (extend (s .base) (s .bindings)) e v a x; rightRow = walked-app N (s .top) A₂ (extend (s .base) (s .bindings)) d t b y; symbol = symbol };
+          arity = isLast;
+          some = subst (λ (n : ℕ). 1 ≤ n) (sym isLast) any;
+        }
+
+pub matched-ready : {N A A₁ B B₁ : List ℕ} {held v a t b last w n rest left total : ℕ} → ArgumentsReady N A B held v a t b last → Matched N A A₁ B B₁ held v a t b w n rest left total → 0 < rest → 1 ≤ n → n + rest ≡ last + 1 → (c d : ℕ) → c ≡ part N v n → d ≡ part N t n → PairReady N A₁ B₁ total (c, a) (d, b)
+matched-ready {N} {B₁ = B₁} {held} {v} {a} {t} {b} {n = n} {rest} {total = total} R K pos low all c d pc pd =
+    let s = R .step in
+    let L = R .alike in
+    let k = K (s .top) (s .first) (s .base) (s .bindings) (s .stand) L in
+    let T = s .stand .models .table in
+    let one = T .alike v t (L .left .row) (L .right .row) (L .leftRow) (L .rightRow) (L .symbol) in
+    record {
+      step = record { nodes = s .nodes; top = s .top; first = s .first; base = s .base; bindings = bindingsOnto B₁ held (total - held) (s .bindings); stand = k .stand };
+      left = arg-good N (s .top) v n rest pos c pc a low (omega (arith, R .arity)) T (L .left) (L .leftRow);
+      right = arg-good N (s .top) t n rest pos d pd b low (omega (arith, R .arity, one)) T (L .right) (L .rightRow);
+    }

@@ -1,28 +1,22 @@
 // The unification of two expressions, pair by pair. Every pair taken up costs one unit of work. `Pairs` in specs/ has the contracts.
-mod bindings;
-
-use bindings::push_binding;
+// The pair walk calls the argument walk and that calls the pair walk; the work left falls around the cycle.
+use super::Unified;
+use super::bindings::push_binding;
 use following::follow::Followed;
 use following::follow::follow;
 use following::follow::is_same;
+use following::nodes::Nodes;
 use following::nodes::arity_of;
 use following::nodes::part_of;
 use following::occurs::Occurs;
 use following::occurs::occurs_in;
+use following::values::ValueCells;
 use following::values::slot_of;
 use following::values::write_value;
 ghost use mathlib.Core.Path.{_≡_};
-ghost use Prim.Native.Nat.{_≤_};
 ghost use lib.ListN.{length};
-ghost use Rattle.unification.specs.Nodes.{nodeArity};
 ghost use Rattle.following.specs.declared.follow.Followed.the-variants.{Application};
-ghost use Rattle.pairs.specs.Pairs.{Meets, Paired, Bound, ArguedBefore, Filed, LeavesLess, LeavesNoMore};
-
-// The work left and the number of bindings held; or the reason for the refusal, 10 to 13.
-pub enum Unified {
-    Done(u16, u16),
-    Refused(u8),
-}
+ghost use Rattle.unify.specs.Pairs.{PairReady, BindReady, ArgumentsReady, Meets, Paired, Bound, ArguedBefore, Filed, LessWorkLeft, NoMoreWorkLeft};
 
 // What is to be done with two followed sides: a variable is bound to the other side, first row and index the variable's; nothing; the
 // symbols clash; or the arguments of two applications, of which there are some, are unified, the rows with their indices.
@@ -35,8 +29,8 @@ enum Meeting {
 
 // The variable v at index i is bound to t at index j, if it does not occur there and there is room for a binding.
 fn bind(
-    nodes: &[u16; 32768],
-    values: &mut [u16; 524416],
+    nodes: &Nodes,
+    values: &mut ValueCells,
     bindings: &mut [u16],
     held: u16,
     v: u16,
@@ -45,9 +39,9 @@ fn bind(
     j: u16,
     work: u16,
 ) -> Unified
-    requires { ⌜ (length (now nodes) ≡ 32768) × (length (now values) ≡ 524416) ⌝ }
+    requires { ⌜ BindReady (now nodes) (now values) (now bindings) held (v, i) (t, j) ⌝ }
     ensures { λ u. ⌜ Bound (now (nodes .entry)) (now (values .entry)) (now (values .exit)) (now (bindings .entry)) (now (bindings .exit)) held (v, i) (t, j) work u ⌝ }
-    ensures { λ u. ⌜ Filed (now (bindings .entry)) (now (bindings .exit)) held u × LeavesNoMore work u × (length (now (values .exit)) ≡ 524416) ⌝ }
+    ensures { λ u. ⌜ Filed (now (bindings .entry)) (now (bindings .exit)) held u × NoMoreWorkLeft work u × (length (now (values .exit)) ≡ 524416) ⌝ }
 {
     let o = occurs_in(nodes, values, v, i, t, j, work);
     match o {
@@ -68,7 +62,7 @@ fn bind(
 }
 
 // Two applications: nothing is to be done for the same row and index, or for one symbol without arguments.
-fn meet_applications(nodes: &[u16; 32768], f: u16, a: u16, g: u16, b: u16) -> Meeting
+fn meet_applications(nodes: &Nodes, f: u16, a: u16, g: u16, b: u16) -> Meeting
     requires { ⌜ length (now nodes) ≡ 32768 ⌝ }
     ensures { λ m. ⌜ Meets (now (nodes .entry)) (Application f a) (Application g b) m ⌝ }
 {
@@ -85,7 +79,7 @@ fn meet_applications(nodes: &[u16; 32768], f: u16, a: u16, g: u16, b: u16) -> Me
 }
 
 // The case of two followed sides. An unbound variable on the left comes before one on the right.
-fn meet(nodes: &[u16; 32768], x: Followed, y: Followed) -> Meeting
+fn meet(nodes: &Nodes, x: Followed, y: Followed) -> Meeting
     requires { ⌜ length (now nodes) ≡ 32768 ⌝ }
     ensures { λ m. ⌜ Meets (now (nodes .entry)) x y m ⌝ }
 {
@@ -107,11 +101,12 @@ fn meet(nodes: &[u16; 32768], x: Followed, y: Followed) -> Meeting
     }
 }
 
-// Unifies l at index i with r at index j. Both sides are followed and meet; the last arguments of two applications are taken up by the
-// loop, so that only nesting in arguments before the last takes calls and stack. They are read before those calls, which so keep less.
+// The pair walk: unifies l at index i with r at index j. Both sides are followed and meet. Of two applications the argument walk unifies
+// the arguments before the last, and the last ones are taken up by the loop here, so that only nesting in arguments before the last takes
+// calls and stack. They are read before those calls, which so keep less.
 pub fn unify_pair(
-    nodes: &[u16; 32768],
-    values: &mut [u16; 524416],
+    nodes: &Nodes,
+    values: &mut ValueCells,
     bindings: &mut [u16],
     mut held: u16,
     mut l: u16,
@@ -120,9 +115,9 @@ pub fn unify_pair(
     mut j: u16,
     mut work: u16,
 ) -> Unified
-    requires { ⌜ (length (now nodes) ≡ 32768) × (length (now values) ≡ 524416) ⌝ }
+    requires { ⌜ PairReady (now nodes) (now values) (now bindings) held (l, i) (r, j) ⌝ }
     ensures { λ u. ⌜ Paired (now (nodes .entry)) (now (values .entry)) (now (values .exit)) (now (bindings .entry)) (now (bindings .exit)) held (l, i) (r, j) work u ⌝ }
-    ensures { λ u. ⌜ Filed (now (bindings .entry)) (now (bindings .exit)) held u × LeavesLess work u × (length (now (values .exit)) ≡ 524416) ⌝ }
+    ensures { λ u. ⌜ Filed (now (bindings .entry)) (now (bindings .exit)) held u × LessWorkLeft work u × (length (now (values .exit)) ≡ 524416) ⌝ }
 {
     while work > 0 {
         work -= 1;
@@ -140,7 +135,7 @@ pub fn unify_pair(
                 i = a;
                 r = part_of(nodes, g, last);
                 j = b;
-                match unify_before(nodes, values, bindings, held, f, a, g, b, last, work) {
+                match unify_arguments(nodes, values, bindings, held, f, a, g, b, last, work) {
                     Unified::Done(w, h) => {
                         work = w;
                         held = h;
@@ -153,10 +148,11 @@ pub fn unify_pair(
     Unified::Refused(12)
 }
 
-// The arguments of two applications of one symbol before the last, in order.
-fn unify_before(
-    nodes: &[u16; 32768],
-    values: &mut [u16; 524416],
+// The argument walk: the arguments of two applications of one symbol, in order, but for the last ones, which the pair walk that called
+// takes up by its loop.
+fn unify_arguments(
+    nodes: &Nodes,
+    values: &mut ValueCells,
     bindings: &mut [u16],
     held: u16,
     f: u16,
@@ -166,10 +162,9 @@ fn unify_before(
     last: u16,
     work: u16,
 ) -> Unified
-    requires { ⌜ (length (now nodes) ≡ 32768) × (length (now values) ≡ 524416) ⌝ }
-    requires { ⌜ (last ≡ nodeArity (now nodes) f) × (1 ≤ last) ⌝ }
+    requires { ⌜ ArgumentsReady (now nodes) (now values) (now bindings) held f a g b last ⌝ }
     ensures { λ u. ⌜ ArguedBefore (now (nodes .entry)) (now (values .entry)) (now (values .exit)) (now (bindings .entry)) (now (bindings .exit)) held f a g b work u ⌝ }
-    ensures { λ u. ⌜ Filed (now (bindings .entry)) (now (bindings .exit)) held u × LeavesNoMore work u × (length (now (values .exit)) ≡ 524416) ⌝ }
+    ensures { λ u. ⌜ Filed (now (bindings .entry)) (now (bindings .exit)) held u × NoMoreWorkLeft work u × (length (now (values .exit)) ≡ 524416) ⌝ }
 {
     let mut n: u16 = 1;
     let mut left = work;

@@ -1,2 +1,0 @@
-pub mod BindingsAdded
-pub mod PairWalk
