@@ -31,7 +31,7 @@ use Rattle.verdict.specs.Tables.{Tables, lengthsOf, clauseCells, filledT
 use Rattle.verdict.specs.Verdict.{Verdict, refusal, check, accepted, open′, Answer, firstEmpty, everyClause, standing, verdictOf, answerOf, Lengths, longEnough, fittingLength, ending, Stands, Reading, verdictGiven, stateGiven}
 use Rattle.verdict.proofs.Acceptance.{none-empty, first-lowest, some-first, cells-length, index-cell}
 use Rattle.verdict.proofs.Added.{step-adds}
-use Rattle.verdict.proofs.Conditions.{not-true, either-false, unequal, equal, at-most}
+use Rattle.verdict.proofs.RangeTests.{not-true, either-false, unequal, equal, at-most}
 use Rattle.verdict.proofs.Inversions.{entry-below}
 use Rattle.verdict.proofs.Reading.{reading-length, reading-tables, reading-records, read-refused, reached-seven, reached-ok, reached-refused, comes-ok, stands-ok, term-of-row, one-arity}
 use Rattle.verdict.proofs.Refusals.{refused-condition, condition-refused, refused-no-unifier, condition-number}
@@ -380,7 +380,7 @@ module _ (file : List ℕ) (tables : Tables) where
   }
 
   -- The cell of a clause's maximum index in the table that the check leaves.
-  index-left : (S : State) → Stands file S → longEnough (lengthsOf tables) ≡ true → (n : ℕ) (c : Derivation) → clauseOf S n ≡ some c → getD (tablesAfter file tables .clauses) (5 * n + 2) 0 ≡ maximumIndex c
+  pub index-left : (S : State) → Stands file S → longEnough (lengthsOf tables) ≡ true → (n : ℕ) (c : Derivation) → clauseOf S n ≡ some c → getD (tablesAfter file tables .clauses) (5 * n + 2) 0 ≡ maximumIndex c
   index-left S st l n c q =
       let b : n < length (derivations S) = entry-below (derivations S) n c q in
       let m : length (derivations S) ≡ length (S .clauses) = length-map (S .clauses) (λ (d : ℕ × Derivation). d .1) in
