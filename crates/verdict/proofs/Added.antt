@@ -16,7 +16,8 @@ use Rattle.verdict.specs.Demands.{Adds, addsSymbol, addsVariable, addsAp
 use Rattle.verdict.specs.Refusal.{tests, kindOfRecord, inRange, argumentRows, leftOf, rightOf, deletedOf}
 use Rattle.verdict.specs.State.{State, nextClause}
 use Rattle.verdict.specs.Step.{stands, step, unifyResolve, unifyFactor, enter}
-use Rattle.verdict.proofs.Conditions.{of-kind, range-fits, resolves, factors, equal, unequal}
+use Rattle.verdict.proofs.RangeTests.{of-kind, range-fits, equal, unequal}
+use Rattle.verdict.proofs.StepTests.{resolves, factors}
 use Rattle.verdict.proofs.Inversions.{tests-passed, stands-same, all-stand, named-stands, clause-added, Passed}
 
 -- The number of a literal is the field that it is read off.

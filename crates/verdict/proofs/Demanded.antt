@@ -31,10 +31,10 @@ use Rattle.verdict.specs.Tables.{Tables, lengthsOf, clauseCells, filledT
 use Rattle.verdict.specs.Verdict.{Verdict, refusal, check, accepted, open′, Answer, firstEmpty, everyClause, standing, verdictOf, answerOf, Lengths, longEnough, fittingLength, ending, Stands, Reading, verdictGiven, stateGiven}
 use Rattle.verdict.proofs.Acceptance.{none-empty, first-lowest, some-first, cells-length, index-cell}
 use Rattle.verdict.proofs.Added.{step-adds}
-use Rattle.verdict.proofs.Conditions.{not-true, either-false, unequal, equal, at-most}
+use Rattle.verdict.proofs.RangeTests.{not-true, either-false, unequal, equal, at-most}
 use Rattle.verdict.proofs.Inversions.{entry-below}
 use Rattle.verdict.proofs.Reading.{reading-length, reading-tables, reading-records, read-refused, reached-seven, reached-ok, reached-refused, comes-ok, stands-ok, term-of-row, one-arity}
-use Rattle.verdict.proofs.Refusals.{refused-condition, condition-refused, refused-no-unifier, condition-number}
+use Rattle.verdict.proofs.Refusals.{refused-condition, condition-refused, refused-lowest, refused-no-unifier, condition-number}
 use Rattle.verdict.proofs.Resolution.{resolvent-added, factor-added, unifiable-stands}
 use Rattle.verdict.proofs.Standing.{below, order-of, inputs-of, known-of, held-links}
 
@@ -369,6 +369,7 @@ module _ (file : List ℕ) (tables : Tables) where
     factors = λ k S T r R e q. factor-added S (reached-ok file k S r R) k r Y T (ap kindNumbered e) q;
     noUnifier = λ k S r q R z m pairs A. refused-no-unifier file k S r R Y q z m pairs A;
     nothingLost = λ k S r R range pairs A signs τ u. unifiable-stands S (reached-ok file k S r R) k r (reached-seven file k S r R) Y range pairs A signs τ u;
+    recordDue = λ k S r q R z. (refused-condition file k S r R q z, refused-lowest file k S r R q z);
     refusals = due;
     statedNumbers = λ q k z. stated (reasonNumber q) k (condition-at q k (refused-by q k z));
     recordRefused = λ k S r R n C. condition-refused file k S r R n C;
@@ -380,7 +381,7 @@ module _ (file : List ℕ) (tables : Tables) where
   }
 
   -- The cell of a clause's maximum index in the table that the check leaves.
-  index-left : (S : State) → Stands file S → longEnough (lengthsOf tables) ≡ true → (n : ℕ) (c : Derivation) → clauseOf S n ≡ some c → getD (tablesAfter file tables .clauses) (5 * n + 2) 0 ≡ maximumIndex c
+  pub index-left : (S : State) → Stands file S → longEnough (lengthsOf tables) ≡ true → (n : ℕ) (c : Derivation) → clauseOf S n ≡ some c → getD (tablesAfter file tables .clauses) (5 * n + 2) 0 ≡ maximumIndex c
   index-left S st l n c q =
       let b : n < length (derivations S) = entry-below (derivations S) n c q in
       let m : length (derivations S) ≡ length (S .clauses) = length-map (S .clauses) (λ (d : ℕ × Derivation). d .1) in

@@ -4,7 +4,10 @@ pub mod Steps
 pub mod Reading
 pub mod Declared
 pub mod Acceptance
-pub mod Conditions
+pub mod RangeTests
+pub mod ExistenceTests
+pub mod RowTests
+pub mod StepTests
 pub mod Added
 pub mod Resolution
 pub mod Refusals

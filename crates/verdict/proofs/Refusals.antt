@@ -24,7 +24,10 @@ use Rattle.verdict.specs.Demands.{Reached, atomOf, StepAtoms, resolveAto
 use Rattle.verdict.specs.Refusal.{tests, Reason, unification, reasonNumber, kindOfRecord, inRange, leftOf, rightOf, deletedOf, newRow, differsFromAll}
 use Rattle.verdict.specs.State.{State, emptyState, rowsOf, rowOf, held, nextClause}
 use Rattle.verdict.specs.Step.{stands, refused, Result, require, requireAll, step, addClause, unifyResolve, unifyFactor, enter}
-use Rattle.verdict.proofs.Conditions.{of-kind, other-kind, range-over, out-of-range, arguments-absent, literal-rows-absent, resolve-absent, factor-absent, not-there, row-repeated, repeated-fails, literal-on-variable, on-variable-fails, resolves-left, resolves-right, factors-kept, factors-deleted, resolves, factors, both-named, resolve-signs, factor-signs, signs-fail, resolvent-over, factor-over, result-fails}
+use Rattle.verdict.proofs.RangeTests.{of-kind, other-kind, range-over, out-of-range}
+use Rattle.verdict.proofs.ExistenceTests.{arguments-absent, literal-rows-absent, resolve-absent, factor-absent, not-there}
+use Rattle.verdict.proofs.RowTests.{row-repeated, repeated-fails}
+use Rattle.verdict.proofs.StepTests.{literal-on-variable, on-variable-fails, resolves-left, resolves-right, factors-kept, factors-deleted, resolves, factors, both-named, resolve-signs, factor-signs, signs-fail, resolvent-over, factor-over, result-fails}
 use Rattle.verdict.proofs.Declared.{IsRow, variableRow, applicationRow, all-declared, declared-there}
 use Rattle.verdict.proofs.Inversions.{FirstFailing, failsHere, passesHere, AllPass, all-refused, clause-refused, never-both, refused-injective, Passed, tests-passed, testFor}
 use Rattle.verdict.proofs.Reading.{reached-shaped, reached-seven, reached-ok}

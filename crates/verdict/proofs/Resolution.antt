@@ -21,7 +21,8 @@ use Rattle.verdict.specs.Demands.{atomOf, StepAtoms, resolveAtoms, facto
 use Rattle.verdict.specs.Refusal.{tests, Reason, outOfRange, notThere, wrongSigns, tooLarge, kindOfRecord, inRange, leftOf, rightOf, deletedOf, bothThere, fittingSigns, resolventFits, factorFits}
 use Rattle.verdict.specs.State.{State, rowOf, termOf, held, nextClause}
 use Rattle.verdict.specs.Step.{stands, refused, Result, require, requireAll, step, addClause, unifyResolve, unifyFactor, enter}
-use Rattle.verdict.proofs.Conditions.{range-over, resolves-left, resolves-right, factors-kept, factors-deleted, resolve-signs, factor-signs}
+use Rattle.verdict.proofs.RangeTests.{range-over}
+use Rattle.verdict.proofs.StepTests.{resolves-left, resolves-right, factors-kept, factors-deleted, resolve-signs, factor-signs}
 use Rattle.verdict.proofs.Inversions.{tests-passed, all-stand, named-stands, literal-named, clause-added}
 use Rattle.verdict.proofs.Reading.{term-of-row, one-arity}
 use Rattle.verdict.proofs.Standing.{StateOk, order-of, ChainsAfter, resolve-chains, factor-chains}

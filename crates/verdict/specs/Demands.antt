@@ -161,6 +161,8 @@ pub record Demand2 (Y : Type 0) (file : List ℕ) (tables : Tables) : Type 0 whe
   pub nothingLost : (k : ℕ) (S : State) (r : Record) → Reached file k S r → ¬ OutOfRange r → (pairs : List TermPair) → StepAtoms S r pairs → ¬ SignsUnfit S r
       → (τ : Variable → Term Y) → Unifies τ pairs → StandsOrLimit S k r
   -- (d) No record and no file is refused unless the condition stated for the number given holds of it, and none with a lower number.
+  pub recordDue : (k : ℕ) (S : State) (r : Record) (reason : Reason) → Reached file k S r → step S k r ≡ refused reason
+      → Condition (take k (records file)) S r (reasonNumber reason) × ((other : ℕ) → Condition (take k (records file)) S r other → reasonNumber reason ≤ other)
   pub refusals : (reason : Reason) (k : ℕ) → check file (lengthsOf tables) .verdict ≡ refusal reason k → Due file tables (reasonNumber reason) k
   pub statedNumbers : (reason : Reason) (k : ℕ) → check file (lengthsOf tables) .verdict ≡ refusal reason k
       → OneOf (reasonNumber reason) (1 ∷ 2 ∷ 3 ∷ 4 ∷ 5 ∷ 6 ∷ 7 ∷ 8 ∷ 9 ∷ 10 ∷ 11 ∷ 12 ∷ 13 ∷ [])

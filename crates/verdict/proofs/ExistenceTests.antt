@@ -1,0 +1,205 @@
+-- The tests of what exists say what the condition of 5 says.
+use mathlib.Core.Path.{_≡_, refl, sym, ap, _∙_, subst}
+use mathlib.Core.Logic.{_⊎_, inl, inr}
+use mathlib.Core.Bool.{Bool, true, false}
+use mathlib.Core.Option.{Option, none, some}
+use mathlib.Core.List.{List, [], _∷_, map}
+use Prim.Native.Nat.{ℕ, zero, suc, _+_, _-_, _/_, _≤_, _<_}
+use native.Mathlib.Omega.{arith}
+use lib.Dec.{eqb, leb, ltb}
+use lib.ListN.{length, getD, take, drop, length-take, length-drop, length-map, List·getD-map}
+use lib.Seq.{getD-take, getD-drop}
+use Rattle.record.specs.Record.{pick, Record, Kind, applicationKind, inputKind, resolveKind, factorKind, kindNumbered, fieldA, fieldB, fieldC, fieldD}
+use Rattle.unification.specs.Row.{Row}
+use Rattle.unification.proofs.Lists.{map-map}
+use Rattle.unification.proofs.Tests.{both-true, true-not-false, some-not-none, some-injective}
+use Rattle.derivation.specs.Derivation.{literals, Literal, RowLiteral, literalOf, inputLiterals, Derivation, numbered}
+use Rattle.verdict.specs.Conditions.{fieldNumbered, Names, leftLiteral, rightLiteral, keptLiteral, deletedLiteral, NotThere, noSymbolThere, otherArity, noArgumentRow, noLiteralRow, noClause, noLiteral}
+use Rattle.verdict.specs.Refusal.{tests, kindOfRecord, argumentRows, literalIn, literalNamed, leftOf, rightOf, deletedOf, isThere, hasArity, allBelow, argumentsThere, literalRowsThere, bothThere}
+use Rattle.verdict.specs.State.{arities, State, entry, rowsOf, derivations, arityOf, clauseOf}
+use Rattle.verdict.proofs.Inversions.{literal-named, is-there, has-arity, all-below, entry-below, testFor}
+use Rattle.verdict.proofs.RangeTests.{at-most, either-false, not-true, not-under, of-kind, unequal}
+
+-- 5: what exists.
+entry-there : {A : Type 0} (xs : List A) (n : ℕ) → entry xs n ≡ none → length xs ≤ n
+entry-there [] n q = omega arith
+entry-there {A} (x ∷ xs) n q = try (eqb n (length xs)) refl q (λ z. entry-there xs n z)
+  where
+    try : (b : Bool) → eqb n (length xs) ≡ b → pick b (some x) (entry xs n) ≡ none → (entry xs n ≡ none → length xs ≤ n) → suc (length xs) ≤ n
+    try true p z k = absurd (some-not-none z refl)
+    try false p z k = let l = k z in let d = unequal n (length xs) p in omega arith
+
+numbered-there : {A : Type 0} (xs : List A) (n : ℕ) → numbered xs n ≡ none → (n ≡ 0) ⊎ (length xs < n)
+numbered-there [] zero q = inl refl
+numbered-there [] (suc n) q = inr (omega arith)
+numbered-there (x ∷ xs) zero q = inl refl
+numbered-there (x ∷ xs) (suc zero) q = absurd (some-not-none q refl)
+numbered-there (x ∷ xs) (suc (suc n)) q = try (numbered-there xs (suc n) q)
+  where
+    try : (suc n ≡ 0) ⊎ (length xs < suc n) → (suc (suc n) ≡ 0) ⊎ (suc (length xs) < suc (suc n))
+    try (inl e) = absurd (omega arith)
+    try (inr l) = inr (omega arith)
+
+numbered-within : {A : Type 0} (xs : List A) (n : ℕ) (a : A) → numbered xs n ≡ some a → (1 ≤ n) × (n ≤ length xs)
+numbered-within [] n a q = absurd (some-not-none refl q)
+numbered-within (x ∷ xs) zero a q = absurd (some-not-none refl q)
+numbered-within (x ∷ xs) (suc zero) a q = (omega arith, omega arith)
+numbered-within (x ∷ xs) (suc (suc n)) a q = let z = numbered-within xs (suc n) a q in (omega arith, omega arith)
+
+below-false : (n : ℕ) (xs : List ℕ) → allBelow n xs ≡ false → (i : ℕ) × (i < length xs) × (n ≤ getD xs i 0)
+below-false n [] q = absurd (true-not-false refl q)
+below-false n (a ∷ xs) q = try (either-false (ltb a n) (allBelow n xs) q) (λ z. below-false n xs z)
+  where
+    try : (ltb a n ≡ false) ⊎ (allBelow n xs ≡ false) → (allBelow n xs ≡ false → (i : ℕ) × (i < length xs) × (n ≤ getD xs i 0)) → (i : ℕ) × (i < length (a ∷ xs)) × (n ≤ getD (a ∷ xs) i 0)
+    try (inl p) k = (0, omega arith, not-under a n p)
+    try (inr p) k = (suc (k p .0), let l = k p .1 in omega arith, k p .2)
+
+below-true : (n : ℕ) (xs : List ℕ) → allBelow n xs ≡ true → (i : ℕ) → i < length xs → getD xs i 0 < n
+below-true n [] q i l = absurd (omega arith)
+below-true n (a ∷ xs) q zero l = all-below n (a ∷ xs) q .0
+below-true n (a ∷ xs) q (suc i) l = below-true n xs (both-true (ltb a n) (allBelow n xs) q .1) i (omega arith)
+
+module _ (S : State) (r : Record) (seven : length (r .fields) ≡ 7) where
+  many-rows : length (rowsOf S) ≡ length (S .rows)
+  many-rows = length-map (S .rows) (λ (w : ℕ × Row). w .1)
+
+  many-symbols : length (arities S) ≡ length (S .symbols)
+  many-symbols = length-map (S .symbols) (λ (s : ℕ × ℕ). s .1)
+
+  many-clauses : length (derivations S) ≡ length (S .clauses)
+  many-clauses = length-map (S .clauses) (λ (c : ℕ × Derivation). c .1)
+
+  argument-at : (i : ℕ) → i < r .count → getD (argumentRows r) i 0 ≡ fieldNumbered r (1 + i)
+  argument-at i l = getD-take (r .count) (drop 1 (r .fields)) i 0 l ∙ getD-drop 1 (r .fields) i 0
+
+  abbrev literalRows : List ℕ
+  literalRows = map (λ (l : RowLiteral). l .1) (inputLiterals r)
+
+  pub literal-row-at : (i : ℕ) → i < r .count → getD literalRows i 0 ≡ fieldNumbered r i / 2
+  literal-row-at i l =
+      ap (λ (xs : List ℕ). getD xs i 0) (map-map (λ (x : RowLiteral). x .1) literalOf (take (r .count) (r .fields)))
+      ∙ List·getD-map (λ (n : ℕ). n / 2) (take (r .count) (r .fields)) i 0
+      ∙ ap (λ (n : ℕ). n / 2) (getD-take (r .count) (r .fields) i 0 l)
+
+  -- Of an application.
+  pub arguments-absent : kindOfRecord r ≡ applicationKind → argumentsThere S r ≡ false → NotThere S r
+  arguments-absent e q = try (either-false (hasArity (r .count) (arityOf S (fieldA r))) (allBelow (length (rowsOf S)) (argumentRows r)) q)
+    where
+      k : r .kind ≡ 3
+      k = of-kind r applicationKind e
+
+      arity : (o : Option ℕ) → arityOf S (fieldA r) ≡ o → hasArity (r .count) o ≡ false → NotThere S r
+      arity none p z = noSymbolThere k (let l = entry-there (arities S) (fieldA r) p in omega (arith, many-symbols))
+      arity (some n) p z = otherArity k p (λ y. unequal n (r .count) z (sym y))
+
+      try : (hasArity (r .count) (arityOf S (fieldA r)) ≡ false) ⊎ (allBelow (length (rowsOf S)) (argumentRows r) ≡ false) → NotThere S r
+      try (inl p) = arity (arityOf S (fieldA r)) refl p
+      try (inr p) =
+          let z = below-false (length (rowsOf S)) (argumentRows r) p in
+          let l : z .0 < r .count = let w : z .0 < length (argumentRows r) = z .1 in let y = length-take (r .count) (drop 1 (r .fields)) in omega arith in
+          let v : length (S .rows) ≤ fieldNumbered r (1 + z .0) = let a = argument-at (z .0) l in let b = z .2 in omega (arith, many-rows) in
+          noArgumentRow k (1 + z .0) (omega arith) (omega arith) v
+
+  -- Of an input clause.
+  pub literal-rows-absent : kindOfRecord r ≡ inputKind → literalRowsThere S r ≡ false → NotThere S r
+  literal-rows-absent e q =
+      let z = below-false (length (rowsOf S)) literalRows q in
+      let l : z .0 < r .count = let w = z .1 in let y = length-map (inputLiterals r) (λ (l : RowLiteral). l .1) in let x = length-map (take (r .count) (r .fields)) literalOf in let v = length-take (r .count) (r .fields) in omega arith in
+      noLiteralRow (of-kind r inputKind e) (z .0) l (let a = literal-row-at (z .0) l in let b = z .2 in omega (arith, many-rows))
+
+  -- Of a step.
+  literal-absent : (c n : ℕ) → Names r c n → isThere (literalNamed S c n) ≡ false → NotThere S r
+  literal-absent c n names q = clause (clauseOf S c) refl q
+    where
+      literal : (d : Derivation) → clauseOf S c ≡ some d → (o : Option Literal) → numbered (literals d) n ≡ o → isThere {A = Derivation × Literal} (elim o [ some l ↦ some (d, l) | none ↦ none ]) ≡ false → NotThere S r
+      literal d p none z y = noLiteral names p (numbered-there (literals d) n z)
+      literal d p (some l) z y = absurd (true-not-false refl y)
+
+      clause : (o : Option Derivation) → clauseOf S c ≡ o → isThere (literalIn n o) ≡ false → NotThere S r
+      clause none p z = noClause names (let l = entry-there (derivations S) c p in omega (arith, many-clauses))
+      clause (some d) p z = literal d p (numbered (literals d) n) refl z
+
+  both-absent : (c n d m : ℕ) → Names r c n → Names r d m → bothThere (literalNamed S c n) (literalNamed S d m) ≡ false → NotThere S r
+  both-absent c n d m x y q = try (either-false (isThere (literalNamed S c n)) (isThere (literalNamed S d m)) q)
+    where
+      try : (isThere (literalNamed S c n) ≡ false) ⊎ (isThere (literalNamed S d m) ≡ false) → NotThere S r
+      try (inl p) = literal-absent c n x p
+      try (inr p) = literal-absent d m y p
+
+  pub resolve-absent : kindOfRecord r ≡ resolveKind → bothThere (leftOf S r) (rightOf S r) ≡ false → NotThere S r
+  resolve-absent e q = both-absent (fieldA r) (fieldB r) (fieldC r) (fieldD r) (leftLiteral (of-kind r resolveKind e)) (rightLiteral (of-kind r resolveKind e)) q
+
+  pub factor-absent : kindOfRecord r ≡ factorKind → bothThere (leftOf S r) (deletedOf S r) ≡ false → NotThere S r
+  factor-absent e q = both-absent (fieldA r) (fieldB r) (fieldA r) (fieldC r) (keptLiteral (of-kind r factorKind e)) (deletedLiteral (of-kind r factorKind e)) q
+
+  -- The test for a number fails, by the record's kind.
+  abbrev TestFails : ℕ → Type 0
+  TestFails n = testFor (tests S (kindOfRecord r) r) n ≡ false
+
+  pub at-number : (k n : ℕ) → r .kind ≡ k → testFor (tests S (kindNumbered k) r) n ≡ false → TestFails n
+  at-number k n e q = subst (λ (kind : Kind). testFor (tests S kind r) n ≡ false) (sym (ap kindNumbered e)) q
+
+  named-within : (c n : ℕ) → isThere (literalNamed S c n) ≡ true → (d : Derivation) × (clauseOf S c ≡ some d) × (c < length (S .clauses)) × (1 ≤ n) × (n ≤ length (literals d))
+  named-within c n q =
+      let x = is-there (literalNamed S c n) q in
+      let l = literal-named S c n (x .0) (x .1) in
+      let w = numbered-within (literals (x .0 .0)) n (x .0 .1) (l .1) in
+      (x .0 .0, l .0, let z = entry-below (derivations S) c (x .0 .0) (l .0) in omega (arith, many-clauses), w .0, w .1)
+
+  -- A named literal that is absent makes the test of both fail.
+  absent-fails : (P : ℕ → ℕ → Type 0) → ((c n : ℕ) → P c n → ¬ (isThere (literalNamed S c n) ≡ true)) → (c n : ℕ) → Names r c n → P c n → TestFails 5
+  absent-fails P never c n (leftLiteral e) p = at-number 5 5 e (not-true (bothThere (leftOf S r) (rightOf S r)) (λ t. never (fieldA r) (fieldB r) p (both-true (isThere (leftOf S r)) (isThere (rightOf S r)) t .0)))
+  absent-fails P never c n (rightLiteral e) p = at-number 5 5 e (not-true (bothThere (leftOf S r) (rightOf S r)) (λ t. never (fieldC r) (fieldD r) p (both-true (isThere (leftOf S r)) (isThere (rightOf S r)) t .1)))
+  absent-fails P never c n (keptLiteral e) p = at-number 6 5 e (not-true (bothThere (leftOf S r) (deletedOf S r)) (λ t. never (fieldA r) (fieldB r) p (both-true (isThere (leftOf S r)) (isThere (deletedOf S r)) t .0)))
+  absent-fails P never c n (deletedLiteral e) p = at-number 6 5 e (not-true (bothThere (leftOf S r) (deletedOf S r)) (λ t. never (fieldA r) (fieldC r) p (both-true (isThere (leftOf S r)) (isThere (deletedOf S r)) t .1)))
+
+  arguments-fail : r .kind ≡ 3 → ((arityOf S (fieldA r) ≡ some (r .count)) × (allBelow (length (rowsOf S)) (argumentRows r) ≡ true) → ⊥) → TestFails 5
+  arguments-fail e never = at-number 3 5 e (not-true (argumentsThere S r) (λ t.
+      let p = both-true (hasArity (r .count) (arityOf S (fieldA r))) (allBelow (length (rowsOf S)) (argumentRows r)) t in
+      never (has-arity (r .count) (arityOf S (fieldA r)) (p .0), p .1)))
+
+  argument-there : (i : ℕ) → 1 ≤ i → i ≤ r .count → r .count ≤ 6 → allBelow (length (rowsOf S)) (argumentRows r) ≡ true → fieldNumbered r i < length (S .rows)
+  argument-there i a b c t =
+      let n : i - 1 < length (argumentRows r) = simp (length-take, length-drop) (omega arith) in
+      let z = below-true (length (rowsOf S)) (argumentRows r) t (i - 1) n in
+      let y = argument-at (i - 1) (omega arith) in
+      let e : 1 + (i - 1) ≡ i = omega arith in
+      let x : fieldNumbered r (1 + (i - 1)) ≡ fieldNumbered r i = ap (fieldNumbered r) e in
+      omega (arith, many-rows)
+
+  literal-row-there : (i : ℕ) → i < r .count → r .count ≤ 7 → literalRowsThere S r ≡ true → fieldNumbered r i / 2 < length (S .rows)
+  literal-row-there i a c t =
+      let n : i < length literalRows = simp (length-map, length-take) (omega arith) in
+      let z = below-true (length (rowsOf S)) literalRows t i n in
+      let y = literal-row-at i a in
+      omega (arith, many-rows)
+
+  -- 5 holds: its test fails, or that of 4 does.
+  pub not-there : NotThere S r → (TestFails 4) ⊎ (TestFails 5)
+  not-there (noSymbolThere e l) = inr (arguments-fail e (λ p. let z = entry-below (arities S) (fieldA r) (r .count) (p .0) in omega (arith, many-symbols)))
+  not-there (otherArity e p n) = inr (arguments-fail e (λ q. n (some-injective (sym (q .0) ∙ p))))
+  not-there (noArgumentRow e i a b l) = try (leb (r .count) 6) refl
+    where
+      try : (b : Bool) → leb (r .count) 6 ≡ b → (TestFails 4) ⊎ (TestFails 5)
+      try true q = inr (arguments-fail e (λ p. let z = argument-there i a b (at-most (r .count) 6 q) (p .1) in omega arith))
+      try false q = inl (at-number 3 4 e (rw q refl))
+  not-there (noLiteralRow e i a l) = try (leb (r .count) 7) refl
+    where
+      try : (b : Bool) → leb (r .count) 7 ≡ b → (TestFails 4) ⊎ (TestFails 5)
+      try true q = inr (at-number 4 5 e (not-true (literalRowsThere S r) (λ t. let z = literal-row-there i a (at-most (r .count) 7 q) t in omega arith)))
+      try false q = inl (at-number 4 4 e (rw q refl))
+  not-there (noClause {c} {n} names l) = inr (absent-fails (λ c n. length (S .clauses) ≤ c) (λ c n p t. let z = named-within c n t .2 in omega arith) c n names l)
+  not-there (noLiteral {c} {n} {d} names p h) = inr (absent-fails (λ c n. (clauseOf S c ≡ some d) × ((n ≡ 0) ⊎ (length (literals d) < n))) never c n names (p, h))
+    where
+      never : (c n : ℕ) → (clauseOf S c ≡ some d) × ((n ≡ 0) ⊎ (length (literals d) < n)) → ¬ (isThere (literalNamed S c n) ≡ true)
+      never c n (q) t = out (q .1)
+        where
+          w : (d : Derivation) × (clauseOf S c ≡ some d) × (c < length (S .clauses)) × (1 ≤ n) × (n ≤ length (literals d))
+          w = named-within c n t
+
+          one : w .0 ≡ d
+          one = some-injective (sym (w .1) ∙ q .0)
+
+          out : (n ≡ 0) ⊎ (length (literals d) < n) → ⊥
+          out (inl z) = let a = w .3 in omega arith
+          out (inr z) = let a = w .4 in let b : length (literals (w .0)) ≡ length (literals d) = ap (λ (x : Derivation). length (literals x)) one in omega arith
