@@ -20,7 +20,7 @@ use Rattle.verdict.specs.Refusal.{Reason, reasonNumber}
 use Rattle.verdict.specs.State.{State, bindingsOf}
 use Rattle.verdict.specs.Step.{Ending, allStand, refusedAt, stateOf}
 use Rattle.verdict.specs.Tables.{Tables, cellsOfClause, clauseCells, filledTables}
-use Rattle.verdict.specs.Verdict.{verdictNumbers, answerNumbers, isEmpty, firstEmpty, standing, verdictOf, answerOf, ending}
+use Rattle.verdict.specs.Verdict.{verdictNumbers, answerNumbers, isEmpty, firstEmpty, everyClause, standing, verdictOf, answerOf, ending}
 use Rattle.verdict.proofs.Acceptance.{cells-length}
 use Rattle.entry.proofs.Kept.{Sizes, sizes}
 use Rattle.entry.specs.declared.entry.Counts.{Counts}
@@ -50,12 +50,12 @@ empty-length : {A : Type 0} (xs : List A) → eqb (length xs) 0 ≡ isEmpty xs
 empty-length [] = refl
 empty-length (x ∷ xs) = ne-eqb (suc (length xs)) 0 (λ q. omega arith)
 
-first-zero : (cs : List (ℕ × Derivation)) (rest : List ℕ) → firstZero (clauseCells cs ++ rest) (length cs) ≡ firstEmpty (map (λ (c : ℕ × Derivation). c .1) cs)
+first-zero : (cs : List (ℕ × Derivation)) (rest : List ℕ) → firstZero (clauseCells cs ++ rest) (length cs) ≡ firstEmpty everyClause (map (λ (c : ℕ × Derivation). c .1) cs)
 first-zero [] rest = refl
 first-zero (c ∷ cs) rest =
     ap (λ (x : List ℕ). firstZero x (suc (length cs))) (append-assoc front five rest)
     ∙ ap₂ (λ (o : Option ℕ) (b : Bool). elim o [ some m ↦ some m | none ↦ pick b (some (length cs)) none ]) (first-zero cs (five ++ rest)) (ap (λ (n : ℕ). eqb n 0) cell ∙ empty-length (literals (c .1)))
-    ∙ ap (λ (n : ℕ). elim (firstEmpty (map (λ (d : ℕ × Derivation). d .1) cs)) [ some m ↦ some m | none ↦ pick (isEmpty (literals (c .1))) (some n) none ]) (sym (length-map cs (λ (d : ℕ × Derivation). d .1)))
+    ∙ ap (λ (n : ℕ). elim (firstEmpty everyClause (map (λ (d : ℕ × Derivation). d .1) cs)) [ some m ↦ some m | none ↦ pick (isEmpty (literals (c .1))) (some n) none ]) (sym (length-map cs (λ (d : ℕ × Derivation). d .1)))
   where
     front : List ℕ
     front = clauseCells cs

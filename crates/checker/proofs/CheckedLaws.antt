@@ -30,42 +30,7 @@ use Rattle.answer.specs.declared.Answer.{Answer}
 use Rattle.answer.specs.declared.Verdict.{Verdict}
 use Rattle.answer.specs.declared.Verdict.the-variants as verdict
 
--- An answer whose numbers say accepted is one.
-accepted-number : (v : verdicts.Verdict) (rest counts : List ℕ) (n : ℕ) → (1 ∷ n ∷ 0 ∷ rest) ≡ verdictNumbers v ++ counts → v ≡ accepted n
-accepted-number (accepted m) rest counts n q = ap accepted (sym (ap (λ (l : List ℕ). getD l 1 0) q))
-accepted-number open′ rest counts n q = absurd (let z : _≡_ {A = ℕ} 1 0 = ap (λ (l : List ℕ). getD l 0 0) q in omega arith)
-accepted-number (refusal reason k) rest counts n q = absurd (let z : _≡_ {A = ℕ} 1 2 = ap (λ (l : List ℕ). getD l 0 0) q in omega arith)
-
 module _ (F : List ℕ) (t : Tables) (a : Answer) (here : Tables) (isAnswer : answerGiven a ≡ answerNumbers (check F (lengthsOf t))) (isTables : here ≡ tablesAfter F t) where
-  accepted-given : (n : ℕ) → a .verdict ≡ verdict.Accepted n → check F (lengthsOf t) .verdict ≡ accepted n
-  accepted-given n q =
-      accepted-number (check F (lengthsOf t) .verdict) (a .symbols ∷ a .rows ∷ a .clauses ∷ a .bindings ∷ []) (check F (lengthsOf t) .symbols ∷ check F (lengthsOf t) .rows ∷ check F (lengthsOf t) .clauses ∷ check F (lengthsOf t) .bindings ∷ []) n
-      (sym (ap (λ (v : Verdict). verdictGiven v ++ (a .symbols ∷ a .rows ∷ a .clauses ∷ a .bindings ∷ [])) q) ∙ isAnswer)
-
-  cell-read : (n : ℕ) → check F (lengthsOf t) .verdict ≡ accepted n → (c : Derivation) → clauseOf (stateOf (ending F)) n ≡ some c → getD (here .clauses) (5 * n + 2) 0 ≡ getD (clauseCells (stateOf (ending F) .clauses)) (5 * n + 2) 0
-  cell-read n q c e = try (fittingLength (length F)) refl (longEnough (lengthsOf t)) refl
-    where
-      no : (reason : Reason) → check F (lengthsOf t) .verdict ≡ refusal reason 0 → ⊥
-      no reason z = let w : _≡_ {A = ℕ} 1 2 = ap (λ (v : verdicts.Verdict). getD (verdictNumbers v) 0 0) (sym q ∙ z) in omega arith
-
-      below : 5 * n + 2 < length (clauseCells (stateOf (ending F) .clauses))
-      below =
-          let m = entry-below (derivations (stateOf (ending F))) n c e in
-          omega (arith, length-map (stateOf (ending F) .clauses) (λ (x : ℕ × Derivation). x .1), cells-length (stateOf (ending F) .clauses))
-
-      try : (b : Bool) → fittingLength (length F) ≡ b → (d : Bool) → longEnough (lengthsOf t) ≡ d → getD (here .clauses) (5 * n + 2) 0 ≡ getD (clauseCells (stateOf (ending F) .clauses)) (5 * n + 2) 0
-      try false f d l = absurd (no badLength (ap (λ (x : verdicts.Answer). x .verdict) (check-length F t f)))
-      try true f false l = absurd (no shortTable (ap (λ (x : verdicts.Answer). x .verdict) (check-tables F t f l)))
-      try true f true l =
-          ap (λ (x : Tables). getD (x .clauses) (5 * n + 2) 0) (isTables ∙ tables-read F t f l)
-          ∙ List·getD-append (clauseCells (stateOf (ending F) .clauses)) (replicate (20480 - length (clauseCells (stateOf (ending F) .clauses))) 0 ++ drop 20480 (t .clauses)) 0 (5 * n + 2) below
-
-  maximum-there : (n : ℕ) → a .verdict ≡ verdict.Accepted n → (c : Derivation) → clauseOf (stateOf (ending F)) n ≡ some c → getD (here .clauses) (5 * n + 2) 0 ≡ maximumIndex c
-  maximum-there n q c e =
-      let z = accepted-given n q in
-      let r = demand3 F t .refuted n z in
-      cell-read n z c e ∙ r .inTable ∙ r .count ∙ ap maximumIndex (some-injective (sym (r .first .isClause) ∙ e))
-
   pub checked : Checked F t a here
   checked = record {
     answer = isAnswer;
@@ -76,7 +41,6 @@ module _ (F : List ℕ) (t : Tables) (a : Answer) (here : Tables) (isAnswer : an
     honest = demand1 F t;
     textbook = demand2 F t Variable;
     refutation = demand3 F t;
-    maximum = maximum-there;
   }
 
 pub readable : (F : List ℕ) (t : Tables) (b : Bool) → b ≡ fittingLength (length F) → not b ≡ false → (d : Bool) → d ≡ longEnough (lengthsOf t) → not d ≡ false → Readable F t

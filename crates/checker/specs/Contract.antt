@@ -1,22 +1,19 @@
 -- The contract of the check: what `check` promises of every file and every four tables, with no condition on the call.
 use mathlib.Core.Path.{_≡_}
-use mathlib.Core.Bool.{true, _&&_}
-use mathlib.Core.Option.{some}
+use mathlib.Core.Bool.{true}
 use mathlib.Core.List.{List}
-use Prim.Native.Nat.{ℕ, _+_, _*_}
-use lib.ListN.{length, getD}
+use Prim.Native.Nat.{ℕ}
+use lib.ListN.{length}
 use Rattle.unification.specs.Row.{Variable}
-use Rattle.derivation.specs.Derivation.{Derivation, maximumIndex}
 use Rattle.derivation.specs.Stored.{originTableOf}
 use Rattle.verdict.specs.Demands.{Demand1, Demand2, Demand3}
 use Rattle.answer.specs.Given.{answerGiven}
 use Rattle.entry.specs.Progress.{nodeTableOf, ReadTo}
-use Rattle.verdict.specs.State.{State, emptyState, rowsOf, derivations, clauseOf}
+use Rattle.verdict.specs.State.{rowsOf, derivations}
 use Rattle.verdict.specs.Step.{stateOf}
 use Rattle.verdict.specs.Tables.{Tables, lengthsOf, tablesAfter}
-use Rattle.verdict.specs.Verdict.{check, answerNumbers, Lengths, longEnough, fittingLength, ending, reading, stateGiven}
+use Rattle.verdict.specs.Verdict.{check, answerNumbers, longEnough, fittingLength, ending, Reading, untouched, readTo, reading}
 use Rattle.answer.specs.declared.Answer.{Answer}
-use Rattle.answer.specs.declared.Verdict.the-variants as verdict
 
 pub record Checked (file : List ℕ) (before : Tables) (a : Answer) (after : Tables) : Type 0 where
   -- The seven numbers of the answer, and each table at exit, cell by cell.
@@ -29,12 +26,6 @@ pub record Checked (file : List ℕ) (before : Tables) (a : Answer) (after : Tab
   pub honest : Demand1 file before
   pub textbook : Demand2 Variable file before
   pub refutation : Demand3 file before
-  -- The maximum index of an accepted clause is the cell that the table of clauses then holds.
-  pub maximum : (n : ℕ) → a .verdict ≡ verdict.Accepted n → (c : Derivation) → clauseOf (stateOf (ending file)) n ≡ some c → getD (after .clauses) (5 * n + 2) 0 ≡ maximumIndex c
-
--- The state that a check leaves: that of the records that stand; none where the length does not fit or a table is too short.
-abbrev pub stateLeft : List ℕ → Lengths → State
-stateLeft file lengths = stateGiven (reading file lengths)
 
 -- A node table, a table of origins and an array of values that the caller lends, whatever they hold.
 pub record Workspace : Type 0 where
@@ -45,12 +36,21 @@ pub record Workspace : Type 0 where
 abbrev pub workspaceWith : List ℕ → List ℕ → List ℕ → Workspace
 workspaceWith N O A = record { nodes = N; origins = O; values = A }
 
+-- The node table and the table of origins after a check: those of the state left where records were read, and untouched otherwise.
+abbrev pub nodesGiven : Reading → List ℕ → List ℕ
+nodesGiven (untouched reason) N = N
+nodesGiven (readTo e) N = nodeTableOf (rowsOf (stateOf e))
+
+abbrev pub originsGiven : Reading → List ℕ → List ℕ
+originsGiven (untouched reason) O = O
+originsGiven (readTo e) O = originTableOf (derivations (stateOf e))
+
 -- The same promise with a workspace that the caller lends. Where records were read, the node table and the table of origins then have the
 -- rows and the clauses of the state left; for reasons 1 and 2 they are untouched. What the array holds is left to the program.
 pub record CheckedWith (file : List ℕ) (before : Tables) (lent : Workspace) (a : Answer) (after : Tables) (left : Workspace) : Type 0 where
   pub checked : Checked file before a after
-  pub nodes : left .nodes ≡ pick (fittingLength (length file) && longEnough (lengthsOf before)) (nodeTableOf (rowsOf (stateOf (ending file)))) (lent .nodes)
-  pub origins : left .origins ≡ pick (fittingLength (length file) && longEnough (lengthsOf before)) (originTableOf (derivations (stateOf (ending file)))) (lent .origins)
+  pub nodes : left .nodes ≡ nodesGiven (reading file (lengthsOf before)) (lent .nodes)
+  pub origins : left .origins ≡ originsGiven (reading file (lengthsOf before)) (lent .origins)
   pub nodeRoom : length (left .nodes) ≡ 32768
   pub originRoom : length (left .origins) ≡ 32768
   pub values : length (left .values) ≡ 524416
