@@ -6,37 +6,38 @@ use mathlib.Core.List.{List, _++_, map}
 use Prim.Native.Nat.{ℕ, _+_, _-_, _≤_, _<_}
 use native.Mathlib.Omega.{arith}
 use lib.Dec.{eqb, leb}
-use lib.ListN.{length, length-append, length-map}
+use lib.ListN.{length, take, length-append, length-map}
 use borrow.Author.Tests.{eqb-true, eqb-false, leb-true, leb-false}
-use Rattle.record.specs.Record.{pick, recordPart, kindOf, fieldOf, fieldA, fieldB, fieldC, fieldD}
-use Rattle.derivation.specs.Derivation.{literals, input, Literal, RowLiteral, inputLiterals, Derivation, numbered, without, raiseLiteral, placed, maximumIndex}
+use Rattle.record.specs.Record.{pick}
+use Rattle.unification.specs.Nodes.{part}
+use Rattle.derivation.specs.Derivation.{literals, Literal, RowLiteral, literalOf, Derivation, numbered, without, raiseLiteral, placed, maximumIndex}
 use Rattle.clauses.specs.Named.{leftOver, passed, raiseNamed}
-use Rattle.derivation.specs.Stored.{recordCell, literalsCell, indexCell, recordOf, Stored, storedInput, storedResolve, storedFactor}
+use Rattle.derivation.specs.Stored.{originCode, originNumbers, literalsCell, indexCell, Stored, storedInput, storedResolve, storedFactor}
 use Rattle.clauses.proofs.Numbers.{length-without, numbered-without, passed-in, numbered-left, numbered-right, numbered-raised, raise-named-twice, input-few, input-numbered}
 use Rattle.clauses.proofs.Origins.{stored-cells}
 use Rattle.lines.specs.Literals.{literalWith, listed, Holds, Placed, Deleted, Collectable, Collected}
 
--- The first n fields of an input clause's record w are in the list.
-pub record FieldsPlaced (L L′ w : List ℕ) (base o n : ℕ) : Type 0 where
+-- The first n numbers of an input clause's origin are in the list.
+pub record FieldsPlaced (L L′ O : List ℕ) (c base o n : ℕ) : Type 0 where
   pub room : length L′ ≡ 8704
   pub before : (k : ℕ) → k ≤ base → listed L′ k ≡ listed L k
-  pub fields : (k : ℕ) → 1 ≤ k → k ≤ n → listed L′ (base + k) ≡ literalWith (fieldOf w (k - 1)) (o + 1)
+  pub fields : (k : ℕ) → 1 ≤ k → k ≤ n → listed L′ (base + k) ≡ literalWith (part O c (k - 1)) (o + 1)
 
-pub fields-none : (L w : List ℕ) (base o : ℕ) → length L ≡ 8704 → FieldsPlaced L L w base o 0
-fields-none L w base o room = record { room = room; before = λ k h. refl; fields = λ k l h. absurd (omega arith) }
+pub fields-none : (L O : List ℕ) (c base o : ℕ) → length L ≡ 8704 → FieldsPlaced L L O c base o 0
+fields-none L O c base o room = record { room = room; before = λ k h. refl; fields = λ k l h. absurd (omega arith) }
 
-pub fields-more : {L L₁ L₂ w : List ℕ} {base o n code : ℕ} → FieldsPlaced L L₁ w base o n → code ≡ fieldOf w n → Placed L₁ L₂ (base + (n + 1)) code (o + 1) → FieldsPlaced L L₂ w base o (n + 1)
-fields-more {L} {L₁} {L₂} {w} {base} {o} {n} {code} X p P =
+pub fields-more : {L L₁ L₂ O : List ℕ} {c base o n code : ℕ} → FieldsPlaced L L₁ O c base o n → code ≡ part O c n → Placed L₁ L₂ (base + (n + 1)) code (o + 1) → FieldsPlaced L L₂ O c base o (n + 1)
+fields-more {L} {L₁} {L₂} {O} {c} {base} {o} {n} {code} X p P =
     record { room = P .room; before = λ k h. P .others k (λ e. omega arith) ∙ X .before k h; fields = fields }
   where
-    fields : (k : ℕ) → 1 ≤ k → k ≤ n + 1 → listed L₂ (base + k) ≡ literalWith (fieldOf w (k - 1)) (o + 1)
+    fields : (k : ℕ) → 1 ≤ k → k ≤ n + 1 → listed L₂ (base + k) ≡ literalWith (part O c (k - 1)) (o + 1)
     fields k l h = try (eqb k (n + 1)) refl
       where
-        try : (b : Bool) → eqb k (n + 1) ≡ b → listed L₂ (base + k) ≡ literalWith (fieldOf w (k - 1)) (o + 1)
+        try : (b : Bool) → eqb k (n + 1) ≡ b → listed L₂ (base + k) ≡ literalWith (part O c (k - 1)) (o + 1)
         try true q =
             let e = eqb-true k (n + 1) q in
             let y : n ≡ k - 1 = omega arith in
-            ap (λ (j : ℕ). listed L₂ (base + j)) e ∙ P .here ∙ ap (λ (x : ℕ). literalWith x (o + 1)) (p ∙ ap (fieldOf w) y)
+            ap (λ (j : ℕ). listed L₂ (base + j)) e ∙ P .here ∙ ap (λ (x : ℕ). literalWith x (o + 1)) (p ∙ ap (part O c) y)
         try false q = let e = eqb-false k (n + 1) q in P .others (base + k) (λ z. e (omega arith)) ∙ X .fields k l (omega arith)
 
 -- At most one literal less is left.
@@ -86,79 +87,58 @@ both-hold {L} {base} {kept} {o} m xs ys e H J = record { literal = λ n low h. t
 both-last : (base : ℕ) {kept end : ℕ} (m : ℕ) (xs ys : List Literal) → kept ≡ base + length xs → end ≡ kept + length ys → end ≡ base + length (xs ++ map (raiseLiteral m) ys)
 both-last base m xs ys e f = omega (arith, e, f, length-append xs (map (raiseLiteral m) ys), length-map ys (raiseLiteral m))
 
-module _ {F C : List ℕ} {base c o : ℕ} (K : Collectable F C base c o) where
-  pub kind-four : {rc u : ℕ} {w : List ℕ} → rc ≡ recordCell C c → w ≡ recordPart F rc → u ≡ kindOf w → u ≡ 4 → recordOf F C c .kind ≡ 4
-  kind-four pr pw pu four = sym (pu ∙ ap kindOf (pw ∙ ap (recordPart F) pr)) ∙ four
-
+module _ {O C : List ℕ} {base c o : ℕ} (K : Collectable O C base c o) where
   -- An input clause.
-  module _ {rc : ℕ} {w : List ℕ} {count : ℕ} (four : recordOf F C c .kind ≡ 4) (pr : rc ≡ recordCell C c) (pw : w ≡ recordPart F rc) (pc : count ≡ literalsCell C c) where
-    whole₄ : w ≡ recordPart F (recordCell C c)
-    whole₄ = pw ∙ ap (recordPart F) pr
-
+  module _ {count : ℕ} (one : originCode O c ≡ 1) (pc : count ≡ literalsCell C c) where
     pub input-room : (count ≤ 7) × (base + count < 4352) × (o + 1 ≤ 4096)
     input-room = try (K .derivation) (K .stored) (K .fits) (K .few)
       where
-        try : {B : List ℕ} (d : Derivation) → Stored F C B c d → o + maximumIndex d ≤ 4096 → base + length (literals d) + c < 4352 → (count ≤ 7) × (base + count < 4352) × (o + 1 ≤ 4096)
+        try : {B : List ℕ} (d : Derivation) → Stored O C B c d → o + maximumIndex d ≤ 4096 → base + length (literals d) + c < 4352 → (count ≤ 7) × (base + count < 4352) × (o + 1 ≤ 4096)
         try d (storedResolve k la sa qa lb sb qb s) fits few = absurd (omega arith)
         try d (storedFactor k l t qa qb s) fits few = absurd (omega arith)
         try d (storedInput {ls = ls} k q s) fits few =
-            let n : count ≡ length (literals (input number ls)) = pc ∙ s .literalCount in
-            let m : length (literals (input number ls)) ≡ length (inputLiterals (recordOf F C c)) = length-map ls (λ (l : RowLiteral). (l .0, (l .1, 1))) ∙ ap length (sym q) in
-            let f = input-few (recordPart F (recordCell C c)) in
-            (omega (arith, n, m, f), omega (arith, n, few), fits)
+            let n : count ≡ length (placed 1 ls) = pc ∙ s .literalCount in
+            let m : length (placed 1 ls) ≤ 7 = input-few O c (length (placed 1 ls)) (literalsCell C c) (subst (λ (x : List RowLiteral). length (placed 1 ls) ≤ length (placed 1 x)) (sym q) (omega arith)) in
+            (omega (arith, n, m), omega (arith, n, few), fits)
 
-    pub input-collected : {L L₁ : List ℕ} {n : ℕ} → n ≡ count → FieldsPlaced L L₁ w base o n → Collected F C L L₁ base c o (base + n)
+    pub input-collected : {L L₁ : List ℕ} {n : ℕ} → n ≡ count → FieldsPlaced L L₁ O c base o n → Collected O C L L₁ base c o (base + n)
     input-collected {L} {L₁} {n} pn X = record { room = X .room; before = X .before; last = λ B d s. ap (λ (k : ℕ). base + k) (pn ∙ pc ∙ stored-cells s .literalCount); holds = holds }
       where
-        holds : (B : List ℕ) (d : Derivation) → Stored F C B c d → Holds L₁ base o (literals d)
+        holds : (B : List ℕ) (d : Derivation) → Stored O C B c d → Holds L₁ base o (literals d)
         holds B d (storedResolve k la sa qa lb sb qb s) = absurd (omega arith)
         holds B d (storedFactor k l₁ t qa qb s) = absurd (omega arith)
         holds B d (storedInput {ls = ls} k q s) = record { literal = literal }
           where
             literal : (j : ℕ) → 1 ≤ j → j ≤ length (placed 1 ls) → some (listed L₁ (base + j)) ≡ raiseNamed o (numbered (placed 1 ls) j)
             literal j l h =
-                let part = recordPart F (recordCell C c) in
-                let h′ : j ≤ length (placed 1 (inputLiterals (recordOf F C c))) = subst (λ (x : List RowLiteral). j ≤ length (placed 1 x)) (sym q) h in
-                let found : numbered (placed 1 ls) j ≡ some (literalWith (fieldOf part (j - 1)) 1) = ap (λ (x : List RowLiteral). numbered (placed 1 x) j) (sym q) ∙ input-numbered part j l h′ in
-                let there : listed L₁ (base + j) ≡ literalWith (fieldOf part (j - 1)) (o + 1) =
-                X .fields j l (omega (arith, pn, pc, s .literalCount, h)) ∙ ap (λ (y : List ℕ). literalWith (fieldOf y (j - 1)) (o + 1)) whole₄ in
-                ap some there ∙ sym (ap (raiseNamed o) found)
+                let h′ : j ≤ length (placed 1 (map literalOf (take (literalsCell C c) (originNumbers O c)))) = subst (λ (x : List RowLiteral). j ≤ length (placed 1 x)) (sym q) h in
+                let found : numbered (placed 1 ls) j ≡ some (literalWith (part O c (j - 1)) 1) = ap (λ (x : List RowLiteral). numbered (placed 1 x) j) (sym q) ∙ input-numbered O c (literalsCell C c) j l h′ in
+                ap some (X .fields j l (omega (arith, pn, pc, s .literalCount, h))) ∙ sym (ap (raiseNamed o) found)
 
-  -- A resolvent or a factor: rc is the record's number, w its bytes, u its kind.
-  module _ {rc u p q : ℕ} {w : List ℕ} (pr : rc ≡ recordCell C c) (pw : w ≡ recordPart F rc) (pu : u ≡ kindOf w) (no₄ : u ≡ 4 → ⊥) (pp : p ≡ fieldOf w 0) (pq : q ≡ fieldOf w 2) where
-    whole : w ≡ recordPart F (recordCell C c)
-    whole = pw ∙ ap (recordPart F) pr
+  -- A resolvent or a factor: u is the code of its origin.
+  module _ {u p q : ℕ} (isKind : u ≡ originCode O c) (no₁ : u ≡ 1 → ⊥) (isLeft : p ≡ part O c 0) (isSecond : q ≡ part O c 2) where
+    left-at : {B : List ℕ} {l : Derivation} → Stored O C B (part O c 0) l → Stored O C B p l
+    left-at {B} {l} t = subst (λ (k : ℕ). Stored O C B k l) (sym isLeft) t
 
-    isKind : {k : ℕ} → recordOf F C c .kind ≡ k → u ≡ k
-    isKind e = pu ∙ ap kindOf whole ∙ e
-
-    isLeft : p ≡ fieldA (recordOf F C c)
-    isLeft = pp ∙ ap (λ (y : List ℕ). fieldOf y 0) whole
-
-    isSecond : q ≡ fieldC (recordOf F C c)
-    isSecond = pq ∙ ap (λ (y : List ℕ). fieldOf y 2) whole
-
-    left-at : {B : List ℕ} {l : Derivation} → Stored F C B (fieldA (recordOf F C c)) l → Stored F C B p l
-    left-at {B} {l} t = subst (λ (k : ℕ). Stored F C B k l) (sym isLeft) t
-
-    right-at : {B : List ℕ} {r : Derivation} → Stored F C B (fieldC (recordOf F C c)) r → Stored F C B q r
-    right-at {B} {r} t = subst (λ (k : ℕ). Stored F C B k r) (sym isSecond) t
+    right-at : {B : List ℕ} {r : Derivation} → Stored O C B (part O c 2) r → Stored O C B q r
+    right-at {B} {r} t = subst (λ (k : ℕ). Stored O C B k r) (sym isSecond) t
 
     -- The first parent, which both have.
-    pub to-first : (p < c) × Collectable F C base p o
+    pub to-first : (p < c) × Collectable O C base p o
     to-first = try (K .derivation) (K .stored) (K .fits) (K .few)
       where
-        try : (d : Derivation) → Stored F C (K .bindings) c d → o + maximumIndex d ≤ 4096 → base + length (literals d) + c < 4352 → (p < c) × Collectable F C base p o
-        try d (storedInput k e s) fits few = absurd (no₄ (isKind k))
+        try : (d : Derivation) → Stored O C (K .bindings) c d → o + maximumIndex d ≤ 4096 → base + length (literals d) + c < 4352 → (p < c) × Collectable O C base p o
+        try d (storedInput k e s) fits few = absurd (no₁ (isKind ∙ k))
         try d (storedFactor {a = a} {b = b} {d = e} k l t qa qb s) fits few =
             let z = isLeft in (
               omega arith,
-              record { bindings = K .bindings; derivation = e; stored = left-at t; fits = fits; few = omega (arith, few, l, z, one-less (literals e) b) },
+              record { originRoom = K .originRoom; bindings = K .bindings; derivation = e; stored = left-at t; fits = fits; few = omega (arith, few, l, z, one-less (literals e) b) },
             )
         try d (storedResolve {a = a} {b = b} {l = l} {r = r} k la sa qa lb sb qb s) fits few =
             let z = isLeft in (
               omega arith,
               record {
+                originRoom = K .originRoom;
                 bindings = K .bindings;
                 derivation = l;
                 stored = left-at sa;
@@ -167,7 +147,7 @@ module _ {F C : List ℕ} {base c o : ℕ} (K : Collectable F C base c o) where
               },
             )
 
-    module _ {L L₁ : List ℕ} {all : ℕ} (G : Collected F C L L₁ base p o all) where
+    module _ {L L₁ : List ℕ} {all : ℕ} (G : Collected O C L L₁ base p o all) where
       -- How many the first parent has.
       pub first-room : (base ≤ all) × (all < 4352)
       first-room =
@@ -175,44 +155,42 @@ module _ {F C : List ℕ} {base c o : ℕ} (K : Collectable F C base c o) where
           let e = G .last (x .1 .bindings) (x .1 .derivation) (x .1 .stored) in
           (omega (arith, e), omega (arith, e, x .1 .few))
 
-      pub from-first : (u ≡ 5 → ⊥) → {L₂ : List ℕ} {end : ℕ} → Deleted L₁ L₂ base all q end → Collected F C L L₂ base c o end
-      from-first no₅ {L₂} {end} D = record { room = D .room; before = λ k h. D .before k h ∙ G .before k h; last = last; holds = holds }
+      pub from-first : (u ≡ 3 → ⊥) → {L₂ : List ℕ} {end : ℕ} → Deleted L₁ L₂ base all q end → Collected O C L L₂ base c o end
+      from-first no₃ {L₂} {end} D = record { room = D .room; before = λ k h. D .before k h ∙ G .before k h; last = last; holds = holds }
         where
-          last : (B : List ℕ) (d : Derivation) → Stored F C B c d → end ≡ base + length (literals d)
-          last B d (storedInput k e s) = absurd (no₄ (isKind k))
-          last B d (storedResolve k la sa qa lb sb qb s) = absurd (no₅ (isKind k))
+          last : (B : List ℕ) (d : Derivation) → Stored O C B c d → end ≡ base + length (literals d)
+          last B d (storedInput k e s) = absurd (no₁ (isKind ∙ k))
+          last B d (storedResolve k la sa qa lb sb qb s) = absurd (no₃ (isKind ∙ k))
           last B d (storedFactor {b = b} {d = e} k l t qa qb s) =
               without-last (literals e) (G .last B e (left-at t)) D ∙ ap (λ (x : ℕ). base + length (without (literals e) x)) (isSecond ∙ qb)
 
-          holds : (B : List ℕ) (d : Derivation) → Stored F C B c d → Holds L₂ base o (literals d)
-          holds B d (storedInput k e s) = absurd (no₄ (isKind k))
-          holds B d (storedResolve k la sa qa lb sb qb s) = absurd (no₅ (isKind k))
+          holds : (B : List ℕ) (d : Derivation) → Stored O C B c d → Holds L₂ base o (literals d)
+          holds B d (storedInput k e s) = absurd (no₁ (isKind ∙ k))
+          holds B d (storedResolve k la sa qa lb sb qb s) = absurd (no₃ (isKind ∙ k))
           holds B d (storedFactor {b = b} {d = e} k l t qa qb s) =
               subst (λ (x : ℕ). Holds L₂ base o (without (literals e) x)) (isSecond ∙ qb) (without-holds (literals e) (G .last B e (left-at t)) D (G .holds B e (left-at t)))
 
       -- A resolvent has a second parent.
-      module _ {a kept m : ℕ} {L₂ : List ℕ} (five : u ≡ 5) (pa : a ≡ fieldOf w 1) (D : Deleted L₁ L₂ base all a kept) (pm : m ≡ indexCell C p) where
-        isNamed : a ≡ fieldB (recordOf F C c)
-        isNamed = pa ∙ ap (λ (y : List ℕ). fieldOf y 1) whole
-
-        left-index : {B : List ℕ} {l : Derivation} → Stored F C B p l → m ≡ maximumIndex l
+      module _ {a kept m : ℕ} {L₂ : List ℕ} (three : u ≡ 3) (isNamed : a ≡ part O c 1) (D : Deleted L₁ L₂ base all a kept) (pm : m ≡ indexCell C p) where
+        left-index : {B : List ℕ} {l : Derivation} → Stored O C B p l → m ≡ maximumIndex l
         left-index t = pm ∙ stored-cells t .index
 
-        left-last : {B : List ℕ} {l : Derivation} → Stored F C B p l → kept ≡ base + length (without (literals l) a)
+        left-last : {B : List ℕ} {l : Derivation} → Stored O C B p l → kept ≡ base + length (without (literals l) a)
         left-last {B} {l} t = without-last (literals l) (G .last B l t) D
 
-        pub to-second : (q < c) × Collectable F C kept q (o + m)
+        pub to-second : (q < c) × Collectable O C kept q (o + m)
         to-second = try (K .derivation) (K .stored) (K .fits) (K .few)
           where
-            try : (d : Derivation) → Stored F C (K .bindings) c d → o + maximumIndex d ≤ 4096 → base + length (literals d) + c < 4352 → (q < c) × Collectable F C kept q (o + m)
-            try d (storedInput k e s) fits few = absurd (no₄ (isKind k))
-            try d (storedFactor k l t qa qb s) fits few = let z = isKind k in absurd (omega (arith, z, five))
+            try : (d : Derivation) → Stored O C (K .bindings) c d → o + maximumIndex d ≤ 4096 → base + length (literals d) + c < 4352 → (q < c) × Collectable O C kept q (o + m)
+            try d (storedInput k e s) fits few = absurd (no₁ (isKind ∙ k))
+            try d (storedFactor k l t qa qb s) fits few = let z = isKind ∙ k in absurd (omega (arith, z, three))
             try d (storedResolve {a = a₁} {b = b₁} {l = l} {r = r} k la sa qa lb sb qb s) fits few =
                 let z = isSecond in
                 let y = left-index (left-at sa) in
                 let x : kept ≡ base + length (without (literals l) a₁) = subst (λ (i : ℕ). kept ≡ base + length (without (literals l) i)) (isNamed ∙ qa) (left-last (left-at sa)) in (
                   omega (arith, z, lb),
                   record {
+                    originRoom = K .originRoom;
                     bindings = K .bindings;
                     derivation = r;
                     stored = right-at sb;
@@ -221,15 +199,15 @@ module _ {F C : List ℕ} {base c o : ℕ} (K : Collectable F C base c o) where
                   },
                 )
 
-        module _ {L₃ : List ℕ} {final : ℕ} (J : Collected F C L₂ L₃ kept q (o + m) final) where
+        module _ {L₃ : List ℕ} {final : ℕ} (J : Collected O C L₂ L₃ kept q (o + m) final) where
           pub second-room : (kept ≤ final) × (final < 4352)
           second-room =
               let x = to-second in
               let e = J .last (x .1 .bindings) (x .1 .derivation) (x .1 .stored) in
               (omega (arith, e), omega (arith, e, x .1 .few))
 
-          pub from-both : {b end : ℕ} {L₄ : List ℕ} → b ≡ fieldOf w 3 → Deleted L₃ L₄ kept final b end → Collected F C L L₄ base c o end
-          from-both {b} {end} {L₄} pb E =
+          pub from-both : {b end : ℕ} {L₄ : List ℕ} → b ≡ part O c 3 → Deleted L₃ L₄ kept final b end → Collected O C L L₄ base c o end
+          from-both {b} {end} {L₄} isOther E =
               record {
                 room = E .room;
                 before = λ k h. E .before k (omega (arith, h, kept-low)) ∙ J .before k (omega (arith, h, kept-low)) ∙ D .before k h ∙ G .before k h;
@@ -240,24 +218,21 @@ module _ {F C : List ℕ} {base c o : ℕ} (K : Collectable F C base c o) where
               kept-low : base ≤ kept
               kept-low = let x = to-first in omega (arith, left-last (x .1 .stored))
 
-              isOther : b ≡ fieldD (recordOf F C c)
-              isOther = pb ∙ ap (λ (y : List ℕ). fieldOf y 3) whole
-
               -- The resolvent with the numbers of the code.
               same : (l r : Derivation) (a₁ b₁ : ℕ) → a ≡ a₁ → b ≡ b₁ → m ≡ maximumIndex l
                   → without (literals l) a ++ map (raiseLiteral m) (without (literals r) b) ≡ without (literals l) a₁ ++ map (raiseLiteral (maximumIndex l)) (without (literals r) b₁)
               same l r a₁ b₁ x y z = λ i. without (literals l) (x i) ++ map (raiseLiteral (z i)) (without (literals r) (y i))
 
-              last : (B : List ℕ) (d : Derivation) → Stored F C B c d → end ≡ base + length (literals d)
-              last B d (storedInput k e s) = absurd (no₄ (isKind k))
-              last B d (storedFactor k l t qa qb s) = let z = isKind k in absurd (omega (arith, z, five))
+              last : (B : List ℕ) (d : Derivation) → Stored O C B c d → end ≡ base + length (literals d)
+              last B d (storedInput k e s) = absurd (no₁ (isKind ∙ k))
+              last B d (storedFactor k l t qa qb s) = let z = isKind ∙ k in absurd (omega (arith, z, three))
               last B d (storedResolve {a = a₁} {b = b₁} {l = l} {r = r} k la sa qa lb sb qb s) =
                   both-last base m (without (literals l) a) (without (literals r) b) (left-last (left-at sa)) (without-last (literals r) (J .last B r (right-at sb)) E)
                   ∙ ap (λ (ls : List Literal). base + length ls) (same l r a₁ b₁ (isNamed ∙ qa) (isOther ∙ qb) (left-index (left-at sa)))
 
-              holds : (B : List ℕ) (d : Derivation) → Stored F C B c d → Holds L₄ base o (literals d)
-              holds B d (storedInput k e s) = absurd (no₄ (isKind k))
-              holds B d (storedFactor k l t qa qb s) = let z = isKind k in absurd (omega (arith, z, five))
+              holds : (B : List ℕ) (d : Derivation) → Stored O C B c d → Holds L₄ base o (literals d)
+              holds B d (storedInput k e s) = absurd (no₁ (isKind ∙ k))
+              holds B d (storedFactor k l t qa qb s) = let z = isKind ∙ k in absurd (omega (arith, z, three))
               holds B d (storedResolve {a = a₁} {b = b₁} {l = l} {r = r} k la sa qa lb sb qb s) =
                   let t = left-at sa in
                   let e = left-last t in

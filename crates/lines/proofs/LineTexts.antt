@@ -43,7 +43,7 @@ use Rattle.terms.proofs.LiteralTexts.{literals-text-short}
 use Rattle.terms.proofs.Positions.{wrote-nothing, wrote-then}
 
 -- The literal that the program found is the one with the number.
-module _ (F C N A T : List ℕ) (at c n : ℕ) (r : NamedLiteral) (G : (B : List ℕ) (d : Derivation) → Stored F C B c d → r ≡ namedLiteral (numbered (literals d) n)) where
+module _ (O C N A T : List ℕ) (at c n : ℕ) (r : NamedLiteral) (G : (B : List ℕ) (d : Derivation) → Stored O C B c d → r ≡ namedLiteral (numbered (literals d) n)) where
   same-literal : (positive : Bool) (row index : ℕ) (l : Literal) → Found positive row index ≡ namedLiteral (some l) → (positive, (row, index)) ≡ l
   same-literal positive row index l e =
       let p : positive ≡ l .0 = cc in
@@ -51,26 +51,26 @@ module _ (F C N A T : List ℕ) (at c n : ℕ) (r : NamedLiteral) (G : (B : List
       let k : index ≡ l .1 .1 = cc in
       λ i. (p i, (q i, k i))
 
-  pub numbered-found : (positive : Bool) (row index : ℕ) → r ≡ Found positive row index → (A′ T′ : List ℕ) (end : ℕ) → WritesLiteral N A A′ T T′ at positive (row, index) end → WritesNumbered F C N A A′ T T′ at c n end
+  pub numbered-found : (positive : Bool) (row index : ℕ) → r ≡ Found positive row index → (A′ T′ : List ℕ) (end : ℕ) → WritesLiteral N A A′ T T′ at positive (row, index) end → WritesNumbered O C N A A′ T T′ at c n end
   numbered-found positive row index q A′ T′ end W B d s l p =
       subst (λ (x : Literal). WritesLiteral N A A′ T T′ at (x .0) (x .1) end) (same-literal positive row index l (sym q ∙ G B d s ∙ ap namedLiteral p)) W
 
-  pub found-ready : (R : NumberedReady F C N A T c n) (positive : Bool) (row index : ℕ) → r ≡ Found positive row index → WritingReady N A T (row, index)
+  pub found-ready : (R : NumberedReady O C N A T c n) (positive : Bool) (row index : ℕ) → r ≡ Found positive row index → WritingReady N A T (row, index)
   found-ready R positive row index q =
       subst (λ (x : Literal). WritingReady N A T (x .1)) (sym (same-literal positive row index (R .literal) (sym q ∙ G (R .clause .bindings) (R .clause .derivation) (R .clause .stored) ∙ ap namedLiteral (R .isNumbered)))) (R .ready)
 
-  pub numbered-absent : r ≡ Absent → WritesNumbered F C N A A T T at c n at
+  pub numbered-absent : r ≡ Absent → WritesNumbered O C N A A T T at c n at
   numbered-absent q B d s l p = absurd (no (sym q ∙ G B d s ∙ ap namedLiteral p))
     where
       no : Absent ≡ namedLiteral (some l) → ⊥
       no e = let z : _≡_ {A = ℕ} 0 1 = cc in omega arith
 
 -- There is room in the list for all literals.
-pub collected-few : {F C L L′ : List ℕ} {c count : ℕ} → Collectable F C 0 c 0 → Collected F C L L′ 0 c 0 count → count < 4352
+pub collected-few : {O C L L′ : List ℕ} {c count : ℕ} → Collectable O C 0 c 0 → Collected O C L L′ 0 c 0 count → count < 4352
 collected-few R K = omega (arith, R .few, K .last (R .bindings) (R .derivation) (R .stored))
 
 -- The literal that the program has in its list is the one with the number.
-listed-is : {F C B L L′ : List ℕ} {c count : ℕ} {d : Derivation} → Collected F C L L′ 0 c 0 count → Stored F C B c d → (n : ℕ) → 1 ≤ n → n ≤ count → (l : Literal) → numbered (literals d) n ≡ some l → listed L′ n ≡ l
+listed-is : {O C B L L′ : List ℕ} {c count : ℕ} {d : Derivation} → Collected O C L L′ 0 c 0 count → Stored O C B c d → (n : ℕ) → 1 ≤ n → n ≤ count → (l : Literal) → numbered (literals d) n ≡ some l → listed L′ n ≡ l
 listed-is {B = B} {L′ = L′} {d = d} K s n low high l p =
     let z : n ≡ 0 + n = omega arith in
     some-same (ap (λ (k : ℕ). some (listed L′ k)) z ∙ K .holds B d s .literal n low (omega (arith, high, K .last B d s)) ∙ sym (raise-named-zero (numbered (literals d) n)) ∙ p)
@@ -78,23 +78,23 @@ listed-is {B = B} {L′ = L′} {d = d} K s n low high l p =
     some-same : {x y : Literal} → some x ≡ some y → x ≡ y
     some-same e = cc
 
-pub listed-ready : {F C L L′ : List ℕ} {c count : ℕ} → Collected F C L L′ 0 c 0 count → (n : ℕ) → 1 ≤ n → n ≤ count → {N A T : List ℕ} → NumberedReady F C N A T c n → WritingReady N A T (listed L′ n .1)
+pub listed-ready : {O C L L′ : List ℕ} {c count : ℕ} → Collected O C L L′ 0 c 0 count → (n : ℕ) → 1 ≤ n → n ≤ count → {N A T : List ℕ} → NumberedReady O C N A T c n → WritingReady N A T (listed L′ n .1)
 listed-ready K n low high {N} {A} {T} R =
     subst (λ (x : Literal). WritingReady N A T (x .1)) (sym (listed-is K (R .clause .stored) n low high (R .literal) (R .isNumbered))) (R .ready)
 
-pub numbered-listed : {F C L L′ : List ℕ} {c count : ℕ} → Collected F C L L′ 0 c 0 count → (n : ℕ) → 1 ≤ n → n ≤ count
-    → {N A A′ T T′ : List ℕ} {at end : ℕ} → WritesLiteral N A A′ T T′ at (listed L′ n .0) (listed L′ n .1) end → WritesNumbered F C N A A′ T T′ at c n end
+pub numbered-listed : {O C L L′ : List ℕ} {c count : ℕ} → Collected O C L L′ 0 c 0 count → (n : ℕ) → 1 ≤ n → n ≤ count
+    → {N A A′ T T′ : List ℕ} {at end : ℕ} → WritesLiteral N A A′ T T′ at (listed L′ n .0) (listed L′ n .1) end → WritesNumbered O C N A A′ T T′ at c n end
 numbered-listed K n low high {N} {A} {A′} {T} {T′} {at} {end} W B d s l p =
     subst (λ (x : Literal). WritesLiteral N A A′ T T′ at (x .0) (x .1) end) (listed-is K s n low high l p) W
 
 -- So many literals has clause c, whatever derivation it is: the number in its cell, and the number of those collected.
 abbrev pub HasLiterals : List ℕ → List ℕ → ℕ → ℕ → Type 0
-HasLiterals F C c count = (B : List ℕ) (d : Derivation) → Stored F C B c d → count ≡ length (literals d)
+HasLiterals O C c count = (B : List ℕ) (d : Derivation) → Stored O C B c d → count ≡ length (literals d)
 
-pub cell-literals : {F C : List ℕ} {c count : ℕ} → count ≡ literalsCell C c → HasLiterals F C c count
+pub cell-literals : {O C : List ℕ} {c count : ℕ} → count ≡ literalsCell C c → HasLiterals O C c count
 cell-literals e B d s = e ∙ stored-cells s .literalCount
 
-pub collected-literals : {F C L L′ : List ℕ} {c count : ℕ} → Collected F C L L′ 0 c 0 count → HasLiterals F C c count
+pub collected-literals : {O C L L′ : List ℕ} {c count : ℕ} → Collected O C L L′ 0 c 0 count → HasLiterals O C c count
 collected-literals K B d s = omega (arith, K .last B d s)
 
 -- The literal with the next number is the first of those left.
@@ -122,17 +122,17 @@ pub record LiteralsSoFar (N : List ℕ) (top : ℕ) (A : List ℕ) (ρ : Environ
   pub whole : before ++ literalsText row (map (writtenLiteral term σ) (drop n ls)) ≡ literalsText row (map (writtenLiteral term σ) ls)
 
 abbrev pub WritesSoFar : List ℕ → List ℕ → List ℕ → List ℕ → List ℕ → List ℕ → List ℕ → ℕ → ℕ → ℕ → ℕ → Type 0
-WritesSoFar F C N A A′ T T′ at c end n =
-    (B : List ℕ) (d : Derivation) → Stored F C B c d
+WritesSoFar O C N A A′ T T′ at c end n =
+    (B : List ℕ) (d : Derivation) → Stored O C B c d
     → (top : ℕ) (ρ : Environment) (row : ℕ → Row) (term : ℕ → Term ℕ) (σ : Variable → Term Variable) → AllWritable N top A ρ row term σ (literals d)
     → LiteralsSoFar N top A′ ρ row term σ T T′ at end n (literals d)
 
-module _ (F C N A T : List ℕ) (at c : ℕ) where
-  pub literals-start : WritesSoFar F C N A A T T at c at 0
+module _ (O C N A T : List ℕ) (at c : ℕ) where
+  pub literals-start : WritesSoFar O C N A A T T at c at 0
   literals-start B d s top ρ row term σ W = record { models = W .models; before = []; wrote = wrote-nothing T at; whole = refl }
 
-  module _ (A₁ T₁ : List ℕ) (end n count : ℕ) (S : WritesSoFar F C N A A₁ T T₁ at c end n) (counted : HasLiterals F C c count) where
-    pub literals-end : count ≤ n → WritesLiterals F C N A A₁ T T₁ at c end
+  module _ (A₁ T₁ : List ℕ) (end n count : ℕ) (S : WritesSoFar O C N A A₁ T T₁ at c end n) (counted : HasLiterals O C c count) where
+    pub literals-end : count ≤ n → WritesLiterals O C N A A₁ T T₁ at c end
     literals-end h B d s top ρ row term σ W =
         let S′ = S B d s top ρ row term σ W in
         let none : drop n (literals d) ≡ [] = none-left (literals d) n (omega (arith, counted B d s)) in
@@ -140,7 +140,7 @@ module _ (F C N A T : List ℕ) (at c : ℕ) where
         sym (append-nil (S′ .before)) ∙ ap (λ (ls : List Literal). S′ .before ++ literalsText row (map (writtenLiteral term σ) ls)) (sym none) ∙ S′ .whole in
         record { models = S′ .models; wrote = subst (Wrote T T₁ at end) all (S′ .wrote) }
 
-    pub literals-next : n < count → (A₂ T₂ : List ℕ) (after : ℕ) → WritesNumbered F C N A₁ A₂ T₁ T₂ end c (n + 1) after → WritesSoFar F C N A A₂ T T₂ at c after (n + 1)
+    pub literals-next : n < count → (A₂ T₂ : List ℕ) (after : ℕ) → WritesNumbered O C N A₁ A₂ T₁ T₂ end c (n + 1) after → WritesSoFar O C N A A₂ T T₂ at c after (n + 1)
     literals-next h A₂ T₂ after G B d s top ρ row term σ W =
         let S′ = S B d s top ρ row term σ W in
         let x = next-literal (literals d) n (omega (arith, counted B d s)) in
@@ -159,7 +159,7 @@ module _ (F C N A T : List ℕ) (at c : ℕ) where
         }
 
 -- What writing the next literal asks.
-pub numbered-ready : {F C N A A₁ T T₁ : List ℕ} {at c end n count : ℕ} → LiteralsReady F C N A T c → WritesSoFar F C N A A₁ T T₁ at c end n → HasLiterals F C c count → n < count → Sized N A₁ T₁ → NumberedReady F C N A₁ T₁ c (n + 1)
+pub numbered-ready : {O C N A A₁ T T₁ : List ℕ} {at c end n count : ℕ} → LiteralsReady O C N A T c → WritesSoFar O C N A A₁ T T₁ at c end n → HasLiterals O C c count → n < count → Sized N A₁ T₁ → NumberedReady O C N A₁ T₁ c (n + 1)
 numbered-ready {n = n} R S counted h Z =
     let K = R .collectable in
     let W = R .writable in
@@ -167,7 +167,7 @@ numbered-ready {n = n} R S counted h Z =
     let x = next-literal (literals (K .derivation)) n (omega (arith, counted (K .bindings) (K .derivation) (K .stored))) in
     let isLiteral : numbered (literals (K .derivation)) (n + 1) ≡ some (x .next) = ap (numbered (literals (K .derivation))) (add-one n) ∙ x .isNumbered in
     record {
-      clause = record { bindings = K .bindings; derivation = K .derivation; stored = K .stored; fits = omega (arith, K .fits) };
+      clause = record { room = K .originRoom; bindings = K .bindings; derivation = K .derivation; stored = K .stored; fits = omega (arith, K .fits) };
       literal = x .next;
       isNumbered = isLiteral;
       ready = record {
@@ -198,7 +198,7 @@ clause-there S c h = let x = there (derivations S) (omega (arith, length-map (S 
         try false q ih = let ne : ¬ (c ≡ length ds) = not-equal c (length ds) (rw q) in ih (omega arith)
 
 -- What writing a line asks of its callees.
-module _ {F C B N A T : List ℕ} {c : ℕ} (R : LineReady F C B N A T c) where
+module _ {C B N O A T : List ℕ} {c : ℕ} (R : LineReady C B N O A T c) where
   here : ClauseThere (R .state) c
   here = clause-there (R .state) c (R .inside)
 
@@ -208,22 +208,23 @@ module _ {F C B N A T : List ℕ} {c : ℕ} (R : LineReady F C B N A T c) where
   pub line-clear : (top : ℕ) → top ≡ indexCell C c → (length A ≡ 524416) × (top ≤ 4096)
   line-clear top p = (R .read .kept .values, omega (arith, p, kept.index-of (R .read .kept) (R .read .few) c (here .clause) (here .isClause), index-small))
 
-  pub line-load : (A₁ : List ℕ) → length A₁ ≡ 524416 → Loadable F C B N A₁ c 0
+  pub line-load : (A₁ : List ℕ) → length A₁ ≡ 524416 → Loadable O C B N A₁ c 0
   line-load A₁ v = kept.load-ready (R .read .kept) (R .read .few) c 0 (here .clause) (here .isClause) (omega (arith, index-small)) A₁ v
 
   -- There are at most 4,096 clauses, of at most 128 literals each.
   few-clauses : length (R .state .clauses) ≤ 4096
-  few-clauses = omega (arith, kept.stand-of (R .read .kept) (R .read .few) .tally .total, R .read .few, fitting-records F (R .read .kept .fit))
+  few-clauses = omega (arith, kept.stand-of (R .read .kept) (R .read .few) .tally .total, R .read .few, fitting-records (R .file) (R .read .kept .fit))
 
   few-literals : length (literals (here .clause)) ≤ 128
   unfolding mostLiterals
   few-literals = kept.order-in (R .read .kept) (R .read .few) c (here .clause) (here .isClause) .literalsFit
 
-  abbrev line-collect : Collectable F C 0 c 0
+  abbrev line-collect : Collectable O C 0 c 0
   line-collect =
       record {
         bindings = B;
         derivation = here .clause;
+        originRoom = kept.origins-room (R .read .kept) (R .read .few);
         stored = kept.stored-of (R .read .kept) (R .read .few) c (here .clause) (here .isClause);
         fits = omega (arith, index-small);
         few = omega (arith, few-clauses, few-literals, R .inside);
@@ -233,17 +234,17 @@ module _ {F C B N A T : List ℕ} {c : ℕ} (R : LineReady F C B N A T c) where
   line-nodes = kept.nodes-room (R .read .kept) (R .read .few)
 
 -- What the check left is left with any array in the array's place: between lines it does not matter what the array holds.
-pub read-again : (F : List ℕ) (t : Tables) (S : State) (here : Tables) (N A A′ : List ℕ) → ReadTo F t S here N A → length A′ ≡ 524416 → ReadTo F t S here N A′
-read-again F t S here N A A′ R v =
+pub read-again : (F : List ℕ) (t : Tables) (S : State) (here : Tables) (N O A A′ : List ℕ) → ReadTo F t S here N O A → length A′ ≡ 524416 → ReadTo F t S here N O A′
+read-again F t S here N O A A′ R v =
     let K = R .kept in
-    record { count = R .count; few = R .few; counts = R .counts; kept = record { fit = K .fit; long = K .long; before = K .before; counts = K .counts; tables = K .tables; nodes = K .nodes; values = v } }
+    record { count = R .count; few = R .few; counts = R .counts; kept = record { fit = K .fit; long = K .long; before = K .before; counts = K .counts; tables = K .tables; nodes = K .nodes; origins = K .origins; values = v } }
 
 -- The clause, loaded into a cleared array, can be written out.
-module _ {F C B N A : List ℕ} {t : Tables} {S : State} {symbols rows : List ℕ} (R : ReadTo F t S (tablesWith symbols rows C B) N A) (c : ℕ) (d : Derivation) (q : clauseOf S c ≡ some d) where
+module _ {F C B N O A : List ℕ} {t : Tables} {S : State} {symbols rows : List ℕ} (R : ReadTo F t S (tablesWith symbols rows C B) N O A) (c : ℕ) (d : Derivation) (q : clauseOf S c ≡ some d) where
   pub line-index : indexCell C c ≡ maximumIndex d
   line-index = kept.index-of (R .kept) (R .few) c d q
 
-  pub line-writable : (top : ℕ) → top ≡ maximumIndex d → (A₁ A₂ : List ℕ) → Cleared A A₁ (128 * (top + 1)) → Loaded F C B N A₁ A₂ c 0 → AllWritable N top A₂ (lookup d) (rowOf S) (termOf S) (substitution (termOf S) d) (literals d)
+  pub line-writable : (top : ℕ) → top ≡ maximumIndex d → (A₁ A₂ : List ℕ) → Cleared A A₁ (128 * (top + 1)) → Loaded O C B N A₁ A₂ c 0 → AllWritable N top A₂ (lookup d) (rowOf S) (termOf S) (substitution (termOf S) d) (literals d)
   line-writable top p A₁ A₂ K L =
       let ok = kept.ok-of (R .kept) (R .few) in
       record {
@@ -255,7 +256,7 @@ module _ {F C B N A : List ℕ} {t : Tables} {S : State} {symbols rows : List �
       }
 
 -- What writing its literals asks.
-pub line-literals : {F C B N A T : List ℕ} {c : ℕ} (R : LineReady F C B N A T c) (top : ℕ) → top ≡ indexCell C c → (A₁ A₂ : List ℕ) → Cleared A A₁ (128 * (top + 1)) → Loaded F C B N A₁ A₂ c 0 → (T′ : List ℕ) → length T′ ≡ 131072 → LiteralsReady F C N A₂ T′ c
+pub line-literals : {C B N O A T : List ℕ} {c : ℕ} (R : LineReady C B N O A T c) (top : ℕ) → top ≡ indexCell C c → (A₁ A₂ : List ℕ) → Cleared A A₁ (128 * (top + 1)) → Loaded O C B N A₁ A₂ c 0 → (T′ : List ℕ) → length T′ ≡ 131072 → LiteralsReady O C N A₂ T′ c
 line-literals {c = c} R top p A₁ A₂ K L T′ room =
     let S = R .state in
     let d = here R .clause in
@@ -272,14 +273,14 @@ line-literals {c = c} R top p A₁ A₂ K L T′ room =
     }
 
 -- The parts of a line, one after another.
-pub line-written : (F C B N A T : List ℕ) (at c top : ℕ) → top ≡ indexCell C c → (A₁ A₂ A₃ : List ℕ) → Cleared A A₁ (128 * (top + 1)) → Loaded F C B N A₁ A₂ c 0
+pub line-written : (C B N O A T : List ℕ) (at c top : ℕ) → top ≡ indexCell C c → (A₁ A₂ A₃ : List ℕ) → Cleared A A₁ (128 * (top + 1)) → Loaded O C B N A₁ A₂ c 0
     → (T₁ : List ℕ) (blank : ℕ) → Wrote T T₁ at blank (decimal c) → (T₂ : List ℕ) (index : ℕ) → Wrote T₁ T₂ blank index (32 ∷ []) → (T₃ : List ℕ) (first : ℕ) → Wrote T₂ T₃ index first (decimal top)
-    → (T₄ : List ℕ) (last : ℕ) → WritesLiterals F C N A₂ A₃ T₃ T₄ first c last → Sized N A₃ T₄ → (T₅ : List ℕ) (end : ℕ) → Wrote T₄ T₅ last end (10 ∷ []) → LineWritten F C B N A A₃ T T₅ at c end
-line-written F C B N A T at c top p A₁ A₂ A₃ K L T₁ blank v₁ T₂ index v₂ T₃ first v₃ T₄ last G Z T₅ end v₄ =
+    → (T₄ : List ℕ) (last : ℕ) → WritesLiterals O C N A₂ A₃ T₃ T₄ first c last → Sized N A₃ T₄ → (T₅ : List ℕ) (end : ℕ) → Wrote T₄ T₅ last end (10 ∷ []) → LineWritten C B N O A A₃ T T₅ at c end
+line-written C B N O A T at c top p A₁ A₂ A₃ K L T₁ blank v₁ T₂ index v₂ T₃ first v₃ T₄ last G Z T₅ end v₄ =
     record { wrote = written-line; sized = record { nodes = Z .nodes; values = Z .values; text = v₄ .kept .room ∙ Z .text } }
   where
-    written-line : (t : Tables) (S : State) (symbols rows : List ℕ) → ReadTo F t S (tablesWith symbols rows C B) N A → (d : Derivation) → clauseOf S c ≡ some d → Wrote T T₅ at end (clauseLine S c d)
-    written-line t S symbols rows R d q =
+    written-line : (F : List ℕ) (t : Tables) (S : State) (symbols rows : List ℕ) → ReadTo F t S (tablesWith symbols rows C B) N O A → (d : Derivation) → clauseOf S c ≡ some d → Wrote T T₅ at end (clauseLine S c d)
+    written-line F t S symbols rows R d q =
         let m : top ≡ maximumIndex d = p ∙ line-index {t = t} {symbols = symbols} {rows = rows} R c d q in
         let w = G B d (kept.stored-of (R .kept) (R .few) c d q) top (lookup d) (rowOf S) (termOf S) (substitution (termOf S) d) (line-writable R c d q top m A₁ A₂ K L) in
         let x = literalsText (rowOf S) (written (termOf S) d) in

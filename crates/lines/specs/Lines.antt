@@ -31,16 +31,16 @@ pub record AllWritable (N : List ℕ) (top : ℕ) (A : List ℕ) (ρ : Environme
   pub values : WritesOut term ρ σ
 
 -- What writing literal n of clause c asks: the clause has one, and it can be written out.
-pub record NumberedReady (F C N A T : List ℕ) (c n : ℕ) : Type 0 where
-  pub clause : StoredClause F C c
+pub record NumberedReady (O C N A T : List ℕ) (c n : ℕ) : Type 0 where
+  pub clause : StoredClause O C c
   pub literal : Literal
   pub isNumbered : numbered (literals (clause .derivation)) n ≡ some literal
   pub ready : WritingReady N A T (literal .1)
 
 -- What writing all literals of clause c asks: they can be collected, the tables and the buffer are at their full size, and there are some
 -- environment, rows, terms and values with which all of them can be written out.
-pub record LiteralsReady (F C N A T : List ℕ) (c : ℕ) : Type 0 where
-  pub collectable : Collectable F C 0 c 0
+pub record LiteralsReady (O C N A T : List ℕ) (c : ℕ) : Type 0 where
+  pub collectable : Collectable O C 0 c 0
   pub sized : Sized N A T
   pub top : ℕ
   pub environment : Environment
@@ -51,29 +51,30 @@ pub record LiteralsReady (F C N A T : List ℕ) (c : ℕ) : Type 0 where
 
 -- Literal n of clause c.
 abbrev pub WritesNumbered : List ℕ → List ℕ → List ℕ → List ℕ → List ℕ → List ℕ → List ℕ → ℕ → ℕ → ℕ → ℕ → Type 0
-WritesNumbered F C N A A′ T T′ at c n end =
-    (B : List ℕ) (d : Derivation) → Stored F C B c d → (l : Literal) → numbered (literals d) n ≡ some l
+WritesNumbered O C N A A′ T T′ at c n end =
+    (B : List ℕ) (d : Derivation) → Stored O C B c d → (l : Literal) → numbered (literals d) n ≡ some l
     → WritesLiteral N A A′ T T′ at (l .0) (l .1) end
 
 -- All literals of clause c, each after a blank.
 abbrev pub WritesLiterals : List ℕ → List ℕ → List ℕ → List ℕ → List ℕ → List ℕ → List ℕ → ℕ → ℕ → ℕ → Type 0
-WritesLiterals F C N A A′ T T′ at c end =
-    (B : List ℕ) (d : Derivation) → Stored F C B c d
+WritesLiterals O C N A A′ T T′ at c end =
+    (B : List ℕ) (d : Derivation) → Stored O C B c d
     → (top : ℕ) (ρ : Environment) (row : ℕ → Row) (term : ℕ → Term ℕ) (σ : Variable → Term Variable) → AllWritable N top A ρ row term σ (literals d)
     → LiteralWritten N top A′ ρ T T′ at end (literalsText row (map (writtenLiteral term σ) (literals d)))
 
 -- What writing the line of clause c asks: what the check of the file left of some state, which has a clause c, and the buffer's length.
-pub record LineReady (F C B N A T : List ℕ) (c : ℕ) : Type 0 where
+pub record LineReady (C B N O A T : List ℕ) (c : ℕ) : Type 0 where
+  pub file : List ℕ
   pub tablesBefore : Tables
   pub state : State
   pub symbols : List ℕ
   pub rows : List ℕ
-  pub read : ReadTo F tablesBefore state (tablesWith symbols rows C B) N A
+  pub read : ReadTo file tablesBefore state (tablesWith symbols rows C B) N O A
   pub inside : c < length (state .clauses)
   pub text : length T ≡ 131072
 
 -- What it says: the clause's line, whichever state the check left; and the lengths, which is all that the next line needs besides.
-pub record LineWritten (F C B N A A′ T T′ : List ℕ) (at c end : ℕ) : Type 0 where
-  pub wrote : (t : Tables) (S : State) (symbols rows : List ℕ) → ReadTo F t S (tablesWith symbols rows C B) N A
+pub record LineWritten (C B N O A A′ T T′ : List ℕ) (at c end : ℕ) : Type 0 where
+  pub wrote : (F : List ℕ) (t : Tables) (S : State) (symbols rows : List ℕ) → ReadTo F t S (tablesWith symbols rows C B) N O A
       → (d : Derivation) → clauseOf S c ≡ some d → Wrote T T′ at end (clauseLine S c d)
   pub sized : Sized N A′ T′

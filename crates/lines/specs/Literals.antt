@@ -9,7 +9,7 @@ use Rattle.derivation.specs.Derivation.{literals, Literal, literalOf, Derivatio
 use Rattle.clauses.specs.Named.{leftOver, passed, raiseNamed}
 use Rattle.derivation.specs.Stored.{Stored}
 
--- A literal from its number in an input clause's record, and its index.
+-- A literal from its number in an input clause's origin, and its index.
 abbrev pub literalWith : ℕ → ℕ → Literal
 literalWith code index = (literalOf code .0, (literalOf code .1, index))
 
@@ -41,18 +41,19 @@ pub record Deleted (L L′ : List ℕ) (base end a r : ℕ) : Type 0 where
   pub last : (count : ℕ) → end ≡ base + count → r ≡ base + leftOver count a
   pub left : (count : ℕ) → end ≡ base + count → (n : ℕ) → 1 ≤ n → n ≤ leftOver count a → listed L′ (base + n) ≡ listed L (base + passed n a)
 
--- What collecting clause c after number `base`, at offset o, asks: a derivation that is clause c of the tables, whose indices, raised by o,
+-- What collecting clause c after number `base`, at offset o, asks: a whole table of origins, a derivation that is clause c of the tables, whose indices, raised by o,
 -- are within document 01's limit, and room for its literals and for one more at each step that it has at most.
-pub record Collectable (F C : List ℕ) (base c o : ℕ) : Type 0 where
+pub record Collectable (O C : List ℕ) (base c o : ℕ) : Type 0 where
+  pub originRoom : length O ≡ 32768
   pub bindings : List ℕ
   pub derivation : Derivation
-  pub stored : Stored F C bindings c derivation
+  pub stored : Stored O C bindings c derivation
   pub fits : o + maximumIndex derivation ≤ 4096
   pub few : base + length (literals derivation) + c < 4352
 
 -- What it says: the list is as it was up to number `base`, the clause's literals are after it, raised by o, and the last one has number `end`.
-pub record Collected (F C L L′ : List ℕ) (base c o end : ℕ) : Type 0 where
+pub record Collected (O C L L′ : List ℕ) (base c o end : ℕ) : Type 0 where
   pub room : length L′ ≡ 8704
   pub before : (k : ℕ) → k ≤ base → listed L′ k ≡ listed L k
-  pub last : (B : List ℕ) (d : Derivation) → Stored F C B c d → end ≡ base + length (literals d)
-  pub holds : (B : List ℕ) (d : Derivation) → Stored F C B c d → Holds L′ base o (literals d)
+  pub last : (B : List ℕ) (d : Derivation) → Stored O C B c d → end ≡ base + length (literals d)
+  pub holds : (B : List ℕ) (d : Derivation) → Stored O C B c d → Holds L′ base o (literals d)

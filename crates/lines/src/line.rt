@@ -6,6 +6,7 @@ use clauses::literal::NamedLiteral;
 use clauses::literal::literal;
 use clauses::literals_cell;
 use following::nodes::Nodes;
+use following::nodes::Origins;
 use following::values::ValueCells;
 use following::values::clear;
 use loading::load;
@@ -26,7 +27,7 @@ const FEW: u16 = 6;
 
 // Literal n of clause c, from 1, looked up and written after a blank. The array holds the clause.
 fn write_numbered(
-    file: &[u8],
+    origins: &Origins,
     clauses: &[u16],
     nodes: &Nodes,
     values: &mut ValueCells,
@@ -35,10 +36,10 @@ fn write_numbered(
     c: u16,
     n: u16,
 ) -> usize
-    requires { ⌜ NumberedReady (now file) (now clauses) (now nodes) (now values) (now text) c n ⌝ }
-    ensures { λ end. ⌜ WritesNumbered (now (file .entry)) (now (clauses .entry)) (now (nodes .entry)) (now (values .entry)) (now (values .exit)) (now (text .entry)) (now (text .exit)) at c n end × Sized (now (nodes .entry)) (now (values .exit)) (now (text .exit)) ⌝ }
+    requires { ⌜ NumberedReady (now origins) (now clauses) (now nodes) (now values) (now text) c n ⌝ }
+    ensures { λ end. ⌜ WritesNumbered (now (origins .entry)) (now (clauses .entry)) (now (nodes .entry)) (now (values .entry)) (now (values .exit)) (now (text .entry)) (now (text .exit)) at c n end × Sized (now (nodes .entry)) (now (values .exit)) (now (text .exit)) ⌝ }
 {
-    let l = literal(file, clauses, c, n);
+    let l = literal(origins, clauses, c, n);
     let NamedLiteral::Found(positive, row, index) = l else {
         return at;
     };
@@ -47,7 +48,7 @@ fn write_numbered(
 
 // All literals of clause c, each looked up by its number.
 fn write_found_literals(
-    file: &[u8],
+    origins: &Origins,
     clauses: &[u16],
     nodes: &Nodes,
     values: &mut ValueCells,
@@ -55,15 +56,15 @@ fn write_found_literals(
     at: usize,
     c: u16,
 ) -> usize
-    requires { ⌜ LiteralsReady (now file) (now clauses) (now nodes) (now values) (now text) c ⌝ }
-    ensures { λ end. ⌜ WritesLiterals (now (file .entry)) (now (clauses .entry)) (now (nodes .entry)) (now (values .entry)) (now (values .exit)) (now (text .entry)) (now (text .exit)) at c end × Sized (now (nodes .entry)) (now (values .exit)) (now (text .exit)) ⌝ }
+    requires { ⌜ LiteralsReady (now origins) (now clauses) (now nodes) (now values) (now text) c ⌝ }
+    ensures { λ end. ⌜ WritesLiterals (now (origins .entry)) (now (clauses .entry)) (now (nodes .entry)) (now (values .entry)) (now (values .exit)) (now (text .entry)) (now (text .exit)) at c end × Sized (now (nodes .entry)) (now (values .exit)) (now (text .exit)) ⌝ }
 {
     let count = literals_cell(clauses, c);
     let mut end = at;
     let mut n: u16 = 0;
     while n < count {
         n += 1;
-        end = write_numbered(file, clauses, nodes, values, text, end, c, n);
+        end = write_numbered(origins, clauses, nodes, values, text, end, c, n);
     }
     end
 }
@@ -89,7 +90,7 @@ fn write_listed(
 
 // All literals of clause c, collected in a list first.
 fn write_collected_literals(
-    file: &[u8],
+    origins: &Origins,
     clauses: &[u16],
     nodes: &Nodes,
     values: &mut ValueCells,
@@ -97,11 +98,11 @@ fn write_collected_literals(
     at: usize,
     c: u16,
 ) -> usize
-    requires { ⌜ LiteralsReady (now file) (now clauses) (now nodes) (now values) (now text) c ⌝ }
-    ensures { λ end. ⌜ WritesLiterals (now (file .entry)) (now (clauses .entry)) (now (nodes .entry)) (now (values .entry)) (now (values .exit)) (now (text .entry)) (now (text .exit)) at c end × Sized (now (nodes .entry)) (now (values .exit)) (now (text .exit)) ⌝ }
+    requires { ⌜ LiteralsReady (now origins) (now clauses) (now nodes) (now values) (now text) c ⌝ }
+    ensures { λ end. ⌜ WritesLiterals (now (origins .entry)) (now (clauses .entry)) (now (nodes .entry)) (now (values .entry)) (now (values .exit)) (now (text .entry)) (now (text .exit)) at c end × Sized (now (nodes .entry)) (now (values .exit)) (now (text .exit)) ⌝ }
 {
     let mut list = [0u16; 8704];
-    let count = collect(file, clauses, &mut list, 0, c, 0);
+    let count = collect(origins, clauses, &mut list, 0, c, 0);
     let mut end = at;
     let mut n: usize = 0;
     while n < count {
@@ -113,7 +114,7 @@ fn write_collected_literals(
 
 // All literals of clause c, each after a blank. The array holds the clause.
 fn write_literals(
-    file: &[u8],
+    origins: &Origins,
     clauses: &[u16],
     nodes: &Nodes,
     values: &mut ValueCells,
@@ -121,18 +122,18 @@ fn write_literals(
     at: usize,
     c: u16,
 ) -> usize
-    requires { ⌜ LiteralsReady (now file) (now clauses) (now nodes) (now values) (now text) c ⌝ }
-    ensures { λ end. ⌜ WritesLiterals (now (file .entry)) (now (clauses .entry)) (now (nodes .entry)) (now (values .entry)) (now (values .exit)) (now (text .entry)) (now (text .exit)) at c end × Sized (now (nodes .entry)) (now (values .exit)) (now (text .exit)) ⌝ }
+    requires { ⌜ LiteralsReady (now origins) (now clauses) (now nodes) (now values) (now text) c ⌝ }
+    ensures { λ end. ⌜ WritesLiterals (now (origins .entry)) (now (clauses .entry)) (now (nodes .entry)) (now (values .entry)) (now (values .exit)) (now (text .entry)) (now (text .exit)) at c end × Sized (now (nodes .entry)) (now (values .exit)) (now (text .exit)) ⌝ }
 {
     if literals_cell(clauses, c) <= FEW {
-        return write_found_literals(file, clauses, nodes, values, text, at, c);
+        return write_found_literals(origins, clauses, nodes, values, text, at, c);
     }
-    write_collected_literals(file, clauses, nodes, values, text, at, c)
+    write_collected_literals(origins, clauses, nodes, values, text, at, c)
 }
 
 // The line of clause c. The array is cleared as far as the clause reaches, and then the clause is loaded.
 pub fn write_line(
-    file: &[u8],
+    origins: &Origins,
     clauses: &[u16],
     bindings: &[u16],
     nodes: &Nodes,
@@ -141,15 +142,15 @@ pub fn write_line(
     at: usize,
     c: u16,
 ) -> usize
-    requires { ⌜ LineReady (now file) (now clauses) (now bindings) (now nodes) (now values) (now text) c ⌝ }
-    ensures { λ end. ⌜ LineWritten (now (file .entry)) (now (clauses .entry)) (now (bindings .entry)) (now (nodes .entry)) (now (values .entry)) (now (values .exit)) (now (text .entry)) (now (text .exit)) at c end ⌝ }
+    requires { ⌜ LineReady (now clauses) (now bindings) (now nodes) (now origins) (now values) (now text) c ⌝ }
+    ensures { λ end. ⌜ LineWritten (now (clauses .entry)) (now (bindings .entry)) (now (nodes .entry)) (now (origins .entry)) (now (values .entry)) (now (values .exit)) (now (text .entry)) (now (text .exit)) at c end ⌝ }
 {
     let top = index_cell(clauses, c);
     clear(values, top);
-    load(file, clauses, bindings, nodes, values, c, 0);
+    load(origins, clauses, bindings, nodes, values, c, 0);
     let blank = put_decimal(text, at, c);
     let index = put_byte(text, blank, b' ');
     let first = put_decimal(text, index, top);
-    let last = write_literals(file, clauses, nodes, values, text, first, c);
+    let last = write_literals(origins, clauses, nodes, values, text, first, c);
     put_byte(text, last, b'\n')
 }

@@ -2,11 +2,13 @@
 // number n, from 1: the number that an input clause has for it (2 × row, plus 1 if positive), and its index.
 use clauses::index_cell;
 use clauses::literals_cell;
-use clauses::record_cell;
+use clauses::origin_code;
+use following::nodes::Origins;
+use following::nodes::part_of;
 ghost use mathlib.Core.Path.{_≡_};
 ghost use Prim.Native.Nat.{_≤_, _<_};
 ghost use lib.ListN.{length};
-ghost use Rattle.derivation.specs.Stored.{recordOf};
+ghost use Rattle.derivation.specs.Stored.{originCode};
 ghost use Rattle.lines.specs.Literals.{Placed, Moved, Deleted, Collectable, Collected};
 
 // The cells of literal n.
@@ -54,9 +56,9 @@ fn delete(list: &mut [u16; 8704], base: usize, end: usize, a: u16) -> usize
     end - 1
 }
 
-// The literals of an input clause, after number `base`: the fields of its record.
+// The literals of an input clause, after number `base`: the numbers of its origin.
 fn collect_input(
-    file: &[u8],
+    origins: &Origins,
     clauses: &[u16],
     list: &mut [u16; 8704],
     base: usize,
@@ -64,15 +66,14 @@ fn collect_input(
     offset: u16,
 ) -> usize
     requires { ⌜ length (now list) ≡ 8704 ⌝ }
-    requires { ⌜ Collectable (now file) (now clauses) base c offset ⌝ }
-    requires { ⌜ recordOf (now file) (now clauses) c .kind ≡ 4 ⌝ }
-    ensures { λ end. ⌜ Collected (now (file .entry)) (now (clauses .entry)) (now (list .entry)) (now (list .exit)) base c offset end ⌝ }
+    requires { ⌜ Collectable (now origins) (now clauses) base c offset ⌝ }
+    requires { ⌜ originCode (now origins) c ≡ 1 ⌝ }
+    ensures { λ end. ⌜ Collected (now (origins .entry)) (now (clauses .entry)) (now (list .entry)) (now (list .exit)) base c offset end ⌝ }
 {
-    let part = record::record_part(file, record_cell(clauses, c) as usize);
     let count = literals_cell(clauses, c);
     let mut n: u16 = 0;
     while n < count {
-        let code = record::field(part, n as u8);
+        let code = part_of(origins, c, n);
         n += 1;
         place(list, base + (n as usize), code, offset + 1);
     }
@@ -82,7 +83,7 @@ fn collect_input(
 // The literals of clause c, after number `base`, with their indices raised by the offset: those of its parents, the right one's raised by
 // the left maximum index, without the literals that the step names. Answers the number of the last one.
 pub fn collect(
-    file: &[u8],
+    origins: &Origins,
     clauses: &[u16],
     list: &mut [u16; 8704],
     base: usize,
@@ -90,22 +91,21 @@ pub fn collect(
     offset: u16,
 ) -> usize
     requires { ⌜ length (now list) ≡ 8704 ⌝ }
-    requires { ⌜ Collectable (now file) (now clauses) base c offset ⌝ }
-    ensures { λ end. ⌜ Collected (now (file .entry)) (now (clauses .entry)) (now (list .entry)) (now (list .exit)) base c offset end ⌝ }
+    requires { ⌜ Collectable (now origins) (now clauses) base c offset ⌝ }
+    ensures { λ end. ⌜ Collected (now (origins .entry)) (now (clauses .entry)) (now (list .entry)) (now (list .exit)) base c offset end ⌝ }
 {
-    let part = record::record_part(file, record_cell(clauses, c) as usize);
-    let kind = record::kind(part);
-    if kind == 4 {
-        return collect_input(file, clauses, list, base, c, offset);
+    let code = origin_code(origins, c);
+    if code == 1 {
+        return collect_input(origins, clauses, list, base, c, offset);
     }
-    let left = record::field(part, 0);
-    let second = record::field(part, 2);
-    let all = collect(file, clauses, list, base, left, offset);
-    if kind != 5 {
+    let left = part_of(origins, c, 0);
+    let second = part_of(origins, c, 2);
+    let all = collect(origins, clauses, list, base, left, offset);
+    if code != 3 {
         return delete(list, base, all, second);
     }
-    let kept = delete(list, base, all, record::field(part, 1));
+    let kept = delete(list, base, all, part_of(origins, c, 1));
     let above = offset + index_cell(clauses, left);
-    let last = collect(file, clauses, list, kept, second, above);
-    delete(list, kept, last, record::field(part, 3))
+    let last = collect(origins, clauses, list, kept, second, above);
+    delete(list, kept, last, part_of(origins, c, 3))
 }

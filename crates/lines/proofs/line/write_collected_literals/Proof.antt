@@ -4,32 +4,37 @@ use native.Mathlib.Omega.{arith}
 use lib.ListN.{length-replicate}
 use Rattle.terms.specs.Writing.{Sized}
 use Rattle.lines.proofs.LineTexts.{WritesSoFar, literals-start, literals-end, literals-next, collected-few, numbered-listed, collected-literals, listed-ready, numbered-ready}
+use borrow.Author.Needs.{needs}
 use Rattle.lines.proofs.line.write_collected_literals.Statement.{statement}
 use Rattle.lines.proofs.line.write_collected_literals.Tie as tie
+use Rattle.lines.proofs.line.write_collected_literals.Reads as reads
+use Rattle.lines.proofs.line.write_collected_literals.Lts as lts
+use Rattle.lines.proofs.line.write_listed.Reads as write-listed-reads
+use Rattle.lines.proofs.literals.collect.Reads as collect-reads
 
 abbrev Inv-loop : tie.InvT-loop
-Inv-loop file clauses nodes values₀ text₀ at c list count end₀ n₀ values text end n =
-    Sized nodes values text × (n ≤ count) × WritesSoFar file clauses nodes values₀ values text₀ text at c end n
+Inv-loop origins clauses nodes values₀ text₀ at c list count end₀ n₀ values text end n =
+    Sized nodes values text × (n ≤ count) × WritesSoFar origins clauses nodes values₀ values text₀ text at c end n
 
 abbrev μ-loop : tie.MeasureT-loop
-μ-loop file clauses nodes values₀ text₀ at c list count end₀ n₀ values text end n =
+μ-loop origins clauses nodes values₀ text₀ at c list count end₀ n₀ values text end n =
     count - n
 
 collect-requires : tie.Need-collect-requires Inv-loop μ-loop
 collect-requires c κs =
-    (length-replicate {A = ℕ} 8704 0, c .before .before .before .pre .collectable)
+    (length-replicate {A = ℕ} 8704 0, c .before .before .pre .collectable)
 
 loop-holds : tie.Need-loop-holds Inv-loop μ-loop
 loop-holds c =
-    (c .before .before .before .before .pre .sized, omega arith, literals-start _ _ _ _ _ _ _)
+    (c .before .before .before .pre .sized, omega arith, literals-start _ _ _ _ _ _ _)
 
 add-n : tie.Need-add-n Inv-loop μ-loop
 add-n c =
-    omega (arith, c .loop-test .taken, collected-few (c .before .before .before .before .before .before .pre .collectable) (c .before .before .collect .ensures))
+    omega (arith, c .loop-test .taken, collected-few (c .before .before .before .before .before .pre .collectable) (c .before .before .collect .ensures))
 
 write-listed-requires : tie.Need-write-listed-requires Inv-loop μ-loop
 write-listed-requires c κs =
-    let s = c .before .before .before .before .before .before .before .before .before in
+    let s = c .before .before .before .before .before .before .before .before in
     let l = c .before .before .before .before .loop in
     let K = c .before .before .before .before .before .collect .ensures in
     let more = c .before .before .before .loop-test .taken in

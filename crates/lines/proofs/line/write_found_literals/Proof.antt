@@ -6,22 +6,25 @@ use Rattle.lines.proofs.LineTexts.{WritesSoFar, literals-start, literal
 use borrow.Author.Needs.{needs}
 use Rattle.lines.proofs.line.write_found_literals.Statement.{statement}
 use Rattle.lines.proofs.line.write_found_literals.Tie as tie
+use Rattle.lines.proofs.line.write_found_literals.Reads as reads
+use Rattle.lines.proofs.line.write_found_literals.Lts as lts
+use Rattle.clauses.proofs.literals_cell.Reads as literals-cell-reads
+use Rattle.lines.proofs.line.write_numbered.Reads as write-numbered-reads
 
 abbrev Inv-loop : tie.InvT-loop
-Inv-loop file clauses nodes values₀ text₀ at c count end₀ n₀ values text end n =
-    Sized nodes values text × (n ≤ count) × WritesSoFar file clauses nodes values₀ values text₀ text at c end n
+Inv-loop origins clauses nodes values₀ text₀ at c count end₀ n₀ values text end n =
+    Sized nodes values text × (n ≤ count) × WritesSoFar origins clauses nodes values₀ values text₀ text at c end n
 
 abbrev μ-loop : tie.MeasureT-loop
-μ-loop file clauses nodes values₀ text₀ at c count end₀ n₀ values text end n =
+μ-loop origins clauses nodes values₀ text₀ at c count end₀ n₀ values text end n =
     count - n
 
 literals-cell-requires : tie.Need-literals-cell-requires Inv-loop μ-loop
-literals-cell-requires c κs =
-    search needs
+literals-cell-requires c κs = search needs
 
 loop-holds : tie.Need-loop-holds Inv-loop μ-loop
 loop-holds c =
-    (c .before .before .before .pre .sized, omega arith, literals-start _ _ _ _ _ _ _)
+    (c .before .before .pre .sized, omega arith, literals-start _ _ _ _ _ _ _)
 
 add-n : tie.Need-add-n Inv-loop μ-loop
 add-n c =
@@ -30,7 +33,7 @@ add-n c =
 write-numbered-requires : tie.Need-write-numbered-requires Inv-loop μ-loop
 write-numbered-requires c κs =
     let l = c .before .before .before .loop in
-    numbered-ready (c .before .before .before .before .before .before .before .pre) (l .inv .2) (cell-literals (c .before .before .before .before .literals-cell .ensures)) (c .before .before .loop-test .taken) (l .inv .0)
+    numbered-ready (c .before .before .before .before .before .before .pre) (l .inv .2) (cell-literals (c .before .before .before .before .literals-cell .ensures)) (c .before .before .loop-test .taken) (l .inv .0)
 
 loop-less : tie.Need-loop-less Inv-loop μ-loop
 loop-less c =

@@ -3,10 +3,14 @@ use Rattle.lines.proofs.LineTexts.{numbered-found, found-ready, numbere
 use borrow.Author.Needs.{needs}
 use Rattle.lines.proofs.line.write_numbered.Statement.{statement}
 use Rattle.lines.proofs.line.write_numbered.Tie as tie
+use Rattle.lines.proofs.line.write_numbered.Reads as reads
+use Rattle.lines.proofs.line.write_numbered.Lts as lts
+use Rattle.clauses.proofs.literal.literal.Reads as literal-reads
+use Rattle.terms.proofs.literal.write_literal.Reads as write-literal-reads
 
 literal-requires : tie.Need-literal-requires
 literal-requires c κs =
-    c .before .before .pre .clause
+    c .before .pre .clause
 
 enum-known-l : tie.Need-enum-known-l
 enum-known-l c = search needs
@@ -16,11 +20,11 @@ enum-told c = search needs
 
 returns : tie.Need-returns
 returns c =
-    (numbered-absent _ _ _ (c .before .before .before .before .before .args .values .now) (c .before .before .before .before .before .args .text .now) _ _ _ _ (c .before .before .literal .ensures) (c .enum-told .given .1), c .before .before .before .before .before .pre .ready .sized)
+    (numbered-absent _ _ _ (c .before .before .before .before .args .values .now) (c .before .before .before .before .args .text .now) _ _ _ _ (c .before .before .literal .ensures) (c .enum-told .given .1), c .before .before .before .before .pre .ready .sized)
 
 write-literal-requires : tie.Need-write-literal-requires
 write-literal-requires c κs =
-    found-ready _ _ _ _ _ (c .before .before .before .before .before .before .before .before .args .at) _ _ _ (c .before .before .before .before .before .literal .ensures) (c .before .before .before .before .before .before .before .before .pre) _ _ _ (c .before .before .before .l .given .1)
+    found-ready _ _ _ _ _ (c .before .before .before .before .before .before .before .args .at) _ _ _ (c .before .before .before .before .before .literal .ensures) (c .before .before .before .before .before .before .before .pre) _ _ _ (c .before .before .before .l .given .1)
 
 returns-2 : tie.Need-returns-2
 returns-2 c =

@@ -1,6 +1,7 @@
 -- A parent has a smaller number, so the measure is the clause's number. Each way out is one law of `CollectedLiterals`.
+use mathlib.Core.Path.{sym, _∙_}
 use native.Mathlib.Omega.{arith}
-use Rattle.lines.proofs.CollectedLiterals.{kind-four, to-first, first-room, from-first, to-second, second-room, from-both}
+use Rattle.lines.proofs.CollectedLiterals.{to-first, first-room, from-first, to-second, second-room, from-both}
 use borrow.Author.Needs.{needs}
 use Prim.Native.Nat.{ℕ, _<_}
 use borrow.Fn.Kinds.{In}
@@ -9,12 +10,10 @@ use Rattle.lines.proofs.literals.collect.Reads as collect
 use Rattle.lines.proofs.literals.collect.Kinds as collect-kinds
 use Rattle.lines.proofs.literals.+collect.Lts-collect as collect-lts
 use Rattle.clauses.proofs.index_cell.Reads as index-cell-reads
-use Rattle.clauses.proofs.record_cell.Reads as record-cell-reads
+use Rattle.clauses.proofs.origin_code.Reads as origin-code-reads
+use Rattle.following.proofs.nodes.part_of.Reads as part-of-reads
 use Rattle.lines.proofs.literals.collect_input.Reads as collect-input-reads
 use Rattle.lines.proofs.literals.delete.Reads as delete-reads
-use Rattle.record.proofs.field.Reads as field-reads
-use Rattle.record.proofs.kind.Reads as kind-reads
-use Rattle.record.proofs.record_part.Reads as record-part-reads
 use Rattle.lines.proofs.literals.+collect.{statement}
 use Rattle.lines.proofs.literals.+collect.Tie.{close}
 
@@ -30,54 +29,49 @@ collect-below t = and 3 collect-kinds.ps (falls 3 collect-kinds.ps _<_ μ-collec
 
 -- what the callees of `collect` say, its own calls below t
 abbrev collect-told : ℕ → collect-lts.Claims
-collect-told t = (record-cell-reads.Asked, record-cell-reads.Learnt, record-part-reads.Asked, record-part-reads.Learnt, kind-reads.Asked, kind-reads.Learnt, collect-input-reads.Asked, collect-input-reads.Learnt, field-reads.Asked, field-reads.Learnt, collect-below t, collect.Post, delete-reads.Asked, delete-reads.Learnt, index-cell-reads.Asked, index-cell-reads.Learnt)
+collect-told t = (origin-code-reads.Asked, origin-code-reads.Learnt, collect-input-reads.Asked, collect-input-reads.Learnt, part-of-reads.Asked, part-of-reads.Learnt, collect-below t, collect.Post, delete-reads.Asked, delete-reads.Learnt, index-cell-reads.Asked, index-cell-reads.Learnt)
 
-collect-record-cell-requires : (t : ℕ) → collect-lts.Need-record-cell-requires (collect-told t) (collect-at t) collect.Post
-collect-record-cell-requires t c κs = search needs
-
-collect-cast-record-part : (t : ℕ) → collect-lts.Need-cast-record-part (collect-told t) (collect-at t) collect.Post
-collect-cast-record-part t c = search needs
-
-collect-record-part-requires : (t : ℕ) → collect-lts.Need-record-part-requires (collect-told t) (collect-at t) collect.Post
-collect-record-part-requires t c κs = search needs
-
-collect-kind-requires : (t : ℕ) → collect-lts.Need-kind-requires (collect-told t) (collect-at t) collect.Post
-collect-kind-requires t c κs = search needs
+collect-origin-code-requires : (t : ℕ) → collect-lts.Need-origin-code-requires (collect-told t) (collect-at t) collect.Post
+collect-origin-code-requires t c κs =
+    c .before .pre .1 .1 .originRoom
 
 collect-collect-input-requires : (t : ℕ) → collect-lts.Need-collect-input-requires (collect-told t) (collect-at t) collect.Post
 collect-collect-input-requires t c κs =
-    (c .before .before .before .before .before .before .before .pre .1 .0, (c .before .before .before .before .before .before .before .pre .1 .1, kind-four (c .before .before .before .before .before .before .before .pre .1 .1) (c .before .before .before .before .record-cell .ensures) (c .before .before .before .record-part .ensures) (c .before .before .kind .ensures) (c .before .if1 .taken)))
+    (c .before .before .before .before .pre .1 .0, (c .before .before .before .before .pre .1 .1, sym (c .before .before .origin-code .ensures) ∙ c .before .if1 .taken))
 
 collect-returns : (t : ℕ) → collect-lts.Need-returns (collect-told t) (collect-at t) collect.Post
 collect-returns t c =
     c .collect-input .ensures
 
-collect-field-requires : (t : ℕ) → collect-lts.Need-field-requires (collect-told t) (collect-at t) collect.Post
-collect-field-requires t c κs = search needs
+collect-part-of-requires : (t : ℕ) → collect-lts.Need-part-of-requires (collect-told t) (collect-at t) collect.Post
+collect-part-of-requires t c κs =
+    c .before .before .before .pre .1 .1 .originRoom
 
-collect-field-requires-2 : (t : ℕ) → collect-lts.Need-field-requires-2 (collect-told t) (collect-at t) collect.Post
-collect-field-requires-2 t c κs = search needs
+collect-part-of-requires-2 : (t : ℕ) → collect-lts.Need-part-of-requires-2 (collect-told t) (collect-at t) collect.Post
+collect-part-of-requires-2 t c κs =
+    c .before .before .before .before .pre .1 .1 .originRoom
 
 collect-collect-requires : (t : ℕ) → collect-lts.Need-collect-requires (collect-told t) (collect-at t) collect.Post
 collect-collect-requires t c κs =
-    let d = to-first (c .before .before .before .before .before .before .before .before .before .pre .1 .1) (c .before .before .before .before .before .before .record-cell .ensures) (c .before .before .before .before .before .record-part .ensures) (c .before .before .before .before .kind .ensures) (c .before .before .before .if1 .left) (c .before .before .field .ensures) (c .before .field2 .ensures) in
-    (omega (arith, c .before .before .before .before .before .before .before .before .before .pre .0, d .0), (c .before .before .before .before .before .before .before .before .before .pre .1 .0, d .1))
+    let d = to-first (c .before .before .before .before .before .before .pre .1 .1) (c .before .before .before .before .origin-code .ensures) (c .before .before .before .if1 .left) (c .before .before .part-of .ensures) (c .before .part-of2 .ensures) in
+    (omega (arith, c .before .before .before .before .before .before .pre .0, d .0), (c .before .before .before .before .before .before .pre .1 .0, d .1))
 
 collect-delete-requires : (t : ℕ) → collect-lts.Need-delete-requires (collect-told t) (collect-at t) collect.Post
 collect-delete-requires t c κs =
-    let d = first-room (c .before .before .before .before .before .before .before .before .before .before .before .before .pre .1 .1) (c .before .before .before .before .before .before .before .before .before .record-cell .ensures) (c .before .before .before .before .before .before .before .before .record-part .ensures) (c .before .before .before .before .before .before .before .kind .ensures) (c .before .before .before .before .before .before .if1 .left) (c .before .before .before .before .before .field .ensures) (c .before .before .before .before .field2 .ensures) (c .before .before .collect .ensures) in
+    let d = first-room (c .before .before .before .before .before .before .before .before .before .pre .1 .1) (c .before .before .before .before .before .before .before .origin-code .ensures) (c .before .before .before .before .before .before .if1 .left) (c .before .before .before .before .before .part-of .ensures) (c .before .before .before .before .part-of2 .ensures) (c .before .before .collect .ensures) in
     (c .before .before .collect .ensures .room, (d .0, d .1))
 
 collect-returns-2 : (t : ℕ) → collect-lts.Need-returns-2 (collect-told t) (collect-at t) collect.Post
 collect-returns-2 t c =
-    from-first (c .before .before .before .before .before .before .before .before .before .before .before .before .before .pre .1 .1) (c .before .before .before .before .before .before .before .before .before .before .record-cell .ensures) (c .before .before .before .before .before .before .before .before .before .record-part .ensures) (c .before .before .before .before .before .before .before .before .kind .ensures) (c .before .before .before .before .before .before .before .if1 .left) (c .before .before .before .before .before .before .field .ensures) (c .before .before .before .before .before .field2 .ensures) (c .before .before .before .collect .ensures) (c .before .before .if2 .taken) (c .delete .ensures)
+    from-first (c .before .before .before .before .before .before .before .before .before .before .pre .1 .1) (c .before .before .before .before .before .before .before .before .origin-code .ensures) (c .before .before .before .before .before .before .before .if1 .left) (c .before .before .before .before .before .before .part-of .ensures) (c .before .before .before .before .before .part-of2 .ensures) (c .before .before .before .collect .ensures) (c .before .before .if2 .taken) (c .delete .ensures)
 
-collect-field-requires-3 : (t : ℕ) → collect-lts.Need-field-requires-3 (collect-told t) (collect-at t) collect.Post
-collect-field-requires-3 t c κs = search needs
+collect-part-of-requires-3 : (t : ℕ) → collect-lts.Need-part-of-requires-3 (collect-told t) (collect-at t) collect.Post
+collect-part-of-requires-3 t c κs =
+    c .before .before .before .before .before .before .before .before .before .pre .1 .1 .originRoom
 
 collect-delete-requires-2 : (t : ℕ) → collect-lts.Need-delete-requires-2 (collect-told t) (collect-at t) collect.Post
 collect-delete-requires-2 t c κs =
-    let d = first-room (c .before .before .before .before .before .before .before .before .before .before .before .before .before .pre .1 .1) (c .before .before .before .before .before .before .before .before .before .before .record-cell .ensures) (c .before .before .before .before .before .before .before .before .before .record-part .ensures) (c .before .before .before .before .before .before .before .before .kind .ensures) (c .before .before .before .before .before .before .before .if1 .left) (c .before .before .before .before .before .before .field .ensures) (c .before .before .before .before .before .field2 .ensures) (c .before .before .before .collect .ensures) in
+    let d = first-room (c .before .before .before .before .before .before .before .before .before .before .pre .1 .1) (c .before .before .before .before .before .before .before .before .origin-code .ensures) (c .before .before .before .before .before .before .before .if1 .left) (c .before .before .before .before .before .before .part-of .ensures) (c .before .before .before .before .before .part-of2 .ensures) (c .before .before .before .collect .ensures) in
     (c .before .before .before .collect .ensures .room, (d .0, d .1))
 
 collect-index-cell-requires : (t : ℕ) → collect-lts.Need-index-cell-requires (collect-told t) (collect-at t) collect.Post
@@ -85,38 +79,35 @@ collect-index-cell-requires t c κs = search needs
 
 collect-add-above : (t : ℕ) → collect-lts.Need-add-above (collect-told t) (collect-at t) collect.Post
 collect-add-above t c =
-    let d = to-second (c .before .before .before .before .before .before .before .before .before .before .before .before .before .before .before .pre .1 .1) (c .before .before .before .before .before .before .before .before .before .before .before .before .record-cell .ensures) (c .before .before .before .before .before .before .before .before .before .before .before .record-part .ensures) (c .before .before .before .before .before .before .before .before .before .before .kind .ensures) (c .before .before .before .before .before .before .before .before .before .if1 .left) (c .before .before .before .before .before .before .before .before .field .ensures) (c .before .before .before .before .before .before .before .field2 .ensures) (c .before .before .before .before .before .collect .ensures) (c .before .before .before .before .if2 .left) (c .before .before .field3 .ensures) (c .before .delete2 .ensures) (c .index-cell .ensures) in
+    let d = to-second (c .before .before .before .before .before .before .before .before .before .before .before .before .pre .1 .1) (c .before .before .before .before .before .before .before .before .before .before .origin-code .ensures) (c .before .before .before .before .before .before .before .before .before .if1 .left) (c .before .before .before .before .before .before .before .before .part-of .ensures) (c .before .before .before .before .before .before .before .part-of2 .ensures) (c .before .before .before .before .before .collect .ensures) (c .before .before .before .before .if2 .left) (c .before .before .part-of3 .ensures) (c .before .delete2 .ensures) (c .index-cell .ensures) in
     omega (arith, d .1 .fits)
 
 collect-collect-requires-2 : (t : ℕ) → collect-lts.Need-collect-requires-2 (collect-told t) (collect-at t) collect.Post
 collect-collect-requires-2 t c κs =
-    let d = to-second (c .before .before .before .before .before .before .before .before .before .before .before .before .before .before .before .before .pre .1 .1) (c .before .before .before .before .before .before .before .before .before .before .before .before .before .record-cell .ensures) (c .before .before .before .before .before .before .before .before .before .before .before .before .record-part .ensures) (c .before .before .before .before .before .before .before .before .before .before .before .kind .ensures) (c .before .before .before .before .before .before .before .before .before .before .if1 .left) (c .before .before .before .before .before .before .before .before .before .field .ensures) (c .before .before .before .before .before .before .before .before .field2 .ensures) (c .before .before .before .before .before .before .collect .ensures) (c .before .before .before .before .before .if2 .left) (c .before .before .before .field3 .ensures) (c .before .before .delete2 .ensures) (c .before .index-cell .ensures) in
-    (omega (arith, c .before .before .before .before .before .before .before .before .before .before .before .before .before .before .before .before .pre .0, d .0), (c .before .before .delete2 .ensures .room, d .1))
+    let d = to-second (c .before .before .before .before .before .before .before .before .before .before .before .before .before .pre .1 .1) (c .before .before .before .before .before .before .before .before .before .before .before .origin-code .ensures) (c .before .before .before .before .before .before .before .before .before .before .if1 .left) (c .before .before .before .before .before .before .before .before .before .part-of .ensures) (c .before .before .before .before .before .before .before .before .part-of2 .ensures) (c .before .before .before .before .before .before .collect .ensures) (c .before .before .before .before .before .if2 .left) (c .before .before .before .part-of3 .ensures) (c .before .before .delete2 .ensures) (c .before .index-cell .ensures) in
+    (omega (arith, c .before .before .before .before .before .before .before .before .before .before .before .before .before .pre .0, d .0), (c .before .before .delete2 .ensures .room, d .1))
 
-collect-field-requires-4 : (t : ℕ) → collect-lts.Need-field-requires-4 (collect-told t) (collect-at t) collect.Post
-collect-field-requires-4 t c κs = search needs
+collect-part-of-requires-4 : (t : ℕ) → collect-lts.Need-part-of-requires-4 (collect-told t) (collect-at t) collect.Post
+collect-part-of-requires-4 t c κs =
+    c .before .before .before .before .before .before .before .before .before .before .before .before .before .before .before .pre .1 .1 .originRoom
 
 collect-delete-requires-3 : (t : ℕ) → collect-lts.Need-delete-requires-3 (collect-told t) (collect-at t) collect.Post
 collect-delete-requires-3 t c κs =
-    let d = second-room (c .before .before .before .before .before .before .before .before .before .before .before .before .before .before .before .before .before .before .before .pre .1 .1) (c .before .before .before .before .before .before .before .before .before .before .before .before .before .before .before .before .record-cell .ensures) (c .before .before .before .before .before .before .before .before .before .before .before .before .before .before .before .record-part .ensures) (c .before .before .before .before .before .before .before .before .before .before .before .before .before .before .kind .ensures) (c .before .before .before .before .before .before .before .before .before .before .before .before .before .if1 .left) (c .before .before .before .before .before .before .before .before .before .before .before .before .field .ensures) (c .before .before .before .before .before .before .before .before .before .before .before .field2 .ensures) (c .before .before .before .before .before .before .before .before .before .collect .ensures) (c .before .before .before .before .before .before .before .before .if2 .left) (c .before .before .before .before .before .before .field3 .ensures) (c .before .before .before .before .before .delete2 .ensures) (c .before .before .before .before .index-cell .ensures) (c .before .before .collect2 .ensures) in
+    let d = second-room (c .before .before .before .before .before .before .before .before .before .before .before .before .before .before .before .before .pre .1 .1) (c .before .before .before .before .before .before .before .before .before .before .before .before .before .before .origin-code .ensures) (c .before .before .before .before .before .before .before .before .before .before .before .before .before .if1 .left) (c .before .before .before .before .before .before .before .before .before .before .before .before .part-of .ensures) (c .before .before .before .before .before .before .before .before .before .before .before .part-of2 .ensures) (c .before .before .before .before .before .before .before .before .before .collect .ensures) (c .before .before .before .before .before .before .before .before .if2 .left) (c .before .before .before .before .before .before .part-of3 .ensures) (c .before .before .before .before .before .delete2 .ensures) (c .before .before .before .before .index-cell .ensures) (c .before .before .collect2 .ensures) in
     (c .before .before .collect2 .ensures .room, (d .0, d .1))
 
 collect-returns-3 : (t : ℕ) → collect-lts.Need-returns-3 (collect-told t) (collect-at t) collect.Post
 collect-returns-3 t c =
-    from-both (c .before .before .before .before .before .before .before .before .before .before .before .before .before .before .before .before .before .before .before .before .pre .1 .1) (c .before .before .before .before .before .before .before .before .before .before .before .before .before .before .before .before .before .record-cell .ensures) (c .before .before .before .before .before .before .before .before .before .before .before .before .before .before .before .before .record-part .ensures) (c .before .before .before .before .before .before .before .before .before .before .before .before .before .before .before .kind .ensures) (c .before .before .before .before .before .before .before .before .before .before .before .before .before .before .if1 .left) (c .before .before .before .before .before .before .before .before .before .before .before .before .before .field .ensures) (c .before .before .before .before .before .before .before .before .before .before .before .before .field2 .ensures) (c .before .before .before .before .before .before .before .before .before .before .collect .ensures) (c .before .before .before .before .before .before .before .before .before .if2 .left) (c .before .before .before .before .before .before .before .field3 .ensures) (c .before .before .before .before .before .before .delete2 .ensures) (c .before .before .before .before .before .index-cell .ensures) (c .before .before .before .collect2 .ensures) (c .before .field4 .ensures) (c .delete3 .ensures)
+    from-both (c .before .before .before .before .before .before .before .before .before .before .before .before .before .before .before .before .before .pre .1 .1) (c .before .before .before .before .before .before .before .before .before .before .before .before .before .before .before .origin-code .ensures) (c .before .before .before .before .before .before .before .before .before .before .before .before .before .before .if1 .left) (c .before .before .before .before .before .before .before .before .before .before .before .before .before .part-of .ensures) (c .before .before .before .before .before .before .before .before .before .before .before .before .part-of2 .ensures) (c .before .before .before .before .before .before .before .before .before .before .collect .ensures) (c .before .before .before .before .before .before .before .before .before .if2 .left) (c .before .before .before .before .before .before .before .part-of3 .ensures) (c .before .before .before .before .before .before .delete2 .ensures) (c .before .before .before .before .before .index-cell .ensures) (c .before .before .before .collect2 .ensures) (c .before .part-of4 .ensures) (c .delete3 .ensures)
 
 pub +collect-spec : {M : Type 1} → statement M
 +collect-spec = close μ-collect λ t. collect-lts.spec (
-  record-cell-reads.Asked,
-  record-cell-reads.Learnt,
-  record-part-reads.Asked,
-  record-part-reads.Learnt,
-  kind-reads.Asked,
-  kind-reads.Learnt,
+  origin-code-reads.Asked,
+  origin-code-reads.Learnt,
   collect-input-reads.Asked,
   collect-input-reads.Learnt,
-  field-reads.Asked,
-  field-reads.Learnt,
+  part-of-reads.Asked,
+  part-of-reads.Learnt,
   collect-below t,
   collect.Post,
   delete-reads.Asked,
@@ -126,22 +117,19 @@ pub +collect-spec : {M : Type 1} → statement M
 )
     (collect-at t)
     collect.Post
-    (collect-record-cell-requires t)
-    (collect-cast-record-part t)
-    (collect-record-part-requires t)
-    (collect-kind-requires t)
+    (collect-origin-code-requires t)
     (collect-collect-input-requires t)
     (collect-returns t)
-    (collect-field-requires t)
-    (collect-field-requires-2 t)
+    (collect-part-of-requires t)
+    (collect-part-of-requires-2 t)
     (collect-collect-requires t)
     (collect-delete-requires t)
     (collect-returns-2 t)
-    (collect-field-requires-3 t)
+    (collect-part-of-requires-3 t)
     (collect-delete-requires-2 t)
     (collect-index-cell-requires t)
     (collect-add-above t)
     (collect-collect-requires-2 t)
-    (collect-field-requires-4 t)
+    (collect-part-of-requires-4 t)
     (collect-delete-requires-3 t)
     (collect-returns-3 t)

@@ -3,6 +3,9 @@ use Rattle.lines.proofs.ListedLiterals.{deleted-zero, deleted-past, del
 use borrow.Author.Needs.{needs}
 use Rattle.lines.proofs.literals.delete.Statement.{statement}
 use Rattle.lines.proofs.literals.delete.Tie as tie
+use Rattle.lines.proofs.literals.delete.Reads as reads
+use Rattle.lines.proofs.literals.delete.Lts as lts
+use Rattle.lines.proofs.literals.move_down.Reads as move-down-reads
 
 returns : tie.Need-returns
 returns c =

@@ -7,6 +7,9 @@ use Rattle.lines.proofs.ListedLiterals.{moved-none, moved-more}
 use borrow.Author.Needs.{needs}
 use Rattle.lines.proofs.literals.move_down.Statement.{statement}
 use Rattle.lines.proofs.literals.move_down.Tie as tie
+use Rattle.lines.proofs.literals.move_down.Reads as reads
+use Rattle.lines.proofs.literals.move_down.Lts as lts
+use Rattle.lines.proofs.literals.place.Reads as place-reads
 
 abbrev Inv-loop : tie.InvT-loop
 Inv-loop list₀ n end k₀ list k =

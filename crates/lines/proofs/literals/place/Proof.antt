@@ -2,6 +2,8 @@ use Rattle.lines.proofs.ListedLiterals.{placed-there}
 use borrow.Author.Needs.{needs}
 use Rattle.lines.proofs.literals.place.Statement.{statement}
 use Rattle.lines.proofs.literals.place.Tie as tie
+use Rattle.lines.proofs.literals.place.Reads as reads
+use Rattle.lines.proofs.literals.place.Lts as lts
 
 mul-list : tie.Need-mul-list
 mul-list c = search needs
