@@ -11,13 +11,10 @@ use lib.Seq.{getD-append-add}
 use borrow.Author.Tests.{eqb-true, ne-eqb}
 use Rattle.record.specs.Record.{pick}
 use Rattle.derivation.specs.Derivation.{Derivation}
-use Rattle.verdict.specs.Refusal.{badLength, shortTable}
-use Rattle.verdict.specs.State.{State, emptyState, derivations, entry, clauseOf}
-use Rattle.verdict.specs.Step.{stateOf}
-use Rattle.verdict.specs.Verdict.{Verdict, accepted, open′, refusal, verdictNumbers, answerNumbers, check, verdictOf, answerOf, longEnough, fittingLength, ending, Lengths}
+use Rattle.verdict.specs.State.{State, derivations, entry, clauseOf}
+use Rattle.verdict.specs.Verdict.{Verdict, accepted, open′, refusal, verdictNumbers, answerNumbers, check, Lengths, reading, stateGiven}
 use Rattle.verdict.proofs.Inversions.{entry-below}
 use Rattle.unification.proofs.Tests.{some-injective}
-use Rattle.checker.specs.Contract.{stateLeft}
 use Rattle.answer.specs.Given.{verdictGiven, answerGiven}
 use Rattle.answer.specs.declared.Answer.{Answer}
 use Rattle.answer.specs.declared.Verdict as given
@@ -44,26 +41,18 @@ clause-line-at S (e ∷ ds) n d q = try (eqb n (length ds)) refl q (λ r. clause
         ∙ ap₂ (clauseLine S) (sym (eqb-true n (length ds) p)) (some-injective r)
     try false p r ih = List·getD-append (clauseLines S ds) (clauseLine S (length ds) e ∷ []) [] n (omega (arith, entry-below ds n d r, clause-lines-length S ds)) ∙ ih r
 
+-- The state that a check leaves.
+abbrev pub stateLeft : List ℕ → Lengths → State
+stateLeft file lengths = stateGiven (reading file lengths)
+
 -- The lines of a file are those of the verdict and the state that its check leaves.
 pub lines-left : (F : List ℕ) (lengths : Lengths) → readoutLines F lengths ≡ linesOf (check F lengths .verdict) (stateLeft F lengths)
 unfolding readoutLines check
-lines-left F lengths = try (fittingLength (length F)) (longEnough lengths)
-  where
-    try : (f l : Bool) → pick f (pick l (linesOf (verdictOf (ending F)) (stateOf (ending F))) (linesOf (refusal shortTable 0) emptyState)) (linesOf (refusal badLength 0) emptyState)
-        ≡ linesOf (pick f (pick l (answerOf (verdictOf (ending F)) (stateOf (ending F))) (answerOf (refusal shortTable 0) emptyState)) (answerOf (refusal badLength 0) emptyState) .verdict) (pick f (pick l (stateOf (ending F)) emptyState) emptyState)
-    try true true = refl
-    try true false = refl
-    try false l = refl
+lines-left F lengths = refl
 
 counts-left : (F : List ℕ) (lengths : Lengths) → check F lengths .clauses ≡ length (stateLeft F lengths .clauses)
 unfolding check
-counts-left F lengths = try (fittingLength (length F)) (longEnough lengths)
-  where
-    try : (f l : Bool) → pick f (pick l (answerOf (verdictOf (ending F)) (stateOf (ending F))) (answerOf (refusal shortTable 0) emptyState)) (answerOf (refusal badLength 0) emptyState) .clauses
-        ≡ length (pick f (pick l (stateOf (ending F)) emptyState) emptyState .clauses)
-    try true true = refl
-    try true false = refl
-    try false l = refl
+counts-left F lengths = refl
 
 -- The verdict's numbers and the counts, taken apart.
 rest-given : (v : given.Verdict) (xs : List ℕ) → drop 3 (verdictGiven v ++ xs) ≡ xs

@@ -1,6 +1,6 @@
 -- The verdict that the program gives is written as the definition's verdict with the same numbers.
 use mathlib.Core.Path.{_≡_, refl, sym, ap, _∙_, subst}
-use mathlib.Core.List.{List, [], _∷_}
+use mathlib.Core.List.{List, [], _∷_, _++_}
 use Prim.Native.Nat.{ℕ}
 use native.Mathlib.Omega.{arith}
 use lib.ListN.{length, take}
@@ -12,7 +12,7 @@ use Rattle.answer.specs.declared.Answer as given-answer
 use Rattle.answer.specs.declared.Verdict as given
 use Rattle.answer.specs.declared.Verdict.the-variants.{Open, Accepted, Refused}
 use Rattle.readout.specs.Heading.{givenText, VerdictWritten}
-use Rattle.verdict.specs.Readout.{verdictText}
+use Rattle.verdict.specs.Readout.{verdictText, verdictLine}
 use Rattle.terms.specs.Writing.{Wrote}
 use Rattle.terms.proofs.Positions.{wrote-then}
 
@@ -37,9 +37,13 @@ given-written {v} {T} {T′} {at} {end} u q w = subst (λ (x : given.Verdict). W
 pub verdict-written : (v : given.Verdict) (T T₁ T₂ : List ℕ) (at last end : ℕ) → length T ≡ 131072 → Wrote T T₁ at last (givenText v) → Wrote T₁ T₂ last end (10 ∷ []) → VerdictWritten v T T₂ at end
 verdict-written v T T₁ T₂ at last end z w x =
     record {
-      wrote = λ u q. wrote-then T T₁ T₂ at last end (verdictText u) (10 ∷ []) (subst (Wrote T T₁ at last) (given-words v u q) w) x;
+      wrote = wrote-then T T₁ T₂ at last end (givenText v) (10 ∷ []) w x;
       room = x .kept .room ∙ w .kept .room ∙ z;
     }
+
+-- The line written is that of the definition's verdict with the same three numbers.
+pub verdict-line : {v : given.Verdict} {T T′ : List ℕ} {at end : ℕ} (u : Verdict) → verdictGiven v ≡ verdictNumbers u → VerdictWritten v T T′ at end → Wrote T T′ at end (verdictLine u)
+verdict-line {v} {T} {T′} {at} {end} u q W = subst (λ (x : List ℕ). Wrote T T′ at end (x ++ (10 ∷ []))) (given-words v u q) (W .wrote)
 
 -- The verdict's numbers are the first three of an answer's seven.
 pub verdict-told : (a : given-answer.Answer) (b : Answer) → answerGiven a ≡ answerNumbers b → verdictGiven (a .verdict) ≡ verdictNumbers (b .verdict)

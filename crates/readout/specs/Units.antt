@@ -8,7 +8,7 @@ use lib.ListN.{length, getD, drop}
 use Rattle.record.specs.Record.{pick}
 use Rattle.verdict.specs.Tables.{Tables, lengthsOf}
 use Rattle.verdict.specs.Verdict.{Lengths}
-use Rattle.checker.specs.Contract.{CheckedWith}
+use Rattle.checker.specs.Contract.{Workspace, workspaceWith, CheckedWith}
 use Rattle.entry.specs.Progress.{tablesWith}
 use Rattle.answer.specs.declared.Answer.{Answer}
 use Rattle.verdict.specs.Readout.{readoutLines}
@@ -25,21 +25,23 @@ unitsWithin clauses = pick (eqb clauses 0) 1 clauses
 unfoldable pub unitAt : List ℕ → Lengths → ℕ → List ℕ
 unitAt file lengths n = getD (units (readoutLines file lengths)) n []
 
--- What is there after a check: its answer, for some tables before it, with the node table and the array.
-pub record AfterCheck (F C B N A : List ℕ) (a : Answer) : Type 0 where
+-- What is there after a check of some file: its answer, for some tables before it, with the workspace that it left.
+pub record AfterCheck (C B N O A : List ℕ) (a : Answer) : Type 0 where
+  pub file : List ℕ
   pub before : Tables
+  pub lent : Workspace
   pub symbols : List ℕ
   pub rows : List ℕ
-  pub checked : CheckedWith F before a (tablesWith symbols rows C B) N A
+  pub checked : CheckedWith file before lent a (tablesWith symbols rows C B) (workspaceWith N O A)
 
--- What writing unit n asks, and what it says, whichever tables there were before the check.
-pub record UnitReady (F C B N A T : List ℕ) (a : Answer) (n : ℕ) : Type 0 where
-  pub after : AfterCheck F C B N A a
+-- What writing unit n at the start of the buffer asks, and what it says, whichever file was checked and whichever tables there were before.
+pub record UnitReady (C B N O A T : List ℕ) (a : Answer) (n : ℕ) : Type 0 where
+  pub after : AfterCheck C B N O A a
   pub inside : n < unitsWithin (a .clauses)
   pub text : length T ≡ 131072
 
-pub record UnitWritten (F C B N A A′ T T′ : List ℕ) (at : ℕ) (a : Answer) (n end : ℕ) : Type 0 where
-  pub wrote : (R : AfterCheck F C B N A a) → Wrote T T′ at end (unitAt F (lengthsOf (R .before)) n)
+pub record UnitWritten (C B N O A A′ T T′ : List ℕ) (a : Answer) (n end : ℕ) : Type 0 where
+  pub wrote : (R : AfterCheck C B N O A a) → Wrote T T′ 0 end (unitAt (R .file) (lengthsOf (R .before)) n)
   pub sized : Sized N A′ T′
 
 -- What comes after a piece, as the program says it; and where one that began with a clause stopped before clause n.
@@ -58,6 +60,6 @@ pub record PieceAt (file : List ℕ) (lengths : Lengths) (begin : ℕ) (output o
   pub bytes : output′ ≡ pieceBytes file lengths begin (length output) ++ drop (length (pieceBytes file lengths begin (length output))) output
 
 -- What writing a piece says, whichever tables there were before the check. The array keeps its length, so that the next piece can be written.
-pub record PieceOf (F C B N A A′ : List ℕ) (a : Answer) (begin : ℕ) (output output′ : List ℕ) (p : Piece) : Type 0 where
-  pub piece : (R : AfterCheck F C B N A a) → PieceAt F (lengthsOf (R .before)) begin output output′ p
+pub record PieceOf (C B N O A A′ : List ℕ) (a : Answer) (begin : ℕ) (output output′ : List ℕ) (p : Piece) : Type 0 where
+  pub piece : (R : AfterCheck C B N O A a) → PieceAt (R .file) (lengthsOf (R .before)) begin output output′ p
   pub values : length A′ ≡ 524416

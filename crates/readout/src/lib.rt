@@ -24,6 +24,7 @@ pub fn readout_piece(
     ensures { λ p. ⌜ PieceWritten (now (file .entry)) (tablesWith (now (symbols .entry)) (now (rows .entry)) (now (clauses .entry)) (now (bindings .entry))) clause (now (output .entry)) p (tablesWith (now (symbols .exit)) (now (rows .exit)) (now (clauses .exit)) (now (bindings .exit))) (now (output .exit)) ⌝ }
 {
     let mut nodes = [0u16; 32768];
+    let mut origins = [0u16; 32768];
     let mut values = [0u16; 524416];
     let a = check_with(
         file,
@@ -32,13 +33,14 @@ pub fn readout_piece(
         clauses,
         bindings,
         &mut nodes,
+        &mut origins,
         &mut values,
     );
     write_piece(
-        file,
         clauses,
         bindings,
         &nodes,
+        &origins,
         &mut values,
         a,
         clause,

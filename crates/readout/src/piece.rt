@@ -3,6 +3,7 @@ use super::unit::unit_count;
 use super::unit::write_unit;
 use answer::Answer;
 use following::nodes::Nodes;
+use following::nodes::Origins;
 use following::values::ValueCells;
 use terms::text::TextBuffer;
 ghost use mathlib.Core.Path.{_≡_};
@@ -51,24 +52,24 @@ fn stopped(begin: u16, n: u16) -> Rest
 
 // Writes the piece that begins with a clause. A line that does not fit any more is not begun.
 pub fn write_piece(
-    file: &[u8],
     clauses: &[u16],
     bindings: &[u16],
     nodes: &Nodes,
+    origins: &Origins,
     values: &mut ValueCells,
     a: Answer,
     begin: u16,
     output: &mut [u8],
 ) -> Piece
-    requires { ⌜ AfterCheck (now file) (now clauses) (now bindings) (now nodes) (now values) a ⌝ }
-    ensures { λ p. ⌜ PieceOf (now (file .entry)) (now (clauses .entry)) (now (bindings .entry)) (now (nodes .entry)) (now (values .entry)) (now (values .exit)) a begin (now (output .entry)) (now (output .exit)) p ⌝ }
+    requires { ⌜ AfterCheck (now clauses) (now bindings) (now nodes) (now origins) (now values) a ⌝ }
+    ensures { λ p. ⌜ PieceOf (now (clauses .entry)) (now (bindings .entry)) (now (nodes .entry)) (now (origins .entry)) (now (values .entry)) (now (values .exit)) a begin (now (output .entry)) (now (output .exit)) p ⌝ }
 {
     let mut text = [0u8; 131072];
     let count = unit_count(a.clauses);
     let mut n = begin;
     let mut written: usize = 0;
     while n < count {
-        let end = write_unit(file, clauses, bindings, nodes, values, &mut text, 0, a, n);
+        let end = write_unit(clauses, bindings, nodes, origins, values, &mut text, a, n);
         if output.len() - written < end {
             return Piece {
                 written,

@@ -3,6 +3,7 @@
 use super::heading::write_verdict;
 use answer::Answer;
 use following::nodes::Nodes;
+use following::nodes::Origins;
 use following::values::ValueCells;
 use lines::line::write_line;
 use terms::text::TextBuffer;
@@ -16,28 +17,27 @@ pub fn unit_count(clauses: u16) -> u16
     if clauses == 0 { 1 } else { clauses }
 }
 
-// Unit n written at a position of the buffer; the answer is the position after it.
+// Unit n written at the start of the buffer; the answer is the position after it.
 pub fn write_unit(
-    file: &[u8],
     clauses: &[u16],
     bindings: &[u16],
     nodes: &Nodes,
+    origins: &Origins,
     values: &mut ValueCells,
     text: &mut TextBuffer,
-    at: usize,
     a: Answer,
     n: u16,
 ) -> usize
-    requires { ⌜ UnitReady (now file) (now clauses) (now bindings) (now nodes) (now values) (now text) a n ⌝ }
-    ensures { λ end. ⌜ UnitWritten (now (file .entry)) (now (clauses .entry)) (now (bindings .entry)) (now (nodes .entry)) (now (values .entry)) (now (values .exit)) (now (text .entry)) (now (text .exit)) at a n end ⌝ }
+    requires { ⌜ UnitReady (now clauses) (now bindings) (now nodes) (now origins) (now values) (now text) a n ⌝ }
+    ensures { λ end. ⌜ UnitWritten (now (clauses .entry)) (now (bindings .entry)) (now (nodes .entry)) (now (origins .entry)) (now (values .entry)) (now (values .exit)) (now (text .entry)) (now (text .exit)) a n end ⌝ }
 {
     if n != 0 {
-        return write_line(file, clauses, bindings, nodes, values, text, at, n);
+        return write_line(origins, clauses, bindings, nodes, values, text, 0, n);
     }
     let verdict = a.verdict;
-    let first = write_verdict(verdict, text, at);
+    let first = write_verdict(verdict, text, 0);
     if a.clauses == 0 {
         return first;
     }
-    write_line(file, clauses, bindings, nodes, values, text, first, n)
+    write_line(origins, clauses, bindings, nodes, values, text, first, n)
 }

@@ -1,19 +1,19 @@
--- Fresh arrays are as the check asks for them, and what it leaves is what a piece asks for.
-use mathlib.Core.Path.{refl}
-use Prim.Native.Nat.{ℕ}
-use lib.ListN.{length-replicate}
+-- What the check leaves is what a piece asks for.
 use Rattle.readout.proofs.PieceWriting.{piece-written}
 use borrow.Author.Needs.{needs}
 use Rattle.readout.proofs.readout_piece.Statement.{statement}
 use Rattle.readout.proofs.readout_piece.Tie as tie
+use Rattle.readout.proofs.readout_piece.Reads as reads
+use Rattle.readout.proofs.readout_piece.Lts as lts
+use Rattle.checker.proofs.check_with.Reads as check-with-reads
+use Rattle.readout.proofs.piece.write_piece.Reads as write-piece-reads
 
 check-with-requires : tie.Need-check-with-requires
-check-with-requires c κs =
-    record { nodes = refl; values = length-replicate {A = ℕ} 524416 0 }
+check-with-requires c κs = search needs
 
 write-piece-requires : tie.Need-write-piece-requires
 write-piece-requires c κs =
-    record { before = _; symbols = _; rows = _; checked = c .before .before .before .before .before .before .before .before .before .before .before .before .before .check-with .ensures }
+    record { file = _; before = _; lent = _; symbols = _; rows = _; checked = c .before .before .before .before .before .before .before .before .before .before .before .before .before .before .check-with .ensures }
 
 same-length : tie.Need-same-length
 same-length c = search needs
@@ -32,7 +32,7 @@ same-length-5 c = search needs
 
 returns : tie.Need-returns
 returns c =
-    piece-written _ _ _ _ _ _ _ _ _ _ _ _ _ _ (c .before .before .before .before .before .before .before .before .before .before .before .before .before .before .before .before .check-with .ensures) (c .before .before .write-piece .ensures)
+    piece-written _ _ _ _ _ _ _ _ _ _ _ _ _ _ _ _ (c .before .before .before .before .before .before .before .before .before .before .before .before .before .before .before .before .before .check-with .ensures) (c .before .before .write-piece .ensures)
 
 pub readout-piece-spec : {M : Type 1} → statement M
 readout-piece-spec =

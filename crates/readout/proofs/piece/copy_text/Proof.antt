@@ -8,6 +8,8 @@ use Rattle.readout.proofs.PieceRuns.{copied}
 use borrow.Author.Needs.{needs}
 use Rattle.readout.proofs.piece.copy_text.Statement.{statement}
 use Rattle.readout.proofs.piece.copy_text.Tie as tie
+use Rattle.readout.proofs.piece.copy_text.Reads as reads
+use Rattle.readout.proofs.piece.copy_text.Lts as lts
 
 abbrev Inv-loop : tie.InvT-loop
 Inv-loop text output₀ at n i₀ output i =

@@ -8,13 +8,19 @@ use Rattle.readout.proofs.UnitWriting.{after-again}
 use borrow.Author.Needs.{needs}
 use Rattle.readout.proofs.piece.write_piece.Statement.{statement}
 use Rattle.readout.proofs.piece.write_piece.Tie as tie
+use Rattle.readout.proofs.piece.write_piece.Reads as reads
+use Rattle.readout.proofs.piece.write_piece.Lts as lts
+use Rattle.readout.proofs.piece.copy_text.Reads as copy-text-reads
+use Rattle.readout.proofs.piece.stopped.Reads as stopped-reads
+use Rattle.readout.proofs.unit.unit_count.Reads as unit-count-reads
+use Rattle.readout.proofs.unit.write_unit.Reads as write-unit-reads
 
 abbrev Inv-loop : tie.InvT-loop
-Inv-loop file clauses bindings nodes values₀ a begin output₀ text₀ count n₀ written₀ values output text n written =
-    (length values ≡ 524416) × (length text ≡ 131072) × (length output ≡ length output₀) × Written file clauses bindings nodes values₀ a begin output₀ output n written
+Inv-loop clauses bindings nodes origins values₀ a begin output₀ text₀ count n₀ written₀ values output text n written =
+    (length values ≡ 524416) × (length text ≡ 131072) × (length output ≡ length output₀) × Written clauses bindings nodes origins values₀ a begin output₀ output n written
 
 abbrev μ-loop : tie.MeasureT-loop
-μ-loop file clauses bindings nodes values₀ a begin output₀ text₀ count n₀ written₀ values output text n written =
+μ-loop clauses bindings nodes origins values₀ a begin output₀ text₀ count n₀ written₀ values output text n written =
     count - n
 
 unit-count-requires : tie.Need-unit-count-requires Inv-loop μ-loop
@@ -22,15 +28,15 @@ unit-count-requires c κs = search needs
 
 loop-holds : tie.Need-loop-holds Inv-loop μ-loop
 loop-holds c =
-    (c .before .before .before .before .before .pre .checked .values, length-replicate {A = ℕ} 131072 0, refl, written-none)
+    (c .before .before .before .before .pre .checked .values, length-replicate {A = ℕ} 131072 0, refl, written-none)
 
 write-unit-requires : tie.Need-write-unit-requires Inv-loop μ-loop
 write-unit-requires c κs =
-    record { after = after-again (c .before .before .before .before .before .before .before .before .before .pre) (c .before .before .before .loop .inv .0); inside = subst (λ (k : ℕ). c .before .before .before .loop .n < k) (c .before .before .before .before .unit-count .ensures) (c .before .before .loop-test .taken); text = c .before .before .before .loop .inv .1 }
+    record { after = after-again (c .before .before .before .before .before .before .before .before .pre) (c .before .before .before .loop .inv .0); inside = subst (λ (k : ℕ). c .before .before .before .loop .n < k) (c .before .before .before .before .unit-count .ensures) (c .before .before .loop-test .taken); text = c .before .before .before .loop .inv .1 }
 
 sub-if1 : tie.Need-sub-if1 Inv-loop μ-loop
 sub-if1 c =
-    omega (arith, c .before .before .before .before .loop .inv .3 (c .before .before .before .before .before .before .before .before .before .before .pre) .low, c .before .before .before .before .loop .inv .2)
+    omega (arith, c .before .before .before .before .loop .inv .3 (c .before .before .before .before .before .before .before .before .before .pre) .low, c .before .before .before .before .loop .inv .2)
 
 stopped-requires : tie.Need-stopped-requires Inv-loop μ-loop
 stopped-requires c κs = search needs
@@ -44,11 +50,11 @@ returns c =
 
 copy-text-requires : tie.Need-copy-text-requires Inv-loop μ-loop
 copy-text-requires c κs =
-    (c .before .before .before .write-unit .ensures .sized .text, (end-inside (after-again (c .before .before .before .before .before .before .before .before .before .before .before .before .before .pre) (c .before .before .before .before .before .before .before .loop .inv .0)) (c .before .before .before .before .before .before .before .loop .inv .1) (c .before .before .before .write-unit .ensures), omega (arith, c .before .before .if1 .left, c .before .before .before .before .before .before .before .loop .inv .3 (c .before .before .before .before .before .before .before .before .before .before .before .before .before .pre) .low, c .before .before .before .before .before .before .before .loop .inv .2)))
+    (c .before .before .before .write-unit .ensures .sized .text, (end-inside (after-again (c .before .before .before .before .before .before .before .before .before .before .before .before .pre) (c .before .before .before .before .before .before .before .loop .inv .0)) (c .before .before .before .before .before .before .before .loop .inv .1) (c .before .before .before .write-unit .ensures), omega (arith, c .before .before .if1 .left, c .before .before .before .before .before .before .before .loop .inv .3 (c .before .before .before .before .before .before .before .before .before .before .before .before .pre) .low, c .before .before .before .before .before .before .before .loop .inv .2)))
 
 add-written : tie.Need-add-written Inv-loop μ-loop
 add-written c =
-    omega (arith, c .before .before .before .before .before .if1 .left, c .before .before .before .before .before .before .before .before .before .before .loop .inv .3 (c .before .before .before .before .before .before .before .before .before .before .before .before .before .before .before .before .pre) .low, c .before .before .before .before .before .before .before .before .before .before .loop .inv .2)
+    omega (arith, c .before .before .before .before .before .if1 .left, c .before .before .before .before .before .before .before .before .before .before .loop .inv .3 (c .before .before .before .before .before .before .before .before .before .before .before .before .before .before .before .pre) .low, c .before .before .before .before .before .before .before .before .before .before .loop .inv .2)
 
 add-n : tie.Need-add-n Inv-loop μ-loop
 add-n c = search needs
