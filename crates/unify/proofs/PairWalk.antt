@@ -379,18 +379,18 @@ left-followable R =
     let s = R .step in
     record { nodes = s .nodes; top = s .top; environment = extend (s .base) (s .bindings); models = s .stand .models; inStep = R .left }
 
-pub target-followable : {N A B : List ℕ} {held : ℕ} {x d : Expression} → BindReady N A B held x d → Followable N A d
+abbrev pub target-followable : {N A B : List ℕ} {held : ℕ} {x d : Expression} → BindReady N A B held x d → Followable N A d
 target-followable R =
     let s = R .step in
     record { nodes = s .nodes; top = s .top; environment = extend (s .base) (s .bindings); models = s .stand .models; inStep = R .inStep }
 
 module _ {N A B : List ℕ} {held : ℕ} {e d : Expression} (R : PairReady N A B held e d) (A₁ : List ℕ) (f : Followed) (W₁ : Follows N A A₁ e f) where
-  leftWalked : (f′ : Followed) → f ≡ f′ → Walked N (R .step .top) A₁ (extend (R .step .base) (R .step .bindings)) e f′
+  pub leftWalked : (f′ : Followed) → f ≡ f′ → Walked N (R .step .top) A₁ (extend (R .step .base) (R .step .bindings)) e f′
   leftWalked f′ pf =
       let s = R .step in
       subst (Walked N (s .top) A₁ (extend (s .base) (s .bindings)) e) pf (W₁ (s .top) (extend (s .base) (s .bindings)) (s .stand .models) (R .left))
 
-  pub right-followable : Followable N A₁ d
+  abbrev pub right-followable : Followable N A₁ d
   right-followable =
       let s = R .step in
       record { nodes = s .nodes; top = s .top; environment = extend (s .base) (s .bindings); models = leftWalked f refl .models; inStep = R .right }
