@@ -1,9 +1,15 @@
 // Reads a proof file from standard input and prints its readout on standard output, and nothing else. It reads one byte more than a file
-// may have, so that a longer input is refused and an endless one ends. Where the output is closed it stops.
+// may have, so that a longer input is refused and an endless one ends. Where the input cannot be read it prints nothing, where the output
+// cannot be written it stops, and standard error says which. It takes no arguments.
+mod input;
+mod output;
+mod report;
+
 use answer::Answer;
 use checker::check_with;
+use input::Input;
+use input::read_input;
 use libc::STDIN_FILENO;
-use libc::STDOUT_FILENO;
 use readout::unit::unit_count;
 use readout::unit::write_unit;
 ghost use Rattle.checker.specs.Reader.{Unwritten};
@@ -25,7 +31,7 @@ fn print_lines(
     let mut n: u16 = 0;
     while n < count {
         let end = write_unit(file, clauses, bindings, nodes, values, &mut text, 0, a, n);
-        if !io::write_all(STDOUT_FILENO, &text[..end]) {
+        if !output::write_all(&text[..end]) {
             return;
         }
         n += 1;
@@ -67,8 +73,20 @@ fn print_readout(file: &[u8]) {
     );
 }
 
-fn main() {
+// Reads the input and prints its readout.
+fn run() {
     let mut space = [0u8; 65537];
-    let n = io::read_full(STDIN_FILENO, &mut space);
+    let Input::Whole(n) = read_input(STDIN_FILENO, &mut space) else {
+        report::unread();
+        return;
+    };
     print_readout(&space[..n]);
+}
+
+fn main() {
+    if 1 < os::arg_count() {
+        report::usage();
+        return;
+    }
+    run();
 }
