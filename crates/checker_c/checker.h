@@ -3,9 +3,12 @@
  * Link with libchecker_c.a. Both functions are proved to meet their contracts,
  * for every file and whatever else they are lent (specs/Exported.antt,
  * specs/ExportedReadout.antt). They never fail, never block, ask for no memory
- * and keep nothing between calls. They take less than 1.5 MiB of stack for
- * an ordinary file, and up to 4 MiB for the deepest: call them on a thread that
- * has that much. */
+ * and keep nothing between calls.
+ *
+ * That they come to an end asks for a stack of 8 MiB: call them on a thread
+ * that has that much left. An ordinary file takes less than 1.5 MiB of it, and
+ * the deepest files known up to 4 MiB, but no proof says how much a call
+ * takes. */
 #ifndef CHECKER_H
 #define CHECKER_H
 

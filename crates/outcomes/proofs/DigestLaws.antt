@@ -78,35 +78,35 @@ module _ {F : List ℕ} {L : Lengths} {n size hash : ℕ} (T : Taken F L n size 
 
 -- The invariant of the loop, whichever tables there were before the check.
 abbrev pub TakenAfter : List ℕ → List ℕ → List ℕ → List ℕ → List ℕ → Answer → ℕ → ℕ → ℕ → Type 0
-TakenAfter F C B N A a n size hash = (R : AfterCheck F C B N A a) → Taken F (lengthsOf (R .before)) n size hash
+TakenAfter C B N O A a n size hash = (R : AfterCheck C B N O A a) → Taken (R .file) (lengthsOf (R .before)) n size hash
 
-pub after-none : {F C B N A : List ℕ} {a : Answer} → TakenAfter F C B N A a 0 0 start
-after-none {F} R = taken-none F (lengthsOf (R .before))
+pub after-none : {C B N O A : List ℕ} {a : Answer} → TakenAfter C B N O A a 0 0 start
+after-none R = taken-none (R .file) (lengthsOf (R .before))
 
 -- A piece by the array as it is now.
-module _ {F C B N A A₁ A₂ : List ℕ} {a : Answer} {n : ℕ} {output output′ : List ℕ} {p : Piece} (values : length A₁ ≡ 524416) (room : length output ≡ 131072) (P : PieceOf F C B N A₁ A₂ a n output output′ p) where
-  ended-after : (R : AfterCheck F C B N A a) → Ended F (lengthsOf (R .before)) n output output′ p
+module _ {C B N O A A₁ A₂ : List ℕ} {a : Answer} {n : ℕ} {output output′ : List ℕ} {p : Piece} (values : length A₁ ≡ 524416) (room : length output ≡ 131072) (P : PieceOf C B N O A₁ A₂ a n output output′ p) where
+  ended-after : (R : AfterCheck C B N O A a) → Ended (R .file) (lengthsOf (R .before)) n output output′ p
   unfolding after-again
   ended-after R = ended room (P .piece (after-again R values))
 
-  pub short : AfterCheck F C B N A a → length output′ ≡ 131072 → p .written ≤ 131072
+  pub short : AfterCheck C B N O A a → length output′ ≡ 131072 → p .written ≤ 131072
   unfolding after-again
   short R kept =
-      let Q : PieceAt F (lengthsOf (R .before)) n output output′ p = P .piece (after-again R values) in
-      let b = pieceBytes F (lengthsOf (R .before)) n (length output) in
+      let Q : PieceAt (R .file) (lengthsOf (R .before)) n output output′ p = P .piece (after-again R values) in
+      let b = pieceBytes (R .file) (lengthsOf (R .before)) n (length output) in
       omega (arith, Q .written, ap length (Q .bytes), length-append b (drop (length b) output), length-drop (length b) output, kept, room)
 
-  pub onwards : AfterCheck F C B N A a → (m : ℕ) → p .rest ≡ GoOn m → n < m
-  onwards R m q = pieces-always F (lengthsOf (R .before)) .moves n 131072 m (sym (ended-after R .rest) ∙ ap restGiven q)
+  pub onwards : AfterCheck C B N O A a → (m : ℕ) → p .rest ≡ GoOn m → n < m
+  onwards R m q = pieces-always (R .file) (lengthsOf (R .before)) .moves n 131072 m (sym (ended-after R .rest) ∙ ap restGiven q)
 
-  pub never-short : AfterCheck F C B N A a → (m : ℕ) → p .rest ≡ TooShort m → ⊥
-  never-short R m q = pieces-always F (lengthsOf (R .before)) .enough n 131072 m (omega arith) (sym (ended-after R .rest) ∙ ap restGiven q)
+  pub never-short : AfterCheck C B N O A a → (m : ℕ) → p .rest ≡ TooShort m → ⊥
+  never-short R m q = pieces-always (R .file) (lengthsOf (R .before)) .enough n 131072 m (omega arith) (sym (ended-after R .rest) ∙ ap restGiven q)
 
-  module _ {size hash hash′ : ℕ} (X : TakenAfter F C B N A a n size hash) (h : hash′ ≡ hashBytes hash (take (p .written) output′)) where
-    pub after-more : (m : ℕ) → p .rest ≡ GoOn m → TakenAfter F C B N A a m (size + p .written) hash′
+  module _ {size hash hash′ : ℕ} (X : TakenAfter C B N O A a n size hash) (h : hash′ ≡ hashBytes hash (take (p .written) output′)) where
+    pub after-more : (m : ℕ) → p .rest ≡ GoOn m → TakenAfter C B N O A a m (size + p .written) hash′
     after-more m q R = taken-more (X R) (ended-after R) h m q
 
-    pub after-all : p .rest ≡ Complete → (d : Digest) → d .length ≡ size + p .written → d .hash ≡ hash′ → DigestAfter F C B N A a d
+    pub after-all : p .rest ≡ Complete → (d : Digest) → d .length ≡ size + p .written → d .hash ≡ hash′ → DigestAfter C B N O A a d
     after-all q d ds dh = record { digest = λ R. taken-all (X R) (ended-after R) h q d ds dh }
 
 -- The loop ends at a piece that is not followed by another: its tag is that of `Complete` or of `TooShort`. As it is never too short, all is

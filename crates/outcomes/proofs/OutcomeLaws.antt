@@ -2,7 +2,7 @@
 use mathlib.Core.Path.{_≡_, ap, _∙_}
 use mathlib.Core.List.{List}
 use Prim.Native.Nat.{ℕ}
-use Rattle.checker.specs.Contract.{CheckedWith}
+use Rattle.checker.specs.Contract.{Workspace, workspaceWith, CheckedWith}
 use Rattle.entry.specs.Progress.{tablesWith}
 use Rattle.verdict.specs.Tables.{Tables}
 use Rattle.answer.specs.declared.Answer.{Answer}
@@ -11,12 +11,12 @@ use Rattle.outcomes.specs.Digest.{DigestAfter}
 use Rattle.outcomes.specs.Outcome.{OutcomeOf}
 use Rattle.outcomes.specs.declared.digest.Digest.{Digest}
 
-pub outcome-given : (file : List ℕ) (before : Tables) (a : Answer) (S R C B N A : List ℕ) (s r c b : ℕ) (d : Digest) → CheckedWith file before a (tablesWith S R C B) N A → s ≡ hashCells start S → r ≡ hashCells start R → c ≡ hashCells start C → b ≡ hashCells start B → DigestAfter file C B N A a d → OutcomeOf file before (record { answer = a; hashes = record { symbols = s; rows = r; clauses = c; bindings = b }; readout = d })
-outcome-given file before a S R C B N A s r c b d X ps pr pc pb D = record {
+pub outcome-given : (file : List ℕ) (before : Tables) (w : Workspace) (a : Answer) (S R C B N O A : List ℕ) (s r c b : ℕ) (d : Digest) → CheckedWith file before w a (tablesWith S R C B) (workspaceWith N O A) → s ≡ hashCells start S → r ≡ hashCells start R → c ≡ hashCells start C → b ≡ hashCells start B → DigestAfter C B N O A a d → OutcomeOf file before (record { answer = a; hashes = record { symbols = s; rows = r; clauses = c; bindings = b }; readout = d })
+outcome-given file before w a S R C B N O A s r c b d X ps pr pc pb D = record {
   answer = X .checked .answer;
   symbols = ps ∙ ap (hashCells start) (X .checked .symbols);
   rows = pr ∙ ap (hashCells start) (X .checked .rows);
   clauses = pc ∙ ap (hashCells start) (X .checked .clauses);
   bindings = pb ∙ ap (hashCells start) (X .checked .bindings);
-  readout = D .digest (record { before = before; symbols = S; rows = R; checked = X });
+  readout = D .digest (record { file = file; before = before; lent = w; symbols = S; rows = R; checked = X });
 }

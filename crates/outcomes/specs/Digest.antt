@@ -16,6 +16,6 @@ pub record DigestOf (file : List ℕ) (lengths : Lengths) (d : Digest) : Type 0 
   pub length : d .length ≡ length (readout file lengths)
   pub hash : d .hash ≡ hashBytes start (readout file lengths)
 
--- The same by what a check left, whichever tables there were before it.
-pub record DigestAfter (F C B N A : List ℕ) (a : Answer) (d : Digest) : Type 0 where
-  pub digest : (R : AfterCheck F C B N A a) → DigestOf F (lengthsOf (R .before)) d
+-- The same by what a check left, whichever file it was of and whichever tables there were before it.
+pub record DigestAfter (C B N O A : List ℕ) (a : Answer) (d : Digest) : Type 0 where
+  pub digest : (R : AfterCheck C B N O A a) → DigestOf (R .file) (lengthsOf (R .before)) d

@@ -1,6 +1,7 @@
 // The length and the hash of a file's readout.
 use answer::Answer;
 use following::nodes::Nodes;
+use following::nodes::Origins;
 use following::values::ValueCells;
 use hash::with_bytes;
 use readout::piece::Rest;
@@ -17,15 +18,15 @@ pub struct Digest {
 // Goes through the readout piece by piece, by what the check left. The output has room for the longest line, so that no piece ends as
 // too short.
 pub fn digest_of(
-    file: &[u8],
     clauses: &[u16],
     bindings: &[u16],
     nodes: &Nodes,
+    origins: &Origins,
     values: &mut ValueCells,
     a: Answer,
 ) -> Digest
-    requires { ⌜ AfterCheck (now file) (now clauses) (now bindings) (now nodes) (now values) a ⌝ }
-    ensures { λ d. ⌜ DigestAfter (now (file .entry)) (now (clauses .entry)) (now (bindings .entry)) (now (nodes .entry)) (now (values .entry)) a d ⌝ }
+    requires { ⌜ AfterCheck (now clauses) (now bindings) (now nodes) (now origins) (now values) a ⌝ }
+    ensures { λ d. ⌜ DigestAfter (now (clauses .entry)) (now (bindings .entry)) (now (nodes .entry)) (now (origins .entry)) (now (values .entry)) a d ⌝ }
 {
     let mut output = [0u8; 131072];
     let mut total: usize = 0;
@@ -33,10 +34,10 @@ pub fn digest_of(
     let mut clause: u16 = 0;
     loop {
         let p = write_piece(
-            file,
             clauses,
             bindings,
             nodes,
+            origins,
             values,
             a,
             clause,

@@ -4,10 +4,10 @@ use super::digest::digest_of;
 use answer::Answer;
 use checker::check_with;
 use following::nodes::Nodes;
+use following::nodes::Origins;
 use following::values::ValueCells;
 use hash::hash_of;
 ghost use Rattle.entry.specs.Progress.{tablesWith};
-ghost use Rattle.checker.specs.Reader.{Unwritten};
 ghost use Rattle.outcomes.specs.Outcome.{OutcomeOf, zeroTables};
 
 // The hashes of the four tables.
@@ -33,19 +33,28 @@ fn outcome_with(
     clauses: &mut [u16],
     bindings: &mut [u16],
     nodes: &mut Nodes,
+    origins: &mut Origins,
     values: &mut ValueCells,
 ) -> Outcome
-    requires { ⌜ Unwritten (now nodes) (now values) ⌝ }
     ensures { λ o. ⌜ OutcomeOf (now (file .entry)) (tablesWith (now (symbols .entry)) (now (rows .entry)) (now (clauses .entry)) (now (bindings .entry))) o ⌝ }
 {
-    let answer = check_with(file, symbols, rows, clauses, bindings, nodes, values);
+    let answer = check_with(
+        file,
+        symbols,
+        rows,
+        clauses,
+        bindings,
+        nodes,
+        origins,
+        values,
+    );
     let hashes = Hashes {
         symbols: hash_of(symbols),
         rows: hash_of(rows),
         clauses: hash_of(clauses),
         bindings: hash_of(bindings),
     };
-    let readout = digest_of(file, clauses, bindings, nodes, values, answer);
+    let readout = digest_of(clauses, bindings, nodes, origins, values, answer);
     Outcome {
         answer,
         hashes,
@@ -62,6 +71,7 @@ pub fn outcome_of(file: &[u8]) -> Outcome
     let mut clauses = [0u16; 20480];
     let mut bindings = [0u16; 32768];
     let mut nodes = [0u16; 32768];
+    let mut origins = [0u16; 32768];
     let mut values = [0u16; 524416];
     outcome_with(
         file,
@@ -70,6 +80,7 @@ pub fn outcome_of(file: &[u8]) -> Outcome
         &mut clauses,
         &mut bindings,
         &mut nodes,
+        &mut origins,
         &mut values,
     )
 }

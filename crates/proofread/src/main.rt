@@ -1,33 +1,39 @@
 // Reads a proof file from standard input and prints its readout on standard output, and nothing else. It reads one byte more than a file
-// may have, so that a longer input is refused and an endless one ends. Where the output is closed it stops.
+// may have, so that a longer input is refused and an endless one ends. Where the input cannot be read it prints nothing, where the output
+// cannot be written it stops, and standard error says which. It takes no arguments.
+mod input;
+mod output;
+mod report;
+
 use answer::Answer;
 use checker::check_with;
 use following::nodes::Nodes;
+use following::nodes::Origins;
 use following::values::ValueCells;
+use input::Input;
+use input::read_input;
 use libc::STDIN_FILENO;
-use libc::STDOUT_FILENO;
 use readout::unit::unit_count;
 use readout::unit::write_unit;
-ghost use Rattle.checker.specs.Reader.{Unwritten};
 ghost use Rattle.readout.specs.Units.{AfterCheck};
 
 // Prints line after line, the first one with that of clause 0.
 fn print_lines(
-    file: &[u8],
     clauses: &[u16],
     bindings: &[u16],
     nodes: &Nodes,
+    origins: &Origins,
     values: &mut ValueCells,
     a: Answer,
 )
-    requires { ⌜ AfterCheck (now file) (now clauses) (now bindings) (now nodes) (now values) a ⌝ }
+    requires { ⌜ AfterCheck (now clauses) (now bindings) (now nodes) (now origins) (now values) a ⌝ }
 {
     let mut text = [0u8; 131072];
     let count = unit_count(a.clauses);
     let mut n: u16 = 0;
     while n < count {
-        let end = write_unit(file, clauses, bindings, nodes, values, &mut text, 0, a, n);
-        if !io::write_all(STDOUT_FILENO, &text[..end]) {
+        let end = write_unit(clauses, bindings, nodes, origins, values, &mut text, a, n);
+        if !output::write_all(&text[..end]) {
             return;
         }
         n += 1;
@@ -42,12 +48,20 @@ fn print_with(
     clauses: &mut [u16],
     bindings: &mut [u16],
     nodes: &mut Nodes,
+    origins: &mut Origins,
     values: &mut ValueCells,
-)
-    requires { ⌜ Unwritten (now nodes) (now values) ⌝ }
-{
-    let a = check_with(file, symbols, rows, clauses, bindings, nodes, values);
-    print_lines(file, clauses, bindings, nodes, values, a);
+) {
+    let a = check_with(
+        file,
+        symbols,
+        rows,
+        clauses,
+        bindings,
+        nodes,
+        origins,
+        values,
+    );
+    print_lines(clauses, bindings, nodes, origins, values, a);
 }
 
 // The same with tables that are just long enough.
@@ -57,6 +71,7 @@ fn print_readout(file: &[u8]) {
     let mut clauses = [0u16; 20480];
     let mut bindings = [0u16; 32768];
     let mut nodes = [0u16; 32768];
+    let mut origins = [0u16; 32768];
     let mut values = [0u16; 524416];
     print_with(
         file,
@@ -65,12 +80,25 @@ fn print_readout(file: &[u8]) {
         &mut clauses,
         &mut bindings,
         &mut nodes,
+        &mut origins,
         &mut values,
     );
 }
 
-fn main() {
+// Reads the input and prints its readout.
+fn run() {
     let mut space = [0u8; 65537];
-    let n = io::read_full(STDIN_FILENO, &mut space);
+    let Input::Whole(n) = read_input(STDIN_FILENO, &mut space) else {
+        report::unread();
+        return;
+    };
     print_readout(&space[..n]);
+}
+
+fn main() {
+    if 1 < os::arg_count() {
+        report::usage();
+        return;
+    }
+    run();
 }

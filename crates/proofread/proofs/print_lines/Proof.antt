@@ -9,13 +9,18 @@ use Rattle.readout.proofs.UnitWriting.{after-again}
 use borrow.Author.Needs.{needs}
 use Rattle.proofread.proofs.print_lines.Statement.{statement}
 use Rattle.proofread.proofs.print_lines.Tie as tie
+use Rattle.proofread.proofs.print_lines.Reads as reads
+use Rattle.proofread.proofs.print_lines.Lts as lts
+use Rattle.proofread.proofs.output.write_all.Reads as write-all-reads
+use Rattle.readout.proofs.unit.unit_count.Reads as unit-count-reads
+use Rattle.readout.proofs.unit.write_unit.Reads as write-unit-reads
 
 abbrev Inv-loop : tie.InvT-loop
-Inv-loop file clauses bindings nodes values₀ a text₀ count n₀ values text n =
+Inv-loop clauses bindings nodes origins values₀ a text₀ count n₀ values text n =
     (length values ≡ 524416) × (length text ≡ 131072)
 
 abbrev μ-loop : tie.MeasureT-loop
-μ-loop file clauses bindings nodes values₀ a text₀ count n₀ values text n =
+μ-loop clauses bindings nodes origins values₀ a text₀ count n₀ values text n =
     count - n
 
 unit-count-requires : tie.Need-unit-count-requires Inv-loop μ-loop
@@ -23,19 +28,19 @@ unit-count-requires c κs = search needs
 
 loop-holds : tie.Need-loop-holds Inv-loop μ-loop
 loop-holds c =
-    (c .before .before .before .before .pre .checked .values, length-replicate {A = ℕ} 131072 0)
+    (c .before .before .before .pre .checked .values, length-replicate {A = ℕ} 131072 0)
 
 write-unit-requires : tie.Need-write-unit-requires Inv-loop μ-loop
 write-unit-requires c κs =
-    record { after = after-again (c .before .before .before .before .before .before .before .before .pre) (c .before .before .before .loop .inv .0); inside = subst (λ (k : ℕ). c .before .before .before .loop .n < k) (c .before .before .before .before .unit-count .ensures) (c .before .before .loop-test .taken); text = c .before .before .before .loop .inv .1 }
+    record { after = after-again (c .before .before .before .before .before .before .before .pre) (c .before .before .before .loop .inv .0); inside = subst (λ (k : ℕ). c .before .before .before .loop .n < k) (c .before .before .before .before .unit-count .ensures) (c .before .before .loop-test .taken); text = c .before .before .before .loop .inv .1 }
 
 array-share-prefix-text : tie.Need-array-share-prefix-text Inv-loop μ-loop
 array-share-prefix-text c =
-    omega (arith, end-inside (after-again (c .before .before .before .before .before .before .before .before .before .pre) (c .before .before .before .before .loop .inv .0)) (c .before .before .before .before .loop .inv .1) (c .write-unit .ensures), c .write-unit .ensures .sized .text)
+    omega (arith, end-inside (after-again (c .before .before .before .before .before .before .before .before .pre) (c .before .before .before .before .loop .inv .0)) (c .before .before .before .before .loop .inv .1) (c .write-unit .ensures), c .write-unit .ensures .sized .text)
 
 slice-aggregate-write-all : tie.Need-slice-aggregate-write-all Inv-loop μ-loop
 slice-aggregate-write-all c =
-    sym (length-take-le _ _ (omega (arith, end-inside (after-again (c .before .before .before .before .before .before .before .before .before .before .pre) (c .before .before .before .before .before .loop .inv .0)) (c .before .before .before .before .before .loop .inv .1) (c .before .write-unit .ensures), c .before .write-unit .ensures .sized .text)))
+    sym (length-take-le _ _ (omega (arith, end-inside (after-again (c .before .before .before .before .before .before .before .before .before .pre) (c .before .before .before .before .before .loop .inv .0)) (c .before .before .before .before .before .loop .inv .1) (c .before .write-unit .ensures), c .before .write-unit .ensures .sized .text)))
 
 write-all-requires : tie.Need-write-all-requires Inv-loop μ-loop
 write-all-requires c κs = search needs

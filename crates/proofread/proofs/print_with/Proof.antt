@@ -2,13 +2,17 @@
 use borrow.Author.Needs.{needs}
 use Rattle.proofread.proofs.print_with.Statement.{statement}
 use Rattle.proofread.proofs.print_with.Tie as tie
+use Rattle.proofread.proofs.print_with.Reads as reads
+use Rattle.proofread.proofs.print_with.Lts as lts
+use Rattle.checker.proofs.check_with.Reads as check-with-reads
+use Rattle.proofread.proofs.print_lines.Reads as print-lines-reads
 
 check-with-requires : tie.Need-check-with-requires
 check-with-requires c κs = search needs
 
 print-lines-requires : tie.Need-print-lines-requires
 print-lines-requires c κs =
-    record { before = _; symbols = _; rows = _; checked = c .before .before .before .before .before .before .before .before .before .before .before .before .check-with .ensures }
+    record { file = _; before = _; lent = _; symbols = _; rows = _; checked = c .before .before .before .before .before .before .before .before .before .before .before .before .before .check-with .ensures }
 
 same-length : tie.Need-same-length
 same-length c = search needs

@@ -9,18 +9,22 @@ use Rattle.outcomes.proofs.DigestLaws.{TakenAfter, after-none, after-mo
 use borrow.Author.Needs.{needs}
 use Rattle.outcomes.proofs.digest.digest_of.Statement.{statement}
 use Rattle.outcomes.proofs.digest.digest_of.Tie as tie
+use Rattle.outcomes.proofs.digest.digest_of.Reads as reads
+use Rattle.outcomes.proofs.digest.digest_of.Lts as lts
+use Rattle.hash.proofs.with_bytes.Reads as with-bytes-reads
+use Rattle.readout.proofs.piece.write_piece.Reads as write-piece-reads
 
 abbrev Inv-loop : tie.InvT-loop
-Inv-loop file clauses bindings nodes values₀ a output₀ total₀ hash₀ clause₀ values output total hash clause =
-    (length values ≡ 524416) × (length output ≡ 131072) × (total ≤ 131072 * clause) × (clause ≤ 65535) × TakenAfter file clauses bindings nodes values₀ a clause total hash
+Inv-loop clauses bindings nodes origins values₀ a output₀ total₀ hash₀ clause₀ values output total hash clause =
+    (length values ≡ 524416) × (length output ≡ 131072) × (total ≤ 131072 * clause) × (clause ≤ 65535) × TakenAfter clauses bindings nodes origins values₀ a clause total hash
 
 abbrev μ-loop : tie.MeasureT-loop
-μ-loop file clauses bindings nodes values₀ a output₀ total₀ hash₀ clause₀ values output total hash clause =
+μ-loop clauses bindings nodes origins values₀ a output₀ total₀ hash₀ clause₀ values output total hash clause =
     65536 - clause
 
 loop-holds : tie.Need-loop-holds Inv-loop μ-loop
 loop-holds c =
-    (c .before .before .before .pre .checked .values, length-replicate {A = ℕ} 131072 0, omega arith, omega arith, after-none)
+    (c .before .before .pre .checked .values, length-replicate {A = ℕ} 131072 0, omega arith, omega arith, after-none)
 
 slice-aggregate-write-piece : tie.Need-slice-aggregate-write-piece Inv-loop μ-loop
 slice-aggregate-write-piece c =
@@ -28,22 +32,22 @@ slice-aggregate-write-piece c =
 
 write-piece-requires : tie.Need-write-piece-requires Inv-loop μ-loop
 write-piece-requires c κs =
-    after-again (c .before .before .before .before .before .before .pre) (c .before .before .loop .inv .0)
+    after-again (c .before .before .before .before .before .pre) (c .before .before .loop .inv .0)
 
 array-share-prefix-output : tie.Need-array-share-prefix-output Inv-loop μ-loop
 array-share-prefix-output c =
-    omega (arith, short (c .before .before .before .before .loop .inv .0) (c .before .before .before .before .loop .inv .1) (c .before .write-piece .ensures) (c .before .before .before .before .before .before .before .before .pre) (c .output2 .given), c .output2 .given)
+    omega (arith, short (c .before .before .before .before .loop .inv .0) (c .before .before .before .before .loop .inv .1) (c .before .write-piece .ensures) (c .before .before .before .before .before .before .before .pre) (c .output2 .given), c .output2 .given)
 
 slice-aggregate-with-bytes : tie.Need-slice-aggregate-with-bytes Inv-loop μ-loop
 slice-aggregate-with-bytes c =
-    sym (length-take-le _ _ (omega (arith, short (c .before .before .before .before .before .loop .inv .0) (c .before .before .before .before .before .loop .inv .1) (c .before .before .write-piece .ensures) (c .before .before .before .before .before .before .before .before .before .pre) (c .before .output2 .given), c .before .output2 .given)))
+    sym (length-take-le _ _ (omega (arith, short (c .before .before .before .before .before .loop .inv .0) (c .before .before .before .before .before .loop .inv .1) (c .before .before .write-piece .ensures) (c .before .before .before .before .before .before .before .before .pre) (c .before .output2 .given), c .before .output2 .given)))
 
 with-bytes-requires : tie.Need-with-bytes-requires Inv-loop μ-loop
 with-bytes-requires c κs = search needs
 
 add-total : tie.Need-add-total Inv-loop μ-loop
 add-total c =
-    let s = short (c .before .before .before .before .before .before .loop .inv .0) (c .before .before .before .before .before .before .loop .inv .1) (c .before .before .before .write-piece .ensures) (c .before .before .before .before .before .before .before .before .before .before .pre) (c .before .before .output2 .given) in
+    let s = short (c .before .before .before .before .before .before .loop .inv .0) (c .before .before .before .before .before .before .loop .inv .1) (c .before .before .before .write-piece .ensures) (c .before .before .before .before .before .before .before .before .before .pre) (c .before .before .output2 .given) in
     omega (arith, c .before .before .before .before .before .before .loop .inv .2, c .before .before .before .before .before .before .loop .inv .3)
 
 enum-known-rest : tie.Need-enum-known-rest Inv-loop μ-loop
@@ -51,17 +55,17 @@ enum-known-rest c = search needs
 
 returns : tie.Need-returns Inv-loop μ-loop
 returns c =
-    after-all (c .before .before .before .before .before .before .before .loop .inv .0) (c .before .before .before .before .before .before .before .loop .inv .1) (c .before .before .before .before .write-piece .ensures) (c .before .before .before .before .before .before .before .loop .inv .4) (c .before .with-bytes .ensures) (last-piece _ (c .match .keys2) (λ m q. never-short (c .before .before .before .before .before .before .before .loop .inv .0) (c .before .before .before .before .before .before .before .loop .inv .1) (c .before .before .before .before .write-piece .ensures) (c .before .before .before .before .before .before .before .before .before .before .before .pre) m q)) _ refl refl
+    after-all (c .before .before .before .before .before .before .before .loop .inv .0) (c .before .before .before .before .before .before .before .loop .inv .1) (c .before .before .before .before .write-piece .ensures) (c .before .before .before .before .before .before .before .loop .inv .4) (c .before .with-bytes .ensures) (last-piece _ (c .match .keys2) (λ m q. never-short (c .before .before .before .before .before .before .before .loop .inv .0) (c .before .before .before .before .before .before .before .loop .inv .1) (c .before .before .before .before .write-piece .ensures) (c .before .before .before .before .before .before .before .before .before .before .pre) m q)) _ refl refl
 
 loop-less : tie.Need-loop-less Inv-loop μ-loop
 loop-less c =
-    let l = onwards (c .before .before .before .before .before .before .before .before .before .loop .inv .0) (c .before .before .before .before .before .before .before .before .before .loop .inv .1) (c .before .before .before .before .before .before .write-piece .ensures) (c .before .before .before .before .before .before .before .before .before .before .before .before .before .pre) _ (c .before .rest .given .1) in
+    let l = onwards (c .before .before .before .before .before .before .before .before .before .loop .inv .0) (c .before .before .before .before .before .before .before .before .before .loop .inv .1) (c .before .before .before .before .before .before .write-piece .ensures) (c .before .before .before .before .before .before .before .before .before .before .before .before .pre) _ (c .before .rest .given .1) in
     omega arith
 
 loop-again : tie.Need-loop-again Inv-loop μ-loop
 loop-again c =
-    let l = onwards (c .before .before .before .before .before .before .before .before .before .loop .inv .0) (c .before .before .before .before .before .before .before .before .before .loop .inv .1) (c .before .before .before .before .before .before .write-piece .ensures) (c .before .before .before .before .before .before .before .before .before .before .before .before .before .pre) _ (c .before .rest .given .1) in
-    let s = short (c .before .before .before .before .before .before .before .before .before .loop .inv .0) (c .before .before .before .before .before .before .before .before .before .loop .inv .1) (c .before .before .before .before .before .before .write-piece .ensures) (c .before .before .before .before .before .before .before .before .before .before .before .before .before .pre) (c .before .before .before .before .before .output2 .given) in
+    let l = onwards (c .before .before .before .before .before .before .before .before .before .loop .inv .0) (c .before .before .before .before .before .before .before .before .before .loop .inv .1) (c .before .before .before .before .before .before .write-piece .ensures) (c .before .before .before .before .before .before .before .before .before .before .before .before .pre) _ (c .before .rest .given .1) in
+    let s = short (c .before .before .before .before .before .before .before .before .before .loop .inv .0) (c .before .before .before .before .before .before .before .before .before .loop .inv .1) (c .before .before .before .before .before .before .write-piece .ensures) (c .before .before .before .before .before .before .before .before .before .before .before .before .pre) (c .before .before .before .before .before .output2 .given) in
     (c .before .before .before .before .before .before .write-piece .ensures .values, c .before .before .before .before .before .output2 .given, omega (arith, c .before .before .before .before .before .before .before .before .before .loop .inv .2), omega arith, after-more (c .before .before .before .before .before .before .before .before .before .loop .inv .0) (c .before .before .before .before .before .before .before .before .before .loop .inv .1) (c .before .before .before .before .before .before .write-piece .ensures) (c .before .before .before .before .before .before .before .before .before .loop .inv .4) (c .before .before .before .with-bytes .ensures) _ (c .before .rest .given .1))
 
 pub digest-of-spec : {M : Type 1} → statement M

@@ -3,6 +3,11 @@ use Rattle.outcomes.proofs.OutcomeLaws.{outcome-given}
 use borrow.Author.Needs.{needs}
 use Rattle.outcomes.proofs.outcome.outcome_with.Statement.{statement}
 use Rattle.outcomes.proofs.outcome.outcome_with.Tie as tie
+use Rattle.outcomes.proofs.outcome.outcome_with.Reads as reads
+use Rattle.outcomes.proofs.outcome.outcome_with.Lts as lts
+use Rattle.checker.proofs.check_with.Reads as check-with-reads
+use Rattle.hash.proofs.hash_of.Reads as hash-of-reads
+use Rattle.outcomes.proofs.digest.digest_of.Reads as digest-of-reads
 
 check-with-requires : tie.Need-check-with-requires
 check-with-requires c κs = search needs
@@ -21,7 +26,7 @@ hash-of-requires-4 c κs = search needs
 
 digest-of-requires : tie.Need-digest-of-requires
 digest-of-requires c κs =
-    record { before = _; symbols = _; rows = _; checked = c .before .before .before .before .before .before .before .before .before .before .before .before .before .before .before .before .before .before .before .before .check-with .ensures }
+    record { file = _; before = _; lent = _; symbols = _; rows = _; checked = c .before .before .before .before .before .before .before .before .before .before .before .before .before .before .before .before .before .before .before .before .before .check-with .ensures }
 
 same-length : tie.Need-same-length
 same-length c = search needs
@@ -37,7 +42,7 @@ same-length-4 c = search needs
 
 returns : tie.Need-returns
 returns c =
-    outcome-given _ _ _ _ _ _ _ _ _ _ _ _ _ _ (c .before .before .before .before .before .before .before .before .before .before .before .before .before .before .before .before .before .before .before .before .before .check-with .ensures) (c .before .before .before .before .before .before .before .before .before .before .before .hash-of .ensures) (c .before .before .before .before .before .before .before .before .before .hash-of2 .ensures) (c .before .before .before .before .before .before .before .hash-of3 .ensures) (c .before .before .before .before .before .hash-of4 .ensures) (c .digest-of .ensures)
+    outcome-given _ _ _ _ _ _ _ _ _ _ _ _ _ _ _ _ (c .before .before .before .before .before .before .before .before .before .before .before .before .before .before .before .before .before .before .before .before .before .before .check-with .ensures) (c .before .before .before .before .before .before .before .before .before .before .before .before .hash-of .ensures) (c .before .before .before .before .before .before .before .before .before .before .hash-of2 .ensures) (c .before .before .before .before .before .before .before .before .hash-of3 .ensures) (c .before .before .before .before .before .before .hash-of4 .ensures) (c .digest-of .ensures)
 
 pub outcome-with-spec : {M : Type 1} → statement M
 outcome-with-spec =

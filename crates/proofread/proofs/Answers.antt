@@ -1,0 +1,51 @@
+-- What the tests of a read's answer show of what it says, and where the bytes lie that came.
+use mathlib.Core.List.{List}
+use mathlib.Core.Path.{_≡_, refl, sym, subst}
+use mathlib.Core.Bool.{true, false}
+use Prim.Native.Nat.{ℕ, zero, suc, _+_, _-_, _≤_}
+use native.Mathlib.Omega.{arith}
+use lib.Dec.{T}
+use lib.IntN.{ℤ, pos, negsuc, natAbs}
+use lib.ListN.{length, take, drop, length-take, length-drop}
+use lib.Signed.{ltZ, nonNeg}
+use borrow.Author.Tests.{ltb-true, ltb-false}
+use Rattle.io.specs.Counts.{Counts}
+use Rattle.libc.specs.Io.{Moved}
+use Rattle.proofread.specs.Input.{readOf, Room, Inside}
+use Rattle.proofread.specs.declared.input.Input.{Input}
+use Rattle.proofread.specs.declared.input.Input.the-variants.{Whole}
+use Rattle.proofread.specs.declared.input.Read.{Read}
+use Rattle.proofread.specs.declared.input.Read.the-variants.{Bytes, End, Failed}
+
+pub failed : (z : ℤ) → ltZ z (pos 0) ≡ true → Failed ≡ readOf z
+failed (pos n) below = absurd (omega (arith, ltb-true n 0 below))
+failed (negsuc n) below = refl
+
+pub came : (z : ℤ) → ltZ (pos 0) z ≡ true → Bytes (natAbs z) ≡ readOf z
+came (pos zero) above = absurd (omega (arith, ltb-true 0 0 above))
+came (pos (suc n)) above = refl
+came (negsuc n) above = absurd (subst T (sym above) tt)
+
+pub ended : (z : ℤ) → ltZ z (pos 0) ≡ false → ltZ (pos 0) z ≡ false → End ≡ readOf z
+ended (pos zero) below above = refl
+ended (pos (suc n)) below above = absurd (omega (arith, ltb-false 0 (suc n) above))
+ended (negsuc n) below above = absurd (subst T below tt)
+
+pub positive : (z : ℤ) → ltZ (pos 0) z ≡ true → T (nonNeg z)
+positive (pos n) above = tt
+positive (negsuc n) above = subst T (sym above) tt
+
+pub room : (z : ℤ) (m : ℕ) → Moved m z → Room (readOf z) m
+room (pos zero) m moved = tt
+room (pos (suc n)) m moved = (omega arith, moved)
+room (negsuc n) m moved = tt
+
+-- Bytes that came into the rest of a list from a place on lie within the list.
+pub grown : {g : Read} {n : ℕ} (xs : List ℕ) (done : ℕ) → done ≤ length xs → Room g (length (take (length xs - done) (drop done xs))) → g ≡ Bytes n → (1 ≤ n) × (done + n ≤ length xs)
+grown {g} {n} xs done inside room came =
+    let r = subst (λ (g : Read). Room g (length (take (length xs - done) (drop done xs)))) came room in
+    let h = simp (length-take, length-drop) at (r .1) in
+    (r .0, omega arith)
+
+pub inside : {r : Input} {n : ℕ} (xs : List ℕ) → Inside r xs → r ≡ Whole n → Counts n xs
+inside xs in-space whole = subst (λ (r : Input). Inside r xs) whole in-space

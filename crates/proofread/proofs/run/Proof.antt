@@ -1,0 +1,52 @@
+-- The bytes of the input lie at the start of the space.
+use Rattle.proofread.proofs.Answers.{inside}
+use borrow.Author.Needs.{needs}
+use Rattle.proofread.proofs.run.Statement.{statement}
+use Rattle.proofread.proofs.run.Tie as tie
+
+slice-aggregate-read-input : tie.Need-slice-aggregate-read-input
+slice-aggregate-read-input c = search needs
+
+read-input-requires : tie.Need-read-input-requires
+read-input-requires c κs = search needs
+
+enum-known-n : tie.Need-enum-known-n
+enum-known-n c = search needs
+
+enum-told : tie.Need-enum-told
+enum-told c = search needs
+
+unread-requires : tie.Need-unread-requires
+unread-requires c κs = search needs
+
+returns : tie.Need-returns
+returns c = search needs
+
+array-share-prefix-space : tie.Need-array-share-prefix-space
+array-share-prefix-space c =
+    inside (c .before .before .before .before .read-input .last .1 .0) (c .before .before .before .before .read-input .ensures) (c .before .n .given .1) .0
+
+slice-aggregate-print-readout : tie.Need-slice-aggregate-print-readout
+slice-aggregate-print-readout c =
+    inside (c .before .before .before .before .before .read-input .last .1 .0) (c .before .before .before .before .before .read-input .ensures) (c .before .before .n .given .1) .1
+
+print-readout-requires : tie.Need-print-readout-requires
+print-readout-requires c κs = search needs
+
+returns-2 : tie.Need-returns-2
+returns-2 c = search needs
+
+pub run-spec : {M : Type 1} → statement M
+run-spec =
+    tie.close
+    (tie.spec
+    slice-aggregate-read-input
+    read-input-requires
+    enum-known-n
+    enum-told
+    unread-requires
+    returns
+    array-share-prefix-space
+    slice-aggregate-print-readout
+    print-readout-requires
+    returns-2)

@@ -1,0 +1,12 @@
+// The output.
+use crate::report::unwritten;
+use libc::STDOUT_FILENO;
+
+// Writes all of `text`, or says on standard error why it could not. Whether it was written.
+pub fn write_all(text: &[u8]) -> bool {
+    let is_written = io::write_all(STDOUT_FILENO, text);
+    if !is_written {
+        unwritten();
+    }
+    is_written
+}

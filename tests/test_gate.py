@@ -1,0 +1,73 @@
+"""The gate, .ci/run, with stand-ins for its parts: whatever fails, the log of the proofs is shown and the last line names it."""
+
+import os
+import shutil
+import subprocess
+import tempfile
+import unittest
+from pathlib import Path
+
+ROOT = Path(__file__).resolve().parent.parent
+PROVED = "mkdir -p target/must-fail target/rlib target/stamp"
+
+
+def script(path, text):
+    path.parent.mkdir(parents=True, exist_ok=True)
+    path.write_text(f"#!/bin/sh\n{text}\n")
+    path.chmod(0o755)
+
+
+def gate(rt=f"{PROVED}; echo rt: ok; echo 3 passed, 0 failed", cargo="echo Rust log", proved="exit 0", python="True"):
+    """Runs the gate in a folder where every part is a stand-in."""
+    with tempfile.TemporaryDirectory() as folder:
+        top = Path(folder)
+        shutil.copytree(ROOT / ".ci", top / ".ci")
+        for name in ("crates", "docs", "examples", "rust", "tests"):
+            (top / name).mkdir()
+        for name in ("README.md", "crates.txt"):
+            (top / name).touch()
+        (top / "tests" / "test_it.py").write_text(
+            f"import unittest\nclass It(unittest.TestCase):\n    def test_it(self):\n        self.assertTrue({python})\n"
+        )
+        script(top / "rust" / "proved" / "test.sh", proved)
+        script(top / "commands" / "rt", f"echo log of the proofs\n{rt}")
+        script(top / "commands" / "cargo", cargo)
+        path = f"{top / 'commands'}:{os.environ['PATH']}"
+        return subprocess.run(
+            ["bash", top / ".ci" / "run"], env={**os.environ, "PATH": path}, capture_output=True, text=True
+        )
+
+
+class Gate(unittest.TestCase):
+    def ends(self, run, status, last):
+        self.assertEqual(run.returncode, status)
+        self.assertEqual(run.stdout.splitlines()[-1], last)
+        self.assertIn("log of the proofs\n", run.stdout)
+        self.assertIn("Rust log\n", run.stdout)
+
+    def test_all_is_well(self):
+        self.ends(gate(), 0, "3 passed, 0 failed")
+
+    def test_a_failed_rust_test(self):
+        self.ends(gate(cargo="echo Rust log; exit 101"), 1, "failed: the Rust tests")
+        self.ends(gate(proved="exit 1"), 1, "failed: the Rust tests")
+
+    def test_a_failed_must_fail_edit_or_program(self):
+        self.ends(gate(rt=f"{PROVED}; echo 2 passed, 1 failed; exit 1"), 1, "failed: the proofs")
+
+    def test_proofs_that_end_early(self):
+        for early in ("exit 2", "echo 0 passed, 1 failed; exit 1", "exit 0"):
+            self.ends(gate(rt=early), 1, "failed: the Rust tests, the proofs")
+
+    def test_a_failed_python_test(self):
+        run = gate(python="False")
+        self.ends(run, 1, "failed: the Python tests")
+        self.assertIn("FAILED (failures=1)", run.stderr)
+
+    def test_everything_fails(self):
+        run = gate(rt="exit 1", cargo="echo Rust log; exit 1", python="False")
+        self.ends(run, 1, "failed: the Rust tests, the proofs, the Python tests")
+
+
+if __name__ == "__main__":
+    unittest.main()

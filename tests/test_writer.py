@@ -1,0 +1,53 @@
+"""What the Python writer writes is, byte for byte, a stored example, and the readouts stored beside them say accepted."""
+
+import sys
+import unittest
+from pathlib import Path
+
+EXAMPLES = Path(__file__).resolve().parent.parent / "examples"
+sys.path.insert(0, str(EXAMPLES))
+
+from writer import ProofFile, neg, permit, pos  # noqa: E402
+
+
+def duty():
+    """The trip `duty`, which has a factoring step."""
+    file = ProofFile()
+    flies, amber, blue, *legs = map(file.symbol, (2, 0, 0, 0, 0, 0))
+    app, var = file.app, file.var
+    crewed = file.clause(pos(app(flies, app(amber), var(0))), pos(app(flies, app(blue), var(0))))
+
+    def not_both(one, other):
+        return file.clause(*(neg(app(flies, var(0), app(legs[leg]))) for leg in (one, other)))
+
+    pair_12, pair_13, pair_23 = not_both(0, 1), not_both(0, 2), not_both(1, 2)
+    amber_not_both = file.resolve(crewed, 1, pair_12, 1)
+    blue_one_of_12 = file.resolve(crewed, 1, amber_not_both, 2)
+    not_13 = file.resolve(blue_one_of_12, 2, pair_13, 1)
+    blue_not_3 = file.factor(file.resolve(not_13, 1, pair_23, 1), 1, 2)
+    amber_3 = file.resolve(crewed, 2, blue_not_3, 1)
+    blue_1 = file.resolve(crewed, 1, file.resolve(amber_3, 1, pair_13, 2), 1)
+    blue_2 = file.resolve(crewed, 1, file.resolve(amber_3, 1, pair_23, 2), 1)
+    file.resolve(blue_2, 1, file.resolve(blue_1, 1, pair_12, 1), 1)
+    return file.bytes
+
+
+class Writer(unittest.TestCase):
+    def is_stored(self, name, written):
+        self.assertEqual(written, (EXAMPLES / f"{name}.proof").read_bytes())
+        self.assertTrue((EXAMPLES / f"{name}.txt").read_text().startswith("accepted "))
+
+    def test_permit(self):
+        self.is_stored("permit", permit())
+
+    def test_duty(self):
+        self.is_stored("duty", duty())
+
+    def test_rows_are_written_once(self):
+        file = ProofFile()
+        self.assertEqual([file.var(0), file.var(1), file.var(0)], [0, 1, 0])
+        self.assertEqual(len(file.bytes), 32)
+
+
+if __name__ == "__main__":
+    unittest.main()
