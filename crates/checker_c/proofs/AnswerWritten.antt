@@ -4,11 +4,12 @@ use mathlib.Core.List.{List, [], _∷_, _++_}
 use Prim.Native.Nat.{ℕ, _<_, _≤_}
 use native.Mathlib.Omega.{arith}
 use lib.ListN.{length, drop, set}
-use Rattle.checker.specs.Contract.{Checked}
+use Rattle.checker.specs.Contract.{Checked, Workspace, CheckedWith}
 use Rattle.answer.specs.Given.{verdictGiven, answerGiven}
 use Rattle.verdict.specs.Tables.{Tables}
 use Rattle.answer.specs.declared.Answer.{Answer}
 use Rattle.checker_c.specs.Exported.{Exported}
+use Rattle.checker_c.specs.ExportedWith.{ExportedWith}
 
 -- Seven stores put seven numbers before the rest.
 seven : (xs : List ℕ) (a b c d e f g : ℕ) → 7 ≤ length xs → set (set (set (set (set (set (set xs 0 a) 1 b) 2 c) 3 d) 4 e) 5 f) 6 g ≡ a ∷ b ∷ c ∷ d ∷ e ∷ f ∷ g ∷ drop 7 xs
@@ -53,4 +54,24 @@ answered F t A a here B l C q = record {
   rows = λ m. C .rows;
   clauses = λ m. C .clauses;
   bindings = λ m. C .bindings;
+}
+
+-- The same with a workspace.
+pub left-alone-with : (file : List ℕ) (before : Tables) (w : Workspace) (answer : List ℕ) → length answer < 7 → ExportedWith file before w answer before w answer
+left-alone-with file before w answer l = record {
+  exported = left-alone file before answer l;
+  workspaceLeft = λ _. refl;
+  nodes = λ m. absurd (omega arith);
+  origins = λ m. absurd (omega arith);
+  values = λ m. absurd (omega arith);
+}
+
+pub answered-with : (file : List ℕ) (before : Tables) (w : Workspace) (answer : List ℕ) (a : Answer) (after : Tables) (left : Workspace) (answer′ : List ℕ) → 7 ≤ length answer → CheckedWith file before w a after left → answer′ ≡ answerGiven a ++ drop 7 answer
+    → ExportedWith file before w answer after left answer′
+answered-with file before w answer a after left answer′ l X q = record {
+  exported = answered file before answer a after answer′ l (X .checked) q;
+  workspaceLeft = λ m. absurd (omega arith);
+  nodes = λ _. X .nodes;
+  origins = λ _. X .origins;
+  values = λ _. X .values;
 }

@@ -1,2 +1,3 @@
 pub mod Exported
 pub mod ExportedReadout
+pub mod ExportedWith

@@ -1,14 +1,20 @@
 // The check of a proof file and its readout for C. The definitions are in specs/: `Exported` says what `checker_check` promises,
-// `ExportedReadout` what `checker_readout` does, and checker.h has their declarations.
+// `ExportedWith` what `checker_check_with` and `ExportedReadout` what `checker_readout` does, and checker.h has their declarations.
 mod cells;
 mod progress;
 
 use cells::put;
 use checker::check;
+use checker::check_with;
+use following::nodes::Nodes;
+use following::nodes::Origins;
+use following::values::ValueCells;
 use progress::put_progress;
 use readout::readout_piece;
 ghost use Rattle.entry.specs.Progress.{tablesWith};
+ghost use Rattle.checker.specs.Contract.{workspaceWith};
 ghost use Rattle.checker_c.specs.Exported.{Exported};
+ghost use Rattle.checker_c.specs.ExportedWith.{ExportedWith};
 ghost use Rattle.checker_c.specs.ExportedReadout.{ExportedReadout};
 
 // The check of a file, with the answer in seven cells. Where `answer` has fewer, nothing is touched.
@@ -27,6 +33,37 @@ pub extern "C" fn checker_check(
         return;
     }
     let a = check(file, symbols, rows, clauses, bindings);
+    put(a, answer);
+}
+
+// The same for services, with a workspace that the caller lends and keeps between files, whatever it holds.
+#[no_mangle]
+pub extern "C" fn checker_check_with(
+    file: &[u8],
+    symbols: &mut [u16],
+    rows: &mut [u16],
+    clauses: &mut [u16],
+    bindings: &mut [u16],
+    nodes: &mut Nodes,
+    origins: &mut Origins,
+    values: &mut ValueCells,
+    answer: &mut [u16],
+)
+    ensures { λ _. ⌜ ExportedWith (now (file .entry)) (tablesWith (now (symbols .entry)) (now (rows .entry)) (now (clauses .entry)) (now (bindings .entry))) (workspaceWith (now (nodes .entry)) (now (origins .entry)) (now (values .entry))) (now (answer .entry)) (tablesWith (now (symbols .exit)) (now (rows .exit)) (now (clauses .exit)) (now (bindings .exit))) (workspaceWith (now (nodes .exit)) (now (origins .exit)) (now (values .exit))) (now (answer .exit)) ⌝ }
+{
+    if answer.len() < 7 {
+        return;
+    }
+    let a = check_with(
+        file,
+        symbols,
+        rows,
+        clauses,
+        bindings,
+        nodes,
+        origins,
+        values,
+    );
     put(a, answer);
 }
 
