@@ -1,218 +1,57 @@
-//! A builder of proof files.
+//! Builders of proof files, for authors of planners.
 //!
-//! The upper layer writes terms and clauses and shares equal rows by itself:
+//! [`FileBuilder`] writes a file record by record. Symbols, rows, clauses and literals are handles of
+//! types of their own; a term is made once, tested for its arity, and named by its handle from then on:
 //!
 //! ```
-//! use yestrwyn_builder::{app, neg, pos, var, FileBuilder};
+//! use yestrwyn_builder::{neg, pos, BuildError, FileBuilder};
 //!
 //! let mut file = FileBuilder::new();
-//! let even = file.symbol(1);
-//! let next = file.symbol(1);
-//! let zero = file.symbol(0);
-//! let two = app(next, [app(next, [app(zero, [])])]);
-//! let start = file.clause(&[pos(app(even, [app(zero, [])]))]);
-//! let rule = file.clause(&[
-//!     neg(app(even, [var(0)])),
-//!     pos(app(even, [app(next, [app(next, [var(0)])])])),
-//! ]);
-//! let goal = file.clause(&[neg(app(even, [two]))]);
-//! let derived = file.resolve(start, 1, rule, 1); // +even(next(next(zero)))
-//! let empty = file.resolve(derived, 1, goal, 1); // no literals: the goal is refuted
-//! assert_eq!(empty, 4);
-//! let bytes = file.finish();
-//! assert_eq!(bytes.len() % 16, 0);
+//! let even = file.symbol(1)?;
+//! let next = file.symbol(1)?;
+//! let zero = file.symbol(0)?;
+//!
+//! let zero = file.constant(zero)?;
+//! let even_zero = file.apply(even, &[zero])?;
+//! let start = file.clause(&[pos(even_zero)])?;
+//!
+//! let x = file.variable(0)?;
+//! let even_x = file.apply(even, &[x])?;
+//! let x_and_one = file.apply(next, &[x])?;
+//! let x_and_two = file.apply(next, &[x_and_one])?;
+//! let even_x_and_two = file.apply(even, &[x_and_two])?;
+//! let rule = file.clause(&[neg(even_x), pos(even_x_and_two)])?;
+//!
+//! let one = file.apply(next, &[zero])?;
+//! let two = file.apply(next, &[one])?;
+//! let even_two = file.apply(even, &[two])?;
+//! let goal = file.clause(&[neg(even_two)])?;
+//!
+//! let derived = file.resolve(start.literal(1), rule.literal(1))?; // +even(next(next(zero)))
+//! let empty = file.resolve(derived.literal(1), goal.literal(1))?; // no literals: the goal is refuted
+//! assert_eq!(empty.number(), 4);
+//! assert_eq!(file.finish().len() % 16, 0);
+//! # Ok::<(), BuildError>(())
 //! ```
 //!
-//! The lower layer, [`FileBuilder::raw`], writes any record whatever, also one that will be
-//! refused. Nothing here checks the file: that is the checker's work. Numbers returned are right
-//! as long as every record stands.
+//! [`RunningBuilder`] does the same and runs each step as it is added: it returns the literals of the
+//! new clause, or why the step is refused.
+//!
+//! Neither is proved, and neither need be trusted: whether a file is a proof is the check's to say.
 
 #![forbid(unsafe_code)]
 #![warn(missing_docs)]
 
-use std::collections::HashMap;
+mod derivation;
+mod environment;
+mod error;
+mod file;
+mod handles;
+mod running;
+mod unification;
 
-use yestrwyn_types::limits::RECORD_BYTES;
-use yestrwyn_types::record::{kind, Record};
-
-/// One place of a term in postfix order: arguments come before what is applied to them.
-#[derive(Clone, Copy, PartialEq, Eq, Debug)]
-enum Item {
-    Variable(u16),
-    Symbol(u16, u8),
-}
-
-/// A term, kept flat in postfix order, so that deeply nested terms need no deep recursion.
-#[derive(Clone, PartialEq, Eq, Debug)]
-pub struct Term(Vec<Item>);
-
-/// The variable with a number, 0 to 63.
-pub fn var(number: u16) -> Term {
-    Term(vec![Item::Variable(number)])
-}
-
-/// A symbol applied to arguments; a constant has none. Arguments past the 255th are dropped.
-pub fn app<const N: usize>(symbol: u16, arguments: [Term; N]) -> Term {
-    apply(symbol, &arguments)
-}
-
-/// The same for a list of arguments whose length is not known beforehand.
-pub fn apply(symbol: u16, arguments: &[Term]) -> Term {
-    let mut items = Vec::new();
-    let mut count = 0;
-    for argument in arguments.iter().take(usize::from(u8::MAX)) {
-        items.extend_from_slice(&argument.0);
-        count += 1;
-    }
-    items.push(Item::Symbol(symbol, count));
-    Term(items)
-}
-
-/// A literal: true for positive, and the atom.
-pub type SignedTerm = (bool, Term);
-
-/// A positive literal.
-pub fn pos(atom: Term) -> SignedTerm {
-    (true, atom)
-}
-
-/// A negative literal.
-pub fn neg(atom: Term) -> SignedTerm {
-    (false, atom)
-}
-
-/// A file under construction.
-#[derive(Clone, Default)]
-pub struct FileBuilder {
-    bytes: Vec<u8>,
-    symbols: usize,
-    clauses: usize,
-    rows: usize,
-    shared: HashMap<Record, u16>,
-}
-
-impl FileBuilder {
-    /// An empty file.
-    pub fn new() -> FileBuilder {
-        FileBuilder::default()
-    }
-
-    /// The bytes of the file.
-    pub fn finish(self) -> Vec<u8> {
-        self.bytes
-    }
-
-    /// The bytes so far.
-    pub fn bytes(&self) -> &[u8] {
-        &self.bytes
-    }
-
-    /// The number that the next record will have.
-    pub fn records(&self) -> u16 {
-        number(self.bytes.len() / RECORD_BYTES)
-    }
-
-    /// Writes any record and returns its own number among symbols, rows or clauses
-    /// (the record number for a kind that does not exist). Equal rows are written again.
-    pub fn raw(&mut self, record: Record) -> u16 {
-        let at = self.records();
-        self.bytes.extend_from_slice(&record.to_bytes());
-        let counter = match record.kind {
-            kind::SYMBOL => &mut self.symbols,
-            kind::VARIABLE | kind::APPLICATION => &mut self.rows,
-            kind::INPUT | kind::RESOLVE | kind::FACTOR => &mut self.clauses,
-            _ => return at,
-        };
-        let own = number(*counter);
-        *counter += 1;
-        if matches!(record.kind, kind::VARIABLE | kind::APPLICATION) {
-            self.shared.entry(record).or_insert(own);
-        }
-        own
-    }
-
-    /// A record of some kind with the fields given from `a` on and zeros after them.
-    pub fn fields(&mut self, kind: u8, count: u8, given: &[u16]) -> u16 {
-        let mut fields = [0; 7];
-        for (field, &value) in fields.iter_mut().zip(given) {
-            *field = value;
-        }
-        self.raw(Record { kind, count, fields })
-    }
-
-    /// A symbol of an arity, 0 to 6; returns its symbol number.
-    pub fn symbol(&mut self, arity: u8) -> u16 {
-        self.fields(kind::SYMBOL, arity, &[])
-    }
-
-    /// The row of a variable, written on first use.
-    pub fn variable(&mut self, variable: u16) -> u16 {
-        self.row(kind::VARIABLE, 0, &[variable])
-    }
-
-    /// The row of a symbol applied to rows, written on first use.
-    pub fn application(&mut self, symbol: u16, arguments: &[u16]) -> u16 {
-        let given: Vec<u16> = std::iter::once(symbol).chain(arguments.iter().copied()).collect();
-        let count = u8::try_from(arguments.len()).unwrap_or(u8::MAX);
-        self.row(kind::APPLICATION, count, &given)
-    }
-
-    /// The row of a term; rows for its parts are written where they do not exist yet.
-    pub fn term(&mut self, term: &Term) -> u16 {
-        let mut stack: Vec<u16> = Vec::new();
-        for item in &term.0 {
-            let row = match *item {
-                Item::Variable(variable) => self.variable(variable),
-                Item::Symbol(symbol, count) => {
-                    let first = stack.len().saturating_sub(usize::from(count));
-                    let arguments = stack.split_off(first);
-                    self.application(symbol, &arguments)
-                }
-            };
-            stack.push(row);
-        }
-        stack.pop().unwrap_or(0)
-    }
-
-    /// An input clause of up to seven literals; returns its clause number.
-    pub fn clause(&mut self, literals: &[SignedTerm]) -> u16 {
-        let rows: Vec<(bool, u16)> =
-            literals.iter().map(|(positive, atom)| (*positive, self.term(atom))).collect();
-        self.clause_of_rows(&rows)
-    }
-
-    /// An input clause whose atoms are given as rows; returns its clause number.
-    pub fn clause_of_rows(&mut self, literals: &[(bool, u16)]) -> u16 {
-        let codes: Vec<u16> =
-            literals.iter().map(|&(positive, row)| row.wrapping_mul(2) | u16::from(positive)).collect();
-        self.fields(kind::INPUT, u8::try_from(codes.len()).unwrap_or(u8::MAX), &codes)
-    }
-
-    /// A resolution step on literals (numbered from 1) of two clauses; returns its clause number.
-    pub fn resolve(&mut self, left: u16, left_literal: u16, right: u16, right_literal: u16) -> u16 {
-        self.fields(kind::RESOLVE, 0, &[left, left_literal, right, right_literal])
-    }
-
-    /// A factoring step that keeps one literal and deletes another; returns its clause number.
-    pub fn factor(&mut self, clause: u16, kept: u16, deleted: u16) -> u16 {
-        self.fields(kind::FACTOR, 0, &[clause, kept, deleted])
-    }
-
-    /// An equal row if there is one, otherwise a new one.
-    fn row(&mut self, kind: u8, count: u8, given: &[u16]) -> u16 {
-        let mut fields = [0; 7];
-        for (field, &value) in fields.iter_mut().zip(given) {
-            *field = value;
-        }
-        let record = Record { kind, count, fields };
-        match self.shared.get(&record) {
-            Some(&row) => row,
-            None => self.raw(record),
-        }
-    }
-}
-
-/// A count as a number in a record; files with more are too long to stand.
-fn number(count: usize) -> u16 {
-    u16::try_from(count).unwrap_or(u16::MAX)
-}
+pub use error::BuildError;
+pub use file::FileBuilder;
+pub use handles::{neg, pos, Clause, Literal, Row, Signed, Symbol};
+pub use running::{Derived, Expression, RunningBuilder, Standing, Value};
+pub use yestrwyn_types::{limits, Reason};

@@ -1,8 +1,8 @@
 //! The case sheet of the format description, A to K, with tables and works. Case L is in published.rs.
 
-use yestrwyn_builder::{app, neg, pos, FileBuilder};
 use yestrwyn_vectors::examples::cases::{case_a, case_f, case_g, case_h, case_i, case_j, case_k, examples};
 use yestrwyn_vectors::outcome::{outcome, Outcome};
+use yestrwyn_vectors::sketch::{app, neg, pos, FileBuilder};
 
 /// The outcome of a case by its name.
 fn case(name: &str) -> Outcome {
@@ -133,7 +133,7 @@ fn traps_right_parents_raise_the_answer_again() {
     // +p(a) is derived in a right parent and looked up two right parents further up.
     let mut file = FileBuilder::new();
     let [p, q, r, a] = [1, 1, 1, 0].map(|arity| file.symbol(arity));
-    let x = || yestrwyn_builder::var(0);
+    let x = || yestrwyn_vectors::sketch::var(0);
     let pa = file.clause(&[pos(app(p, [app(a, [])]))]);
     let pq = file.clause(&[neg(app(p, [x()])), pos(app(q, [x()]))]);
     let qr = file.clause(&[pos(app(r, [x()])), neg(app(q, [x()]))]);

@@ -1,11 +1,11 @@
 //! Any bytes at all: an answer, no panic, and nothing written outside what the answer allows.
 
-use yestrwyn_builder::FileBuilder;
 use yestrwyn_second::{check_into, readout_into};
 use yestrwyn_types::record::{input_literals, part, Record};
 use yestrwyn_types::{Reason, Tables, Verdict, LENGTHS};
 use yestrwyn_vectors::examples::{cases, edges, published, refusals};
 use yestrwyn_vectors::random::SplitMix64;
+use yestrwyn_vectors::sketch::FileBuilder;
 use yestrwyn_vectors::{damage, random_file};
 
 const MARK: u16 = 0xabcd;

@@ -6,6 +6,7 @@
 pub mod examples;
 pub mod outcome;
 pub mod random;
+pub mod sketch;
 pub mod stored;
 
 pub use random::{damage, random_file, random_file_of};

@@ -1,6 +1,6 @@
 //! Random files from a seed: mostly meaningful ones, and damage to them.
 
-use yestrwyn_builder::FileBuilder;
+use crate::sketch::FileBuilder;
 use yestrwyn_second::checker::Checker;
 use yestrwyn_second::clause::literal;
 use yestrwyn_types::limits::{RECORDS, RECORD_BYTES};
@@ -107,11 +107,7 @@ impl Maker {
     /// Writes a record if it stands. A refused one ends the meaningful part of the file and is written
     /// only if `keep`, or at times if a variable would have occurred in its own value.
     fn write(&mut self, kind: u8, count: u8, given: &[u16], keep: bool) -> Option<u16> {
-        let mut fields = [0; 7];
-        for (field, &value) in fields.iter_mut().zip(given) {
-            *field = value;
-        }
-        let record = Record { kind, count, fields };
+        let record = Record::new(kind, count, given);
         let result = self.checker.record(&record.to_bytes());
         if result.is_ok() && !self.refused {
             return Some(self.file.raw(record));

@@ -5,9 +5,9 @@ use std::fmt::Display;
 use std::hint::black_box;
 use std::time::Duration;
 
-use yestrwyn_builder::{app, neg, pos, var, FileBuilder};
 use yestrwyn_types::{Cells, Tables};
 use yestrwyn_vectors::examples::{deep, heavy};
+use yestrwyn_vectors::sketch::{app, neg, pos, var, FileBuilder};
 use yestrwyn_vectors::stored::groups;
 
 fn main() -> std::io::Result<()> {

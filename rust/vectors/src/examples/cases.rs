@@ -1,7 +1,7 @@
 //! The case sheet of the format description, under its letters.
 
 use super::Example;
-use yestrwyn_builder::{app, neg, pos, var, FileBuilder, SignedTerm};
+use crate::sketch::{app, neg, pos, var, FileBuilder, SignedTerm};
 use yestrwyn_types::record::kind;
 
 /// All cases that are files. Case L is a unification in a given environment and is tested as one.

@@ -1,7 +1,7 @@
 //! Files whose terms or derivations are as deep as the limits let them be.
 
 use super::Example;
-use yestrwyn_builder::{app, neg, pos, var, FileBuilder, Term};
+use crate::sketch::{app, neg, pos, var, FileBuilder, Term};
 
 /// Deep terms, deep derivations and values of exponential size.
 pub fn examples() -> Vec<Example> {

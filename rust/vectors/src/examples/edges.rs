@@ -2,7 +2,7 @@
 
 use super::cases::case_k;
 use super::Example;
-use yestrwyn_builder::{app, apply, neg, pos, var, FileBuilder, SignedTerm, Term};
+use crate::sketch::{app, apply, neg, pos, var, FileBuilder, SignedTerm, Term};
 use yestrwyn_types::record::kind;
 
 /// All of them.

@@ -1,7 +1,7 @@
 //! J. A. Robinson, "Computational Logic: The Unification Computation", 1971.
 
 use super::Example;
-use yestrwyn_builder::{app, neg, pos, var, FileBuilder, Term};
+use crate::sketch::{app, neg, pos, var, FileBuilder, Term};
 
 /// The paper's two systems, and a refutation of the five clauses of its figure 4.
 pub fn examples() -> Vec<Example> {

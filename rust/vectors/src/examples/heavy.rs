@@ -2,7 +2,7 @@
 
 use super::edges::{all_variables, sized};
 use super::Example;
-use yestrwyn_builder::{app, apply, neg, pos, var, FileBuilder};
+use crate::sketch::{app, apply, neg, pos, var, FileBuilder};
 
 /// The most records of a file.
 const RECORDS: u16 = 4096;

@@ -2,7 +2,7 @@
 //! are lost in our copy, so the steps follow what the text says of them.
 
 use super::Example;
-use yestrwyn_builder::{app, neg, pos, var, FileBuilder, Term};
+use crate::sketch::{app, neg, pos, var, FileBuilder, Term};
 
 /// Chapters 1, 3 and 7.
 pub fn examples() -> Vec<Example> {

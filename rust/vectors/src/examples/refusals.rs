@@ -1,7 +1,7 @@
 //! Files refused for each reason, and records to which several reasons apply.
 
 use super::Example;
-use yestrwyn_builder::{app, neg, pos, var, FileBuilder, Term};
+use crate::sketch::{app, neg, pos, var, FileBuilder, Term};
 use yestrwyn_types::record::{kind, Record};
 
 /// Each is a standing file and one more record, which is refused with the reason in its name.

@@ -3,7 +3,7 @@
 //! S. A. Naqvi, "An Improved Filter for Literal Indexing in Resolution Systems", stand beside them.
 
 use super::Example;
-use yestrwyn_builder::{app, neg, pos, var, FileBuilder, Term};
+use crate::sketch::{app, neg, pos, var, FileBuilder, Term};
 
 /// One file for each rule.
 pub fn examples() -> Vec<Example> {

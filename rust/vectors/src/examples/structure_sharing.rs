@@ -1,7 +1,7 @@
 //! R. S. Boyer and J S. Moore, "The Sharing of Structure in Theorem-proving Programs", 1972.
 
 use super::Example;
-use yestrwyn_builder::{app, neg, pos, var, FileBuilder, Term};
+use crate::sketch::{app, neg, pos, var, FileBuilder, Term};
 
 /// The resolution of section 6, and the derivation of figure 1 in section 7.
 pub fn examples() -> Vec<Example> {

@@ -1,8 +1,8 @@
-//! The builder: equal rows are shared, numbers are the checker's, and any record can be written.
+//! Sketched files: equal rows are shared, numbers are the checker's, and any record can be written.
 
-use yestrwyn_builder::{app, apply, neg, pos, var, FileBuilder};
 use yestrwyn_types::record::{kind, read, Record};
 use yestrwyn_vectors::outcome::outcome;
+use yestrwyn_vectors::sketch::{app, apply, neg, pos, var, FileBuilder};
 
 #[test]
 fn equal_rows_are_written_once() {
