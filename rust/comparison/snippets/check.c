@@ -8,6 +8,15 @@ static uint8_t file[65536 + 1];
 static uint16_t symbols[CHECKER_SYMBOLS], rows[CHECKER_ROWS];
 static uint16_t clauses[CHECKER_CLAUSES], bindings[CHECKER_BINDINGS];
 
+/* What printf returns for the verdict: negative where it could not be written. */
+static int print_verdict(const uint16_t *answer) {
+    if (answer[0] == 0)
+        return printf("open\n");
+    if (answer[0] == 1)
+        return printf("accepted %u\n", (unsigned)answer[1]);
+    return printf("refused %u at %u\n", (unsigned)answer[1], (unsigned)answer[2]);
+}
+
 int main(void) {
     uint16_t answer[CHECKER_ANSWER];
     size_t length = fread(file, 1, sizeof file, stdin);
@@ -18,11 +27,9 @@ int main(void) {
     checker_check(file, length, symbols, CHECKER_SYMBOLS, rows, CHECKER_ROWS,
                   clauses, CHECKER_CLAUSES, bindings, CHECKER_BINDINGS,
                   answer, CHECKER_ANSWER);
-    if (answer[0] == 0)
-        printf("open\n");
-    else if (answer[0] == 1)
-        printf("accepted %u\n", (unsigned)answer[1]);
-    else
-        printf("refused %u at %u\n", (unsigned)answer[1], (unsigned)answer[2]);
+    if (print_verdict(answer) < 0 || fflush(stdout) != 0) {
+        perror("standard output");
+        return 1;
+    }
     return 0;
 }

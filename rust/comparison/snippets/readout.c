@@ -21,7 +21,15 @@ int main(void) {
                         clauses, CHECKER_CLAUSES, bindings, CHECKER_BINDINGS,
                         (uint16_t)progress[2], output, CHECKER_OUTPUT,
                         progress, CHECKER_PROGRESS);
-        fwrite(output, 1, (size_t)progress[1], stdout);
+        if (fwrite(output, 1, (size_t)progress[1], stdout) != (size_t)progress[1]) {
+            perror("standard output");
+            return 1;
+        }
     }
-    return 0;
+    if (fflush(stdout) != 0) {
+        perror("standard output");
+        return 1;
+    }
+    /* With CHECKER_OUTPUT bytes no line is too long; with fewer the readout would be cut. */
+    return progress[0] == 0 ? 0 : 1;
 }

@@ -3,6 +3,7 @@
 use std::fs;
 use std::path::{Path, PathBuf};
 use std::process::{Command, Stdio};
+use std::sync::OnceLock;
 
 #[allow(dead_code)]
 #[path = "../../yestrwyn/examples/check.rs"]
@@ -31,6 +32,12 @@ fn verdict(example: &str) -> String {
     readout(example).split_inclusive('\n').next().unwrap_or("").to_string()
 }
 
+/// The programs `check` and `readout`, compiled once.
+fn programs() -> &'static [PathBuf; 2] {
+    static PROGRAMS: OnceLock<[PathBuf; 2]> = OnceLock::new();
+    PROGRAMS.get_or_init(|| ["check", "readout"].map(compiled))
+}
+
 /// Compiles a program of `snippets` against the library and returns where it lies.
 fn compiled(name: &str) -> PathBuf {
     let program = Path::new(env!("CARGO_TARGET_TMPDIR")).join(name);
@@ -56,17 +63,39 @@ fn printed(program: &Path, example: &str) -> String {
 
 #[test]
 fn the_check_from_c() {
-    let program = compiled("check");
+    let [program, _] = programs();
     for example in EXAMPLES {
-        assert_eq!(printed(&program, example), verdict(example), "{example}");
+        assert_eq!(printed(program, example), verdict(example), "{example}");
     }
 }
 
 #[test]
 fn the_readout_from_c() {
-    let program = compiled("readout");
+    let [_, program] = programs();
     for example in EXAMPLES {
-        assert_eq!(printed(&program, example), readout(example), "{example}");
+        assert_eq!(printed(program, example), readout(example), "{example}");
+    }
+}
+
+/// Reading a folder fails, and writing to a full device: neither ends like a verdict.
+#[test]
+fn failed_reads_and_writes_from_c() {
+    for program in programs() {
+        let folder = fs::File::open(path("examples")).expect("the folder");
+        let read = Command::new(program).stdin(Stdio::from(folder)).output().expect("it runs");
+        assert!(!read.status.success() && read.stdout.is_empty(), "{}", program.display());
+        assert!(String::from_utf8_lossy(&read.stderr).starts_with("standard input: "));
+        let file = fs::File::open(path("examples/duty.proof")).expect("a stored example");
+        let full = fs::File::options().write(true).open("/dev/full").expect("a full device");
+        let written = Command::new(program)
+            .stdin(Stdio::from(file))
+            .stdout(Stdio::from(full))
+            .stderr(Stdio::piped())
+            .spawn()
+            .and_then(|child| child.wait_with_output())
+            .expect("it runs");
+        assert!(!written.status.success(), "{}", program.display());
+        assert!(String::from_utf8_lossy(&written.stderr).starts_with("standard output: "));
     }
 }
 

@@ -140,17 +140,69 @@ fn occurrences_in_the_readout() {
     assert_eq!(line("occurrences-65", 3), "3 2 +~ -~ -s0(s4) -~ +~ +s0(s4)");
 }
 
-/// Each name begins with the reason; "stands" has none. Where two reasons apply the lower is given.
+/// Each name begins with the reason, or with "stands". Where two reasons apply the lower is given.
 #[test]
 fn reasons_and_their_order() {
     for example in refusals::examples() {
+        let name = &example.name;
         let outcome = outcome(&example.file);
-        let expected = example.name.split('-').next().and_then(|first| first.parse().ok()).unwrap_or(0);
-        assert_eq!(reason(&outcome), expected, "{}", example.name);
-        if expected != 0 && expected < 10 {
-            assert_eq!(outcome.answer.numbers()[2..], [19, 4, 9, 6, 0], "{}", example.name);
+        let [kind, what, record, symbols, rows, clauses, _] = outcome.answer.numbers();
+        let (standing, records) = (symbols + rows + clauses, example.file.len() / 16);
+        match name.split('-').next().unwrap_or("") {
+            "stands" => assert!(kind != 2 && usize::from(standing) == records, "{name}"),
+            first => {
+                let expected: u16 = first.parse().unwrap_or_else(|_| panic!("no reason in {name}"));
+                // The refused record is the last but one: a good one comes after it.
+                assert_eq!((kind, what, record), (2, expected, standing), "{name}");
+                assert_eq!(usize::from(record), records - 2, "{name}");
+            }
         }
     }
+}
+
+/// Of each kind every byte that it does not use has a file.
+#[test]
+fn unused_bytes() {
+    let all = refusals::examples();
+    let places = |record: &str| -> Vec<usize> {
+        let prefix = format!("4-{record}-byte-");
+        let numbers = all.iter().filter_map(|example| example.name.strip_prefix(&prefix)?.parse().ok());
+        // Byte 1 of a variable, a resolve and a factor has two files.
+        let mut numbers: Vec<usize> = numbers.collect();
+        numbers.sort();
+        numbers.dedup();
+        numbers
+    };
+    let from = |first: usize| (first..16).collect::<Vec<_>>();
+    let and_byte_1 = |first: usize| [vec![1], from(first)].concat();
+    assert_eq!(places("symbol"), from(2));
+    assert_eq!(places("variable"), and_byte_1(4));
+    assert_eq!(places("application-of-none"), from(4));
+    assert_eq!(places("application-of-two"), from(8));
+    assert_eq!(places("clause-of-none"), from(2));
+    assert_eq!(places("clause-of-two"), from(6));
+    assert_eq!(places("resolve"), and_byte_1(10));
+    assert_eq!(places("factor"), and_byte_1(8));
+}
+
+#[test]
+fn as_many_as_the_records_allow() {
+    let all = edges::examples();
+    let symbols = named(&all, "symbols-4096");
+    assert_eq!(symbols.answer.numbers(), [0, 0, 0, 4096, 0, 0, 0]);
+    assert_eq!(symbols.cells.symbols[4095], 4095);
+    let rows = named(&all, "rows-4095");
+    assert_eq!(rows.answer.numbers(), [0, 0, 0, 1, 4095, 0, 0]);
+    assert_eq!(rows.cells.rows[4094], 4095);
+    let clause = named(&all, "clause-on-the-last-of-4094-rows");
+    assert_eq!(clause.answer.numbers(), [0, 0, 0, 1, 4094, 1, 0]);
+    assert_eq!(clause.used()[2], [4095, 2, 1, 0, 0]);
+    // Row 4,093 = 64 × 63 + 61 is s0 applied 63 times to variable 61: 64 occurrences, which are written.
+    let atom = format!("{}v61.1{}", "s0(".repeat(63), ")".repeat(63));
+    assert_eq!(String::from_utf8_lossy(&clause.readout), format!("open\n0 1 +{atom} -{atom}\n"));
+    let empty = named(&all, "empty-clauses-4096");
+    assert_eq!(empty.answer.numbers(), [1, 0, 0, 0, 0, 4096, 0]);
+    assert_eq!(empty.used()[2][5 * 4095..], [4095, 0, 1, 0, 0]);
 }
 
 #[test]

@@ -3,7 +3,10 @@
 mod lisp;
 
 use lisp::Rows;
+use yestrwyn_second::checker::Checker;
+use yestrwyn_second::expression::{Expression, Node};
 use yestrwyn_second::unify::Unifier;
+use yestrwyn_types::record::{kind, Record};
 use yestrwyn_vectors::examples::published;
 use yestrwyn_vectors::outcome::{outcome, Outcome};
 
@@ -193,9 +196,49 @@ fn boyer_moore_section_7_figure_1() {
     let (first, count) = (usize::from(clauses[5 * 3 + 3]), usize::from(clauses[5 * 3 + 4]));
     let own = &file.used()[3][4 * first..4 * (first + count)];
     assert!(own.chunks(4).any(|cells| cells == [0, 2, 2, 1]), "{own:?}");
-    // y,4 in C7 has the value (f (f y2)): with T,5 printed as (Q (f y4) y5), that is its first
-    // argument without the outer f.
-    assert!(literal(6, 4).starts_with("+s1(s3(s3(s3(v1.2)))"));
+}
+
+/// Section 7: "the reader should calculate the value of y,4 in the binding environment C7. It is found to
+/// be (f(f y2)) after using bindings found at C6, C4, C7, and C5." Row 1 is y.
+#[test]
+fn boyer_moore_section_7_y_4_in_c7() {
+    let mut checker = checker("boyer-moore-section-7-figure-1");
+    assert_eq!(value(&mut checker, 6, Expression { row: 1, index: 4 }), "s3(s3(v1.2))");
+}
+
+/// A checker that has read a published example.
+fn checker(name: &str) -> Checker {
+    let all = published();
+    let example = all.iter().find(|example| example.name == name).expect("an example of that name");
+    let mut checker = Checker::new();
+    for record in example.file.chunks(16) {
+        checker.record(record.try_into().expect("sixteen bytes")).expect("the record stands");
+    }
+    checker
+}
+
+/// The value of an expression in a clause, as a readout writes it.
+fn value(checker: &mut Checker, clause: u16, at: Expression) -> String {
+    let (nodes, environment) = checker.load(clause);
+    written(nodes, &mut |at| environment.follow(nodes, at).expression(), at)
+}
+
+/// An expression written out, with every variable replaced by what the function gives.
+fn written(nodes: &[Node], follow: &mut dyn FnMut(Expression) -> Expression, at: Expression) -> String {
+    let Expression { row, index } = follow(at);
+    match &nodes[usize::from(row)] {
+        Node::Variable(number) => format!("v{number}.{index}"),
+        Node::Application { symbol, count, arguments } => {
+            let arguments = &arguments[..usize::from(*count)];
+            let mut inner = |row: &u16| written(nodes, follow, Expression { row: *row, index });
+            let inner: Vec<String> = arguments.iter().map(&mut inner).collect();
+            if inner.is_empty() {
+                format!("s{symbol}")
+            } else {
+                format!("s{symbol}({})", inner.join(","))
+            }
+        }
+    }
 }
 
 #[test]
@@ -209,8 +252,75 @@ fn robinson_system_1_is_unified() {
         [("s0", "p"), ("s1", "f"), ("s2", "g"), ("s3", "h"), ("v3.1", "x"), ("v6.1", "d"), ("v5.1", "c")];
     let ours = named.iter().fold(literals(&file, 1), |text, (from, to)| text.replace(from, to));
     assert_eq!(ours, format!("+{expected}"));
-    // The paper's figure 2 has four substitutions too.
     assert_eq!(file.answer.bindings, 4);
+}
+
+/// The paper's first substitution, {p(r(a))/a, p(a)/x, g(a,b)/y}, puts all at once: what is put stands at
+/// an index of its own. f(x,g(x,y)) becomes f(p(a),g(p(a),g(a,b))).
+#[test]
+fn robinson_value_of_a_term_under_a_substitution() {
+    let mut rows = Rows::default();
+    let mut theta =
+        rows.environment(&[("a", 1, "(p (r a))", 2), ("x", 1, "(p a)", 2), ("y", 1, "(g a b)", 2)]);
+    let term = rows.at("(f x (g x y))", 1);
+    assert_eq!(rows.value(&mut theta, term), "(f (p a2) (g (p a2) (g a2 b2)))");
+}
+
+/// Figures 1, 2 and 3 as printed: for each row the expression before (figure 3, `normalexpression`), the
+/// row that is put for it (figure 2, `term`), its class (figure 2, `equals`), and the expression after
+/// (figure 3, `expression`).
+const FIGURES: [(&str, Option<usize>, usize, &str); 13] = [
+    ("f(x,g(x,y))", None, 8, "f(x,g(x,f(d,c)))"),
+    ("x", None, 9, "x"),
+    ("g(x,y)", None, 10, "g(x,f(d,c))"),
+    ("y", Some(11), 4, "f(d,c)"),
+    ("z", Some(1), 8, "f(x,g(x,f(d,c)))"),
+    ("h(z,y)", None, 7, "h(f(x,g(x,f(d,c))),f(d,c))"),
+    ("h(f(a,b),f(d,c))", None, 7, "h(f(x,g(x,f(d,c))),f(d,c))"),
+    ("f(a,b)", None, 8, "f(x,g(x,f(d,c)))"),
+    ("a", Some(2), 9, "x"),
+    ("b", Some(3), 10, "g(x,f(d,c))"),
+    ("f(d,c)", None, 4, "f(d,c)"),
+    ("d", None, 12, "d"),
+    ("c", None, 13, "c"),
+];
+
+/// A written term with the names of the paper: s1 f, s2 g, s3 h, and v0 to v6 for x, y, z, a, b, c, d.
+fn robinson_names(text: String) -> String {
+    let symbols = [("s1", "f"), ("s2", "g"), ("s3", "h")];
+    let variables = ["x", "y", "z", "a", "b", "c", "d"];
+    let text = symbols.iter().fold(text, |text, (from, to)| text.replace(from, to));
+    let names = variables.iter().enumerate();
+    names.fold(text, |text, (number, name)| text.replace(&format!("v{number}.1"), name))
+}
+
+/// With the second literal kept, so that it is on the left, the step binds just what figure 2 prints.
+#[test]
+fn robinson_figures_2_and_3() {
+    let mut checker = checker("robinson-system-1");
+    checker.record(&Record::new(kind::FACTOR, 0, &[0, 2, 1]).to_bytes()).expect("the factor stands");
+    let nodes = checker.nodes().to_vec();
+    let normal = |row: u16| {
+        let text = written(&nodes, &mut |at| at, Expression { row, index: 1 });
+        robinson_names(text)
+    };
+    let place = |row: u16| FIGURES.iter().position(|figure| figure.0 == normal(row)).map(|place| place + 1);
+    // Figure 2, subst and term.
+    let first = usize::from(checker.clauses()[2].first_binding);
+    let mut bound: Vec<_> = checker.bindings()[first..]
+        .iter()
+        .map(|own| (place(own.variable.row), place(own.value.row)))
+        .collect();
+    bound.sort();
+    let printed = FIGURES.iter().zip(1..).filter(|(figure, _)| figure.1.is_some());
+    assert_eq!(bound, printed.map(|(figure, row)| (Some(row), figure.1)).collect::<Vec<_>>());
+    // Figure 3, and figure 2, equals: the same class exactly where the expressions are the same.
+    for (text, _, class, after) in FIGURES {
+        let row = (0..nodes.len() as u16).find(|&row| normal(row) == text).expect("a row of figure 1");
+        let ours = value(&mut checker, 2, Expression { row, index: 1 });
+        assert_eq!(robinson_names(ours), after, "expression of {text}");
+        assert!(FIGURES.iter().all(|other| (other.2 == class) == (other.3 == after)), "class of {text}");
+    }
 }
 
 #[test]
@@ -315,6 +425,8 @@ fn kowalski_barber_paradox_needs_factoring() {
     assert_eq!(verdict(&file), "accepted 7");
     assert_eq!(renamed(&literals(&file, 3)), renamed("+s0(y,y) -s1(y)"));
     assert_eq!(renamed(&literals(&file, 4)), renamed("-s0(y,y) -s1(y)"));
+    // The printed units, Shave(☺,☺) ← and ← Shave(☺,☺), where ☺ is symbol 2.
+    assert_eq!([5, 6].map(|clause| literals(&file, clause)), ["+s0(s2,s2)", "-s0(s2,s2)"]);
     let without = example("kowalski-s1-s2-without-factoring");
     assert_eq!(verdict(&without), "open");
     assert!((2..5).all(|clause| literals(&without, clause).split(' ').count() == 2));

@@ -12,8 +12,8 @@
 //! package hands slices to them and turns numbers into values; it is not proved, and it is the only
 //! one of this folder that calls them.
 //!
-//! [`check`] and [`readout`] take care of the stack themselves. [`check_here`] and
-//! [`readout_piece_here`] run on the caller's, and say how much of it they need.
+//! [`check()`] and [`readout()`] take care of the stack themselves. Functions that end in `_here` run on
+//! the caller's, and say how much of it they need.
 
 #![warn(missing_docs)]
 
@@ -24,6 +24,8 @@ mod readout;
 mod stack;
 
 pub use check::{check, check_here, check_into};
-pub use readout::{readout, readout_piece, readout_piece_here, write_readout, Piece, Rest, ENOUGH};
+pub use readout::{
+    readout, readout_piece, readout_piece_here, write_readout, write_readout_here, Piece, Rest, ENOUGH,
+};
 pub use stack::{with_stack, STACK};
 pub use yestrwyn_types::{limits, Answer, Cells, Reason, Tables, Verdict, LENGTHS};

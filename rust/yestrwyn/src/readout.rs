@@ -10,9 +10,9 @@ use crate::stack::with_stack;
 /// Room that every line has: no piece with so much room is too short.
 pub const ENOUGH: usize = 131_072;
 
-/// The most room that a piece is given here. Each piece checks the file anew, so that larger ones take
-/// less time, and this one bounds the memory.
-const MOST: usize = 64 << 20;
+/// The room of a piece where the caller lends none. Each piece checks the file anew, so that larger ones
+/// take less time; most readouts fit in one.
+const ROOM: usize = 16 << 20;
 
 /// What comes after a piece.
 #[derive(Clone, Copy, PartialEq, Eq, Debug)]
@@ -43,8 +43,30 @@ pub fn readout(file: &[u8]) -> io::Result<Vec<u8>> {
 
 /// The same, written piece by piece. If it ends with an error, what was written is not the readout.
 pub fn write_readout(file: &[u8], out: &mut (impl Write + Send)) -> io::Result<()> {
-    let mut cells = Cells::new();
-    with_stack(|| write_pieces(file, &mut cells.lend(), out))?
+    let (mut cells, mut output) = (Cells::new(), vec![0; ROOM]);
+    with_stack(|| write_readout_here(file, &mut cells.lend(), &mut output, out))?
+}
+
+/// The same on the caller's own stack, of which 8 MiB must be left ([`check_here`](crate::check_here)
+/// says why), with tables and an output that the caller lends for the pieces. An output that is too short
+/// for a line is an error: a readout is written whole or not called one. [`ENOUGH`] bytes have room for
+/// every line.
+pub fn write_readout_here(
+    file: &[u8],
+    tables: &mut Tables<'_>,
+    output: &mut [u8],
+    out: &mut impl Write,
+) -> io::Result<()> {
+    let mut clause = 0;
+    loop {
+        let piece = readout_piece_here(file, tables, clause, output);
+        out.write_all(&output[..piece.written])?;
+        match piece.rest {
+            Rest::Complete => return Ok(()),
+            Rest::GoOn(next) => clause = next,
+            Rest::TooShort(clause) => return Err(cut(clause, output.len())),
+        }
+    }
 }
 
 /// Checks a file and writes as many whole lines of its readout as fit, from a clause on; from clause 0
@@ -71,22 +93,6 @@ pub fn readout_piece_here(file: &[u8], tables: &mut Tables<'_>, clause: u16, out
         _ => Rest::TooShort(next),
     };
     Piece { written: written as usize, rest }
-}
-
-/// Piece after piece, each with twice the room of the one before.
-fn write_pieces(file: &[u8], tables: &mut Tables<'_>, out: &mut impl Write) -> io::Result<()> {
-    let mut output = vec![0; ENOUGH];
-    let mut clause = 0;
-    loop {
-        let piece = readout_piece_here(file, tables, clause, &mut output);
-        out.write_all(&output[..piece.written])?;
-        match piece.rest {
-            Rest::Complete => return Ok(()),
-            Rest::GoOn(next) => clause = next,
-            Rest::TooShort(clause) => return Err(cut(clause, output.len())),
-        }
-        output.resize((2 * output.len()).min(MOST), 0);
-    }
 }
 
 /// The error of a readout that would be cut before a clause.

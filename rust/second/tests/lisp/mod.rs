@@ -1,4 +1,5 @@
-//! Terms in the notation of Boyer and Moore: (P x (f y)), with u to z for variables.
+//! Terms in the notation of Boyer and Moore: (P x (f y)), with u to z and a to d for variables; a constant
+//! is (a).
 
 use yestrwyn_second::environment::Environment;
 use yestrwyn_second::expression::{Binding, Expression, Followed, Node};
@@ -10,7 +11,7 @@ pub struct Rows {
     symbols: Vec<String>,
 }
 
-const VARIABLES: &str = "uvwxyz";
+const VARIABLES: &str = "uvwxyzabcd";
 
 impl Rows {
     /// The row of a term given as text.

@@ -13,6 +13,7 @@ pub fn examples() -> Vec<Example> {
     all.extend(bindings());
     all.extend(sizes());
     all.extend(occurrences());
+    all.extend(counts());
     all
 }
 
@@ -358,5 +359,53 @@ fn many_occurrences(size: usize) -> Vec<u8> {
     let open = file.clause_of_rows(&[(false, qx), (true, px), (false, px)]);
     file.resolve(given, 5, open, 1);
     file.resolve(open, 1, given, 5);
+    file.finish()
+}
+
+/// As many symbols, rows and clauses as the records allow.
+fn counts() -> Vec<Example> {
+    vec![
+        Example::new("symbols-4096", many_symbols()),
+        Example::new("rows-4095", many_rows(4095).finish()),
+        Example::new("clause-on-the-last-of-4094-rows", clause_on_last_row()),
+        Example::new("empty-clauses-4096", empty_clauses()),
+    ]
+}
+
+/// Nothing but symbols, of each arity in turn.
+fn many_symbols() -> Vec<u8> {
+    let mut file = FileBuilder::new();
+    for number in 0..4096u16 {
+        file.symbol((number % 7) as u8);
+    }
+    file.finish()
+}
+
+/// One symbol, and rows: all variables, then the symbol applied to one row after another.
+fn many_rows(rows: u16) -> FileBuilder {
+    let mut file = FileBuilder::new();
+    let f = file.symbol(1);
+    for number in 0..64 {
+        file.variable(number);
+    }
+    for row in 0..rows - 64 {
+        file.application(f, &[row]);
+    }
+    file
+}
+
+/// A clause whose literals are on the last row: the largest number that a literal can have.
+fn clause_on_last_row() -> Vec<u8> {
+    let mut file = many_rows(4094);
+    file.clause_of_rows(&[(true, 4093), (false, 4093)]);
+    file.finish()
+}
+
+/// Nothing but clauses without literals.
+fn empty_clauses() -> Vec<u8> {
+    let mut file = FileBuilder::new();
+    for _ in 0..4096 {
+        file.clause(&[]);
+    }
     file.finish()
 }

@@ -117,17 +117,17 @@ fn work_occurrence() -> Vec<u8> {
     file.finish()
 }
 
-/// 128 literals in clauses some 4,000 right parents deep.
+/// 127 literals in clauses some 4,000 right parents deep.
 fn literals() -> Vec<u8> {
     many_literals(false)
 }
 
-/// 128 literals in clauses some 4,000 left parents deep.
+/// 127 literals in clauses some 4,000 left parents deep.
 fn literals_left() -> Vec<u8> {
     many_literals(true)
 }
 
-/// A clause grown to 128 literals, then resolved with -q +q again and again.
+/// A clause grown to 127 literals, then resolved with -q +q again and again.
 fn many_literals(left: bool) -> Vec<u8> {
     let mut file = FileBuilder::new();
     let [q, p] = [0, 1].map(|arity| file.symbol(arity));
@@ -148,7 +148,7 @@ fn many_literals(left: bool) -> Vec<u8> {
     file.finish()
 }
 
-/// 128 literals of 64 occurrences each in every line: the longest readout.
+/// 125 literals of 64 occurrences each in nearly every line: a readout of 257 MB.
 fn readout() -> Vec<u8> {
     let mut file = FileBuilder::new();
     let [q, p, f] = [0, 3, 6].map(|arity| file.symbol(arity));

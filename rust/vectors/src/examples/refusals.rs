@@ -12,6 +12,7 @@ pub fn examples() -> Vec<Example> {
     all.extend(resolves());
     all.extend(factors());
     all.extend(unifications());
+    all.extend(unused_bytes());
     all
 }
 
@@ -170,4 +171,32 @@ fn unifications() -> Vec<Example> {
         pair("11-at-the-second-argument", [x(), x(), a()], [g(a(), y()), y(), a()]),
         pair("stands-same-numbers-apart", [x(), y(), z()], [f(x()), f(y()), z()]),
     ]
+}
+
+/// Each byte that a kind does not use, by itself not zero: 4, whatever else is right or wrong with the record.
+fn unused_bytes() -> Vec<Example> {
+    let records = [
+        ("symbol", Record::new(kind::SYMBOL, 1, &[]), 1),
+        ("variable", Record::new(kind::VARIABLE, 0, &[2]), 2),
+        ("application-of-none", Record::new(kind::APPLICATION, 0, &[3]), 2),
+        ("application-of-two", Record::new(kind::APPLICATION, 2, &[0, 5, 5]), 4),
+        ("clause-of-none", Record::new(kind::INPUT, 0, &[]), 1),
+        ("clause-of-two", Record::new(kind::INPUT, 2, &[4, 17]), 3),
+        ("resolve", Record::new(kind::RESOLVE, 0, &[2, 1, 1, 1]), 5),
+        ("factor", Record::new(kind::FACTOR, 0, &[2, 1, 2]), 4),
+    ];
+    records.into_iter().flat_map(|(name, record, used)| unused_bytes_of(name, record, used)).collect()
+}
+
+/// Byte 1 where the kind has no count, and every byte from pair `used` on.
+fn unused_bytes_of(name: &str, record: Record, used: usize) -> Vec<Example> {
+    let counted = matches!(record.kind, kind::SYMBOL | kind::APPLICATION | kind::INPUT);
+    let places = (1..2).filter(|_| !counted).chain(2 * used..16);
+    let example = |place: usize| {
+        let mut bytes = record.to_bytes();
+        bytes[place] = 1 << (place % 8);
+        let Record { kind, count, fields } = Record::from_bytes(&bytes);
+        with(&format!("4-{name}-byte-{place}"), kind, count, fields)
+    };
+    places.map(example).collect()
 }
