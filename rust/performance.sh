@@ -4,8 +4,8 @@ set -eu
 cd "$(dirname "$0")/.."
 rt staticlib checker_c
 rt check proofread
-cargo build --quiet --offline --release --manifest-path rust/Cargo.toml -p yestrwyn-second -p yestrwyn-comparison --bins
-built=rust/target/release
+cargo build --quiet --offline --profile measured --manifest-path rust/Cargo.toml -p yestrwyn-second -p yestrwyn-comparison --bins
+built=rust/target/measured
 "$built/performance"
 (ulimit -s 4096 && "$built/deepest")
 folder=$(mktemp -d)

@@ -1,14 +1,14 @@
 //! The check of one record after another: what stands so far, and the next record or its reason.
 
-use std::collections::HashSet;
-
-use crate::clause::{literal, Clause, Literal, Loader, Origin};
-use crate::environment::Environment;
-use crate::expression::{Binding, Expression, Node};
-use crate::unify::Unifier;
 use yestrwyn_types::limits::{ARITY, INDEX, INPUT_LITERALS, LITERALS, RECORDS, RECORD_BYTES, VARIABLES};
 use yestrwyn_types::record::{kind, Record};
 use yestrwyn_types::{Answer, Reason, Verdict};
+
+use crate::clause::{literal, Clause, Literal, Loader, Origin};
+use crate::distinct::Distinct;
+use crate::environment::Environment;
+use crate::expression::{Binding, Expression, Node};
+use crate::unify::Unifier;
 
 /// A symbol that stands.
 #[derive(Clone, Copy, PartialEq, Eq, Debug)]
@@ -24,7 +24,7 @@ pub struct Checker {
     symbols: Vec<Symbol>,
     row_records: Vec<u16>,
     nodes: Vec<Node>,
-    distinct: HashSet<[u8; RECORD_BYTES]>,
+    distinct: Distinct,
     clauses: Vec<Clause>,
     bindings: Vec<Binding>,
     empty: Option<u16>,
@@ -144,7 +144,7 @@ impl Checker {
 
     /// Adds a row that is new as a record.
     fn row(&mut self, record: &Record, node: Node) -> Result<(), Reason> {
-        require(self.distinct.insert(record.to_bytes()), Reason::Repeated)?;
+        require(self.distinct.insert(&record.to_bytes()), Reason::Repeated)?;
         self.row_records.push(self.records);
         self.nodes.push(node);
         Ok(())

@@ -1,34 +1,35 @@
 //! The binding environment of one clause: an array with a cell for each variable number and index.
 
+use yestrwyn_types::limits::VARIABLES;
+
 use crate::expression::{Binding, Expression, Followed, Node};
-use yestrwyn_types::limits::{INDEX, VARIABLES};
 
 /// Row + 1 and index of a value; row part 0 where the variable is free.
 type Cell = [u16; 2];
 const FREE: Cell = [0, 0];
 
-/// Values of variables. Its users keep every index within 1 to 4,096, and never bind a variable to
-/// something whose value contains it (the occurrence test sees to that), so following ends.
+/// Values of variables at indices from 1 up to the one that it was last cleared for. Its users never bind
+/// a variable to something whose value contains it (the occurrence test sees to that), so following ends.
+#[derive(Default)]
 pub struct Environment {
     cells: Vec<Cell>,
 }
 
-impl Default for Environment {
-    fn default() -> Self {
-        Environment::new()
-    }
-}
-
 impl Environment {
-    /// An environment in which every variable is free.
+    /// An environment that has room for no index yet.
     pub fn new() -> Environment {
-        Environment { cells: vec![FREE; VARIABLES * (usize::from(INDEX) + 1)] }
+        Environment::default()
     }
 
-    /// Frees the variables at indices up to `index`; a step needs no more of the array than that.
+    /// Frees the variables at indices up to `index`; a step needs no more of the array than that, and the
+    /// array grows only as far as a step needs it.
     pub fn clear(&mut self, index: u16) {
-        let end = slot(0, index).saturating_add(VARIABLES).min(self.cells.len());
-        self.cells[..end].fill(FREE);
+        let end = slot(0, index) + VARIABLES;
+        let held = end.min(self.cells.len());
+        self.cells[..held].fill(FREE);
+        if held < end {
+            self.cells.resize(end, FREE);
+        }
     }
 
     /// Puts a binding in, with `offset` added to both indices.

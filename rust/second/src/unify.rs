@@ -1,9 +1,10 @@
 //! Unification of two expressions, with its work counted. Nested terms are kept on a heap stack.
 
-use crate::environment::Environment;
-use crate::expression::{variable_number, Binding, Expression, Followed, Node};
 use yestrwyn_types::limits::{BINDINGS, WORK};
 use yestrwyn_types::Reason;
+
+use crate::environment::Environment;
+use crate::expression::{variable_number, Binding, Expression, Followed, Node};
 
 /// The stacks of a unification, kept between steps so that a step allocates nothing.
 #[derive(Default)]

@@ -1,11 +1,12 @@
 //! Random files from a seed: mostly meaningful ones, and damage to them.
 
-use crate::sketch::FileBuilder;
 use yestrwyn_second::checker::Checker;
 use yestrwyn_second::clause::literal;
 use yestrwyn_types::limits::{RECORDS, RECORD_BYTES};
 use yestrwyn_types::record::{kind, Record};
 use yestrwyn_types::Reason;
+
+use crate::sketch::FileBuilder;
 
 /// The generator SplitMix64: equal seeds give equal numbers everywhere.
 #[derive(Clone, Debug)]

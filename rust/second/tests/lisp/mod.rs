@@ -11,6 +11,9 @@ pub struct Rows {
     symbols: Vec<String>,
 }
 
+/// No example has a larger index.
+const LARGEST: u16 = 20;
+
 const VARIABLES: &str = "uvwxyzabcd";
 
 impl Rows {
@@ -29,6 +32,7 @@ impl Rows {
     /// An environment of bindings, each a variable, its index, a term, its index.
     pub fn environment(&mut self, bindings: &[(&str, u16, &str, u16)]) -> Environment {
         let mut environment = Environment::new();
+        environment.clear(LARGEST);
         for &(variable, index, term, at) in bindings {
             let number = VARIABLES.find(variable).expect("a variable") as u16;
             let (variable, value) = (self.at(variable, index), self.at(term, at));

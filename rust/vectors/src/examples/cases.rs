@@ -1,8 +1,9 @@
 //! The case sheet of the format description, under its letters.
 
+use yestrwyn_types::record::kind;
+
 use super::Example;
 use crate::sketch::{app, neg, pos, var, FileBuilder, SignedTerm};
-use yestrwyn_types::record::kind;
 
 /// All cases that are files. Case L is a unification in a given environment and is tested as one.
 pub fn examples() -> Vec<Example> {

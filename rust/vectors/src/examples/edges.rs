@@ -1,9 +1,10 @@
 //! Each limit of the format at its edge and one past it.
 
+use yestrwyn_types::record::kind;
+
 use super::cases::case_k;
 use super::Example;
 use crate::sketch::{app, apply, neg, pos, var, FileBuilder, SignedTerm, Term};
-use yestrwyn_types::record::kind;
 
 /// All of them.
 pub fn examples() -> Vec<Example> {

@@ -1,8 +1,9 @@
 //! Files refused for each reason, and records to which several reasons apply.
 
+use yestrwyn_types::record::{kind, Record};
+
 use super::Example;
 use crate::sketch::{app, neg, pos, var, FileBuilder, Term};
-use yestrwyn_types::record::{kind, Record};
 
 /// Each is a standing file and one more record, which is refused with the reason in its name.
 pub fn examples() -> Vec<Example> {
