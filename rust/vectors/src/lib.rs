@@ -6,6 +6,7 @@
 pub mod examples;
 pub mod outcome;
 pub mod random;
+pub mod shapes;
 pub mod sketch;
 pub mod stored;
 

@@ -1,0 +1,108 @@
+//! A search for the slowest file, by hill climbing over the shapes of slow files:
+//!
+//! ```text
+//! slowest SEED CLIMBS STEPS
+//! ```
+//!
+//! Each climb begins at the slowest of some random shapes and alters it, and keeps what takes longer. What counts is the
+//! processor time of the proved check and readout together, which is what `proofread` does, estimated from a file with few
+//! last steps. At the end of each climb the whole file is timed.
+
+use std::process::ExitCode;
+use std::time::Duration;
+
+use yestrwyn::{check_here, readout_piece_here, Cells};
+use yestrwyn_comparison::clock::own_time;
+use yestrwyn_comparison::rounds::shown;
+use yestrwyn_vectors::random::SplitMix64;
+use yestrwyn_vectors::shapes::Shape;
+
+/// Random shapes before each climb.
+const BEGINNINGS: usize = 30;
+
+/// After so many files the slowest is timed again, so that one disturbed time does not end a climb.
+const AGAIN: u64 = 12;
+
+/// Last steps of the files that are timed on the way.
+const FEW: usize = 48;
+
+/// Room for the longest readout.
+const ROOM: usize = 400 << 20;
+
+fn main() -> ExitCode {
+    let arguments: Vec<String> = std::env::args().skip(1).collect();
+    let numbers: Option<Vec<u64>> = arguments.iter().map(|word| word.parse().ok()).collect();
+    let Some(&[seed, climbs, steps]) = numbers.as_deref() else {
+        eprintln!("usage: slowest SEED CLIMBS STEPS");
+        return ExitCode::FAILURE;
+    };
+    match yestrwyn::with_stack(|| search(seed, climbs, steps)) {
+        Ok(()) => ExitCode::SUCCESS,
+        Err(error) => {
+            eprintln!("{error}");
+            ExitCode::FAILURE
+        }
+    }
+}
+
+/// All climbs, and what each has found.
+fn search(seed: u64, climbs: u64, steps: u64) {
+    let mut clock = Clock { cells: Cells::new(), output: vec![0; ROOM] };
+    let mut files = 0;
+    for climb in 0..climbs {
+        let mut random = SplitMix64::new(seed.wrapping_add(climb));
+        let begin = (0..BEGINNINGS).map(|_| Shape::random(&mut random));
+        let timed = begin.map(|shape| (clock.estimate(&shape), shape)).max_by_key(|found| found.0);
+        let Some((mut longest, mut slowest)) = timed else { return };
+        for step in 1..=steps {
+            let other = slowest.altered(&mut random);
+            // A second look, because the first may have been disturbed.
+            let time = clock.estimate(&other);
+            if time > longest {
+                let time = time.min(clock.estimate(&other));
+                if time > longest {
+                    (longest, slowest) = (time, other);
+                }
+            }
+            if step % AGAIN == 0 {
+                longest = clock.estimate(&slowest);
+            }
+        }
+        files += BEGINNINGS as u64 + steps;
+        let (check, both) = clock.whole(&slowest);
+        println!("{} and {} of it the check, after {files} files: {slowest:?}", shown(both), shown(check));
+    }
+}
+
+/// What a file is timed with.
+struct Clock {
+    cells: Cells,
+    output: Vec<u8>,
+}
+
+impl Clock {
+    /// The time of check and readout of a file.
+    fn time(&mut self, file: &[u8]) -> Duration {
+        let start = own_time();
+        readout_piece_here(file, &mut self.cells.lend(), 0, &mut self.output);
+        own_time().saturating_sub(start)
+    }
+
+    /// The time that the whole file would take, from files with few last steps and with none.
+    fn estimate(&mut self, shape: &Shape) -> Duration {
+        let (none, few) = (shape.shortened(0), shape.shortened(FEW));
+        let before = self.time(&none);
+        let steps = (few.len() - none.len()) / 16;
+        let each = self.time(&few).saturating_sub(before) / steps.max(1) as u32;
+        before + each * (65_536 - none.len() as u32).div_euclid(16)
+    }
+
+    /// The times of the check alone and of both, for the whole file.
+    fn whole(&mut self, shape: &Shape) -> (Duration, Duration) {
+        let file = shape.file();
+        let start = own_time();
+        check_here(&file, &mut self.cells.lend());
+        let check = own_time().saturating_sub(start);
+        (check, self.time(&file))
+    }
+}
