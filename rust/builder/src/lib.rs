@@ -47,11 +47,14 @@ mod environment;
 mod error;
 mod file;
 mod handles;
+mod reading;
 mod running;
+mod standing;
 mod unification;
 
 pub use error::BuildError;
 pub use file::FileBuilder;
 pub use handles::{neg, pos, Clause, Literal, Row, Signed, Symbol};
-pub use running::{Derived, Expression, RunningBuilder, Standing, Value};
+pub use running::RunningBuilder;
+pub use standing::{Derived, Expression, Standing, Value};
 pub use yestrwyn_types::{limits, Reason};

@@ -2,70 +2,17 @@
 
 use std::collections::HashMap;
 
-use yestrwyn_types::limits::{INDEX, LITERALS, READOUT_OCCURRENCES};
+use yestrwyn_types::limits::{INDEX, LITERALS};
 use yestrwyn_types::Reason;
 
 use crate::derivation::{At, Derivation, Occurrence, Origin};
-use crate::environment::{End, Environment};
+use crate::environment::Environment;
 use crate::error::BuildError;
 use crate::file::FileBuilder;
 use crate::handles::{Clause, Literal, Row, Signed, Symbol};
+use crate::reading::Reading;
+use crate::standing::{Derived, Expression, Standing, Value};
 use crate::unification::unify;
-
-/// A clause that a step has made, and its literals.
-#[derive(Clone, PartialEq, Eq, Debug)]
-pub struct Derived {
-    /// The clause.
-    pub clause: Clause,
-    /// Its literals in order; there are none if the proof is complete.
-    pub literals: Vec<Standing>,
-}
-
-impl Derived {
-    /// Is it the empty clause?
-    pub fn is_empty(&self) -> bool {
-        self.literals.is_empty()
-    }
-}
-
-/// A literal of a clause that stands.
-#[derive(Clone, Copy, PartialEq, Eq, Debug)]
-pub struct Standing {
-    /// The literal, to be named by a step.
-    pub literal: Literal,
-    /// Is it positive?
-    pub positive: bool,
-    /// Its atom.
-    pub atom: Expression,
-}
-
-/// A term in a clause, whose variables have the values that the clause's steps have given them.
-/// [`RunningBuilder::value`] looks at it.
-#[derive(Clone, Copy, PartialEq, Eq, Hash, Debug)]
-pub struct Expression {
-    clause: Clause,
-    at: At,
-}
-
-/// What stands at the top of an expression. It is looked at level by level, because a term written out
-/// may be larger than any memory.
-#[derive(Clone, PartialEq, Eq, Debug)]
-pub enum Value {
-    /// A variable without a value.
-    Variable {
-        /// Its number.
-        number: u16,
-        /// The use of an input clause to which it belongs, from 1.
-        index: u16,
-    },
-    /// A symbol and its arguments.
-    Application {
-        /// The symbol.
-        symbol: Symbol,
-        /// As many expressions as its arity.
-        arguments: Vec<Expression>,
-    },
-}
 
 /// A file under construction whose steps are run as they are added.
 ///
@@ -186,55 +133,15 @@ impl RunningBuilder {
 
     /// What stands at the top of an expression.
     pub fn value(&self, expression: Expression) -> Value {
-        let Expression { clause, at } = expression;
-        self.top(&mut self.environment(clause), clause, at)
+        Reading::new(&self.file, self.environment(expression.clause), expression.clause).top(expression.at)
     }
 
     /// A literal as the readout writes it: its sign, and its term or `~` if that has more than 64
     /// symbols and variables.
     pub fn text(&self, standing: &Standing) -> String {
-        let sign = if standing.positive { "+" } else { "-" };
         let Expression { clause, at } = standing.atom;
-        let mut environment = self.environment(clause);
-        let mut room = READOUT_OCCURRENCES;
-        let term = self.written(&mut environment, clause, at, &mut room);
-        format!("{sign}{}", term.unwrap_or("~".to_string()))
-    }
-
-    /// A term written out, if it has no more occurrences than there is room for; each takes one away.
-    fn written(
-        &self,
-        environment: &mut Environment<'_>,
-        clause: Clause,
-        at: At,
-        room: &mut usize,
-    ) -> Option<String> {
-        *room = room.checked_sub(1)?;
-        match self.top(environment, clause, at) {
-            Value::Variable { number, index } => Some(format!("v{number}.{index}")),
-            Value::Application { symbol, arguments } => {
-                let mut write = |inner: &Expression| self.written(environment, clause, inner.at, room);
-                let inner: Option<Vec<String>> = arguments.iter().map(&mut write).collect();
-                let inner = Some(inner?.join(",")).filter(|text| !text.is_empty());
-                let inner = inner.map_or(String::new(), |text| format!("({text})"));
-                Some(format!("s{}{inner}", symbol.number()))
-            }
-        }
-    }
-
-    /// What stands at the top of an expression, in an environment.
-    fn top(&self, environment: &mut Environment<'_>, clause: Clause, at: At) -> Value {
-        match environment.follow(at) {
-            End::Unbound(end) => {
-                let number = environment.record(end.row).fields[0];
-                Value::Variable { number, index: end.index }
-            }
-            End::Application(end) => {
-                let symbol = self.file.symbol_of(environment.record(end.row).fields[0]);
-                let arguments = environment.arguments(end).map(|at| Expression { clause, at });
-                Value::Application { symbol, arguments: arguments.collect() }
-            }
-        }
+        let term = Reading::new(&self.file, self.environment(clause), clause).text(at);
+        format!("{}{term}", if standing.positive { '+' } else { '-' })
     }
 
     /// The bindings in a clause.

@@ -14,6 +14,7 @@ use std::time::Duration;
 use yestrwyn::{check_here, readout_piece_here, Cells};
 use yestrwyn_comparison::clock::own_time;
 use yestrwyn_comparison::rounds::shown;
+use yestrwyn_types::limits::FILE_BYTES;
 use yestrwyn_vectors::random::SplitMix64;
 use yestrwyn_vectors::shapes::Shape;
 
@@ -24,7 +25,7 @@ const BEGINNINGS: usize = 30;
 const AGAIN: u64 = 12;
 
 /// Last steps of the files that are timed on the way.
-const FEW: usize = 48;
+const FEW: usize = 24;
 
 /// Room for the longest readout.
 const ROOM: usize = 400 << 20;
@@ -81,28 +82,32 @@ struct Clock {
 }
 
 impl Clock {
-    /// The time of check and readout of a file.
-    fn time(&mut self, file: &[u8]) -> Duration {
+    /// The time of the check of a file, and how many clauses it has.
+    fn check(&mut self, file: &[u8]) -> (Duration, u16) {
         let start = own_time();
-        readout_piece_here(file, &mut self.cells.lend(), 0, &mut self.output);
+        let answer = check_here(file, &mut self.cells.lend());
+        (own_time().saturating_sub(start), answer.clauses)
+    }
+
+    /// The time of the check of a file and of its lines from a clause on.
+    fn read(&mut self, file: &[u8], clause: u16) -> Duration {
+        let start = own_time();
+        readout_piece_here(file, &mut self.cells.lend(), clause, &mut self.output);
         own_time().saturating_sub(start)
     }
 
-    /// The time that the whole file would take, from files with few last steps and with none.
+    /// The time that all last steps would take, from files with a few of them and with none.
     fn estimate(&mut self, shape: &Shape) -> Duration {
         let (none, few) = (shape.shortened(0), shape.shortened(FEW));
-        let before = self.time(&none);
-        let steps = (few.len() - none.len()) / 16;
-        let each = self.time(&few).saturating_sub(before) / steps.max(1) as u32;
-        before + each * (65_536 - none.len() as u32).div_euclid(16)
+        let (before, clauses) = self.check(&none);
+        let steps = few.len().saturating_sub(none.len()) / 16;
+        let each = self.read(&few, clauses).saturating_sub(before) / steps.max(1) as u32;
+        each * FILE_BYTES.saturating_sub(none.len()).div_euclid(16) as u32
     }
 
     /// The times of the check alone and of both, for the whole file.
     fn whole(&mut self, shape: &Shape) -> (Duration, Duration) {
         let file = shape.file();
-        let start = own_time();
-        check_here(&file, &mut self.cells.lend());
-        let check = own_time().saturating_sub(start);
-        (check, self.time(&file))
+        (self.check(&file).0, self.read(&file, 0))
     }
 }
