@@ -6,7 +6,7 @@ use yestrwyn_vectors::examples::heavy;
 
 /// Of every heavy file the largest work of a step, the most literals of a clause and the largest maximum
 /// index.
-const BUILT: [(&str, u32, u16, u16); 10] = [
+const BUILT: [(&str, u32, u16, u16); 11] = [
     ("heavy-count", 4086, 2, 4085),
     ("heavy-chains", 151, 2, 4096),
     ("heavy-chains-resolve", 151, 2, 4095),
@@ -17,6 +17,7 @@ const BUILT: [(&str, u32, u16, u16); 10] = [
     ("heavy-literals-left", 1, 127, 4090),
     ("heavy-readout", 1, 127, 4071),
     ("heavy-exponential", 2049, 2, 4001),
+    ("heavy-slowest", 16_384, 127, 4096),
 ];
 
 #[test]

@@ -32,8 +32,7 @@ fn main() {
         let paths: Vec<String> = examples.iter().map(|example| write(folder, example)).collect();
         let rounds = Rounds::take(|| run(proofread, &paths), || run(second, &paths));
         let bytes: usize = paths.iter().map(|path| length(second, path)).sum();
-        let speed = bytes as f64 / 1e6 / rounds.least()[0].as_secs_f64();
-        println!("| {name} | {rounds} | {} | {speed:.0} |", with_commas(bytes));
+        println!("| {name} | {rounds} | {} | {} |", with_commas(bytes), speed(bytes, rounds.least()[0]));
         if paths.len() > 1 {
             together.push(rounds);
         }
@@ -77,6 +76,15 @@ fn length(program: &str, path: &str) -> usize {
     let input = File::open(path).expect("the file");
     let output = Command::new(program).stdin(input).output().expect("the program runs");
     output.stdout.len()
+}
+
+/// Megabytes in a second, where there are some megabytes.
+fn speed(bytes: usize, time: Duration) -> String {
+    let megabytes = bytes as f64 / 1e6;
+    if megabytes < 1.0 {
+        return String::new();
+    }
+    format!("{:.0}", megabytes / time.as_secs_f64())
 }
 
 /// A number with a comma before every three digits.

@@ -4,9 +4,9 @@
 //! slowest SEED CLIMBS STEPS
 //! ```
 //!
-//! Each climb begins at the slowest of some random shapes and alters it, and keeps what takes longer. What counts is the
-//! processor time of the proved check and readout together, which is what `proofread` does, estimated from a file with few
-//! last steps. At the end of each climb the whole file is timed.
+//! Each climb begins at the slowest of some random shapes, the last one at the slowest shape known; it alters the shape and
+//! keeps what takes longer. What counts is the processor time of the proved check and readout together, which is what
+//! `proofread` does, estimated from a file with few last steps. At the end of each climb the whole file is timed.
 
 use std::process::ExitCode;
 use std::time::Duration;
@@ -15,6 +15,7 @@ use yestrwyn::{check_here, readout_piece_here, Cells};
 use yestrwyn_comparison::clock::own_time;
 use yestrwyn_comparison::rounds::shown;
 use yestrwyn_types::limits::FILE_BYTES;
+use yestrwyn_vectors::examples::heavy::SLOWEST;
 use yestrwyn_vectors::random::SplitMix64;
 use yestrwyn_vectors::shapes::Shape;
 
@@ -49,30 +50,16 @@ fn main() -> ExitCode {
 /// All climbs, and what each has found.
 fn search(seed: u64, climbs: u64, steps: u64) {
     let mut clock = Clock { cells: Cells::new(), output: vec![0; ROOM] };
-    let mut files = 0;
     for climb in 0..climbs {
         let mut random = SplitMix64::new(seed.wrapping_add(climb));
-        let begin = (0..BEGINNINGS).map(|_| Shape::random(&mut random));
-        let timed = begin.map(|shape| (clock.estimate(&shape), shape)).max_by_key(|found| found.0);
-        let Some((mut longest, mut slowest)) = timed else { return };
-        for step in 1..=steps {
-            let other = slowest.altered(&mut random);
-            // A second look, because the first may have been disturbed.
-            let time = clock.estimate(&other);
-            if time > longest {
-                let time = time.min(clock.estimate(&other));
-                if time > longest {
-                    (longest, slowest) = (time, other);
-                }
-            }
-            if step % AGAIN == 0 {
-                longest = clock.estimate(&slowest);
-            }
+        let shapes: Vec<Shape> = (0..BEGINNINGS).map(|_| Shape::random(&mut random)).collect();
+        let timed = shapes.into_iter().map(|shape| (clock.estimate(&shape), shape));
+        if let Some((_, shape)) = timed.max_by_key(|found| found.0) {
+            clock.climb(shape, steps, &mut random);
         }
-        files += BEGINNINGS as u64 + steps;
-        let (check, both) = clock.whole(&slowest);
-        println!("{} and {} of it the check, after {files} files: {slowest:?}", shown(both), shown(check));
     }
+    println!("From the slowest file known:");
+    clock.climb(SLOWEST, steps, &mut SplitMix64::new(!seed));
 }
 
 /// What a file is timed with.
@@ -103,6 +90,26 @@ impl Clock {
         let steps = few.len().saturating_sub(none.len()) / 16;
         let each = self.read(&few, clauses).saturating_sub(before) / steps.max(1) as u32;
         each * FILE_BYTES.saturating_sub(none.len()).div_euclid(16) as u32
+    }
+
+    /// Alters a shape again and again, keeps what takes longer, and prints what comes of it.
+    fn climb(&mut self, begin: Shape, steps: u64, random: &mut SplitMix64) {
+        let (mut slowest, mut longest) = (begin, self.estimate(&begin));
+        for step in 1..=steps {
+            let other = slowest.altered(random);
+            // A second look, because the first may have been disturbed.
+            if self.estimate(&other) > longest {
+                let time = self.estimate(&other);
+                if time > longest {
+                    (longest, slowest) = (time, other);
+                }
+            }
+            if step % AGAIN == 0 {
+                longest = self.estimate(&slowest);
+            }
+        }
+        let (check, both) = self.whole(&slowest);
+        println!("{}, the check alone {}: {slowest:?}", shown(both), shown(check));
     }
 
     /// The times of the check alone and of both, for the whole file.

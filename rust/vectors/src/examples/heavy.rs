@@ -2,6 +2,7 @@
 
 use super::edges::{all_variables, sized};
 use super::Example;
+use crate::shapes::{Ending, Shape};
 use crate::sketch::{app, apply, neg, pos, var, FileBuilder};
 
 /// The most records of a file.
@@ -20,8 +21,27 @@ pub fn examples() -> Vec<Example> {
         Example::new("heavy-literals-left", literals_left()),
         Example::new("heavy-readout", readout()),
         Example::new("heavy-exponential", super::deep::exponential_value(4000)),
+        Example::new("heavy-slowest", SLOWEST.file()),
     ]
 }
+
+/// The slowest file that a search over shapes has found: every use of the leaf binds 64 variables in a
+/// factor and is factored four times more, every step works as much as it may, and every line has as many
+/// literals as a clause may have.
+pub const SLOWEST: Shape = Shape {
+    ground: 64,
+    linked: 0,
+    factors: 4,
+    uses: 4069,
+    wide: 25,
+    occurrences: 64,
+    variety: 64,
+    work: 16_382,
+    ending: Ending::Pairs,
+    leaf_left: true,
+    worked_first: false,
+    unused: 0,
+};
 
 /// -p(t) +p(t) doubled to index 4,095, with 64 variables bound from each use to the next.
 /// Returns the clause of index 4,095 and one of index 2,048.
