@@ -1,6 +1,6 @@
 //! Files of some thousand records that are measured beside the heavy ones.
 
-use yestrwyn_vectors::examples::{deep, Example};
+use yestrwyn_vectors::examples::{deep, edges, Example};
 use yestrwyn_vectors::sketch::{app, neg, pos, var, FileBuilder};
 
 /// The files by what they do.
@@ -11,6 +11,7 @@ pub fn measured() -> Vec<Example> {
         Example::new("the chain of the rule with itself, 4,000 steps", chain()),
         Example::new("2,000 links whose oldest variable stands at 4,096 leaves, 2,000 uses", links()),
         Example::new("3,900 steps that unify two terms of 4,096 leaves", leaves()),
+        Example::new("4,095 rows", edges::many_rows(4095).finish()),
     ]
 }
 

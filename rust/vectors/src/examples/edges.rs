@@ -383,7 +383,7 @@ fn many_symbols() -> Vec<u8> {
 }
 
 /// One symbol, and rows: all variables, then the symbol applied to one row after another.
-fn many_rows(rows: u16) -> FileBuilder {
+pub fn many_rows(rows: u16) -> FileBuilder {
     let mut file = FileBuilder::new();
     let f = file.symbol(1);
     for number in 0..64 {
