@@ -4,13 +4,13 @@ set -eu
 cd "$(dirname "$0")/.."
 rt staticlib checker_c
 rt check proofread
-cargo build --quiet --offline --release --manifest-path rust/Cargo.toml --bin readout
-cargo build --quiet --offline --release --manifest-path rust/proved/Cargo.toml
-rust/proved/target/release/performance
-(ulimit -s 4096 && rust/proved/target/release/deepest)
+cargo build --quiet --offline --profile measured --manifest-path rust/Cargo.toml -p yestrwyn-second -p yestrwyn-comparison --bins
+built=rust/target/measured
+"$built/performance"
+(ulimit -s 4096 && "$built/deepest")
 folder=$(mktemp -d)
 trap 'rm -rf "$folder"' EXIT
-rust/proved/target/release/readouts target/bin/proofread rust/target/release/readout "$folder"
+"$built/readouts" target/bin/proofread "$built/readout" "$folder"
 for file in "$folder"/deep-*; do
     (ulimit -s 4096 && target/bin/proofread <"$file" >/dev/null) || { echo "proofread fails on $(basename "$file")" && exit 1; }
 done

@@ -1,0 +1,73 @@
+//! Why a record is not written.
+
+use std::error::Error;
+use std::fmt;
+
+use yestrwyn_types::limits::{ARITY, INPUT_LITERALS, RECORDS, VARIABLES};
+use yestrwyn_types::Reason;
+
+/// Why a record is not written. The file stays as it was.
+#[non_exhaustive]
+#[derive(Clone, Copy, PartialEq, Eq, Debug)]
+pub enum BuildError {
+    /// The file has 4,096 records.
+    Full,
+    /// A symbol cannot have this arity.
+    Arity(u8),
+    /// There is no variable of this number.
+    Variable(u16),
+    /// As many arguments as were given, to a symbol of another arity.
+    Arguments {
+        /// How many arguments the symbol takes.
+        arity: u8,
+        /// How many were given.
+        given: usize,
+    },
+    /// An input clause cannot have so many literals.
+    Literals(usize),
+    /// The atom of a literal is a variable.
+    VariableLiteral,
+    /// A symbol, row or clause that this builder has not made.
+    Foreign,
+    /// The clause has no literal of this number.
+    NoLiteral {
+        /// The number that was asked for; the first literal has number 1.
+        number: u16,
+        /// How many literals the clause has.
+        literals: u16,
+    },
+    /// A factor of literals of two clauses.
+    TwoClauses,
+    /// The step does not stand.
+    Refused(Reason),
+}
+
+impl fmt::Display for BuildError {
+    fn fmt(&self, out: &mut fmt::Formatter<'_>) -> fmt::Result {
+        match self {
+            BuildError::Full => write!(out, "the file has {RECORDS} records already"),
+            BuildError::Arity(arity) => write!(out, "an arity of {arity}, over {ARITY}"),
+            BuildError::Variable(number) => write!(out, "variable {number}, over {}", VARIABLES - 1),
+            BuildError::Arguments { arity, given } => {
+                write!(out, "{given} arguments to a symbol of arity {arity}")
+            }
+            BuildError::Literals(count) => write!(out, "{count} literals, over {INPUT_LITERALS}"),
+            BuildError::VariableLiteral => write!(out, "the atom of a literal is a variable"),
+            BuildError::Foreign => write!(out, "a symbol, row or clause of another file"),
+            BuildError::NoLiteral { number, literals } => {
+                write!(out, "literal {number} of a clause that has {literals}, numbered from 1")
+            }
+            BuildError::TwoClauses => write!(out, "a factor of literals of two clauses"),
+            BuildError::Refused(reason) => write!(out, "refused with {}: {reason}", reason.number()),
+        }
+    }
+}
+
+impl Error for BuildError {
+    fn source(&self) -> Option<&(dyn Error + 'static)> {
+        match self {
+            BuildError::Refused(reason) => Some(reason),
+            _ => None,
+        }
+    }
+}

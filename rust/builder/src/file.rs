@@ -1,0 +1,169 @@
+//! A file, written record by record.
+
+use std::collections::HashMap;
+
+use yestrwyn_types::limits::{ARITY, FILE_BYTES, INPUT_LITERALS, VARIABLES};
+use yestrwyn_types::record::{kind, Record};
+
+use crate::error::BuildError;
+use crate::handles::{Clause, Literal, Row, Signed, Symbol};
+
+/// A file under construction. What it tests of each record are ranges, arities, and that everything
+/// named is there; whether a step stands it does not test.
+#[derive(Clone, Default, Debug)]
+pub struct FileBuilder {
+    bytes: Vec<u8>,
+    arities: Vec<u8>,
+    rows: Vec<Record>,
+    shared: HashMap<Record, Row>,
+    /// How many literals each clause has.
+    literals: Vec<u16>,
+}
+
+impl FileBuilder {
+    /// An empty file.
+    pub fn new() -> FileBuilder {
+        FileBuilder::default()
+    }
+
+    /// The bytes of the file.
+    pub fn finish(self) -> Vec<u8> {
+        self.bytes
+    }
+
+    /// The bytes so far.
+    pub fn bytes(&self) -> &[u8] {
+        &self.bytes
+    }
+
+    /// A new symbol of an arity, 0 to 6.
+    pub fn symbol(&mut self, arity: u8) -> Result<Symbol, BuildError> {
+        if arity > ARITY {
+            return Err(BuildError::Arity(arity));
+        }
+        self.write(Record::new(kind::SYMBOL, arity, &[]))?;
+        let number = next(&mut self.arities, arity);
+        Ok(Symbol { number, arity })
+    }
+
+    /// The variable of a number, 0 to 63. It belongs to the clause in which it stands: begin with 0 in
+    /// each.
+    pub fn variable(&mut self, number: u16) -> Result<Row, BuildError> {
+        if usize::from(number) >= VARIABLES {
+            return Err(BuildError::Variable(number));
+        }
+        self.row(Record::new(kind::VARIABLE, 0, &[number]))
+    }
+
+    /// A symbol without arguments.
+    pub fn constant(&mut self, symbol: Symbol) -> Result<Row, BuildError> {
+        self.apply(symbol, &[])
+    }
+
+    /// A symbol applied to as many terms as its arity says.
+    pub fn apply(&mut self, symbol: Symbol, arguments: &[Row]) -> Result<Row, BuildError> {
+        if arguments.len() != usize::from(symbol.arity) {
+            return Err(BuildError::Arguments { arity: symbol.arity, given: arguments.len() });
+        }
+        self.known(symbol)?;
+        let mut fields = vec![symbol.number];
+        for &argument in arguments {
+            self.record(argument)?;
+            fields.push(argument.0);
+        }
+        self.row(Record::new(kind::APPLICATION, symbol.arity, &fields))
+    }
+
+    /// An input clause of up to seven literals.
+    pub fn clause(&mut self, literals: &[Signed]) -> Result<Clause, BuildError> {
+        let count = u8::try_from(literals.len()).ok().filter(|&count| count <= INPUT_LITERALS);
+        let count = count.ok_or(BuildError::Literals(literals.len()))?;
+        let mut fields = Vec::new();
+        for &Signed { positive, atom } in literals {
+            if self.record(atom)?.kind == kind::VARIABLE {
+                return Err(BuildError::VariableLiteral);
+            }
+            fields.push(2 * atom.0 + u16::from(positive));
+        }
+        self.write(Record::new(kind::INPUT, count, &fields))?;
+        Ok(Clause(next(&mut self.literals, count.into())))
+    }
+
+    /// A resolution step on a literal of the left clause and one of the right.
+    pub fn resolve(&mut self, left: Literal, right: Literal) -> Result<Clause, BuildError> {
+        let literals = (self.count(left)? - 1).saturating_add(self.count(right)? - 1);
+        let fields = [left.clause.0, left.number, right.clause.0, right.number];
+        self.write(Record::new(kind::RESOLVE, 0, &fields))?;
+        Ok(Clause(next(&mut self.literals, literals)))
+    }
+
+    /// A factoring step that keeps one literal of a clause and deletes another.
+    pub fn factor(&mut self, kept: Literal, deleted: Literal) -> Result<Clause, BuildError> {
+        if kept.clause != deleted.clause {
+            return Err(BuildError::TwoClauses);
+        }
+        let literals = self.count(kept)?.min(self.count(deleted)?) - 1;
+        let fields = [kept.clause.0, kept.number, deleted.number];
+        self.write(Record::new(kind::FACTOR, 0, &fields))?;
+        Ok(Clause(next(&mut self.literals, literals)))
+    }
+
+    /// The records of all rows.
+    pub(crate) fn rows(&self) -> &[Record] {
+        &self.rows
+    }
+
+    /// The symbol of a number.
+    pub(crate) fn symbol_of(&self, number: u16) -> Symbol {
+        let arity = self.arities.get(usize::from(number)).copied().unwrap_or(0);
+        Symbol { number, arity }
+    }
+
+    /// How many literals the clause of a literal has, if the literal is one of them.
+    fn count(&self, Literal { clause, number }: Literal) -> Result<u16, BuildError> {
+        let literals = *self.literals.get(usize::from(clause.0)).ok_or(BuildError::Foreign)?;
+        match number {
+            1.. if number <= literals => Ok(literals),
+            _ => Err(BuildError::NoLiteral { number, literals }),
+        }
+    }
+
+    /// An error if a symbol is not one of this file.
+    fn known(&self, symbol: Symbol) -> Result<(), BuildError> {
+        match self.arities.get(usize::from(symbol.number)) {
+            Some(&arity) if arity == symbol.arity => Ok(()),
+            _ => Err(BuildError::Foreign),
+        }
+    }
+
+    /// The record of a row.
+    fn record(&self, row: Row) -> Result<Record, BuildError> {
+        self.rows.get(usize::from(row.0)).copied().ok_or(BuildError::Foreign)
+    }
+
+    /// The equal row if there is one, otherwise a new one.
+    fn row(&mut self, record: Record) -> Result<Row, BuildError> {
+        if let Some(&row) = self.shared.get(&record) {
+            return Ok(row);
+        }
+        self.write(record)?;
+        let row = Row(next(&mut self.rows, record));
+        self.shared.insert(record, row);
+        Ok(row)
+    }
+
+    /// Writes a record, if there is room for it.
+    fn write(&mut self, record: Record) -> Result<(), BuildError> {
+        if self.bytes.len() >= FILE_BYTES {
+            return Err(BuildError::Full);
+        }
+        self.bytes.extend_from_slice(&record.to_bytes());
+        Ok(())
+    }
+}
+
+/// Adds to a list and returns the place; no list has more entries than a file has records.
+fn next<T>(list: &mut Vec<T>, entry: T) -> u16 {
+    list.push(entry);
+    u16::try_from(list.len() - 1).unwrap_or(u16::MAX)
+}

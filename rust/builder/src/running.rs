@@ -1,0 +1,211 @@
+//! A builder that runs each step as it is added.
+
+use std::collections::HashMap;
+
+use yestrwyn_types::limits::{INDEX, LITERALS};
+use yestrwyn_types::Reason;
+
+use crate::derivation::{At, Derivation, Occurrence, Origin};
+use crate::environment::Environment;
+use crate::error::BuildError;
+use crate::file::FileBuilder;
+use crate::handles::{Clause, Literal, Row, Signed, Symbol};
+use crate::reading::Reading;
+use crate::standing::{Derived, Expression, Standing, Value};
+use crate::unification::unify;
+
+/// A file under construction whose steps are run as they are added.
+///
+/// ```
+/// use yestrwyn_builder::{neg, pos, BuildError, Reason, RunningBuilder};
+///
+/// let mut file = RunningBuilder::new();
+/// let [closed, first, second] = [file.symbol(1)?, file.symbol(0)?, file.symbol(0)?];
+/// let (first, second) = (file.constant(first)?, file.constant(second)?);
+/// let (closed_first, closed_second) = (file.apply(closed, &[first])?, file.apply(closed, &[second])?);
+/// let either = file.clause(&[pos(closed_first), pos(closed_second)])?;
+/// let not_first = file.clause(&[neg(closed_first)])?;
+///
+/// let step = file.resolve(either.literal(1), not_first.literal(1))?;
+/// assert_eq!(file.text(&step.literals[0]), "+s0(s2)");
+///
+/// let clash = file.resolve(step.literals[0].literal, not_first.literal(1));
+/// assert_eq!(clash, Err(BuildError::Refused(Reason::Clash)));
+/// # Ok::<(), BuildError>(())
+/// ```
+///
+/// The rules are run here once more and are not proved; tests compare them with the check. Variables
+/// are looked up through the parents of a clause, so a step takes longer the deeper they are bound.
+#[derive(Clone, Default, Debug)]
+pub struct RunningBuilder {
+    file: FileBuilder,
+    clauses: Vec<Derivation>,
+    bindings: usize,
+}
+
+impl RunningBuilder {
+    /// An empty file.
+    pub fn new() -> RunningBuilder {
+        RunningBuilder::default()
+    }
+
+    /// The bytes of the file.
+    pub fn finish(self) -> Vec<u8> {
+        self.file.finish()
+    }
+
+    /// The bytes so far.
+    pub fn bytes(&self) -> &[u8] {
+        self.file.bytes()
+    }
+
+    /// A new symbol of an arity, 0 to 6.
+    pub fn symbol(&mut self, arity: u8) -> Result<Symbol, BuildError> {
+        self.file.symbol(arity)
+    }
+
+    /// The variable of a number, 0 to 63.
+    pub fn variable(&mut self, number: u16) -> Result<Row, BuildError> {
+        self.file.variable(number)
+    }
+
+    /// A symbol without arguments.
+    pub fn constant(&mut self, symbol: Symbol) -> Result<Row, BuildError> {
+        self.file.constant(symbol)
+    }
+
+    /// A symbol applied to as many terms as its arity says.
+    pub fn apply(&mut self, symbol: Symbol, arguments: &[Row]) -> Result<Row, BuildError> {
+        self.file.apply(symbol, arguments)
+    }
+
+    /// An input clause of up to seven literals.
+    pub fn clause(&mut self, literals: &[Signed]) -> Result<Clause, BuildError> {
+        let clause = self.file.clause(literals)?;
+        let first = |row: Row| At { row: row.number(), index: 1 };
+        let occurrence = |signed: &Signed| Occurrence { positive: signed.positive, atom: first(signed.atom) };
+        self.clauses.push(Derivation::input(literals.iter().map(occurrence).collect()));
+        Ok(clause)
+    }
+
+    /// A resolution step; refused, it leaves the file as it was.
+    pub fn resolve(&mut self, left: Literal, right: Literal) -> Result<Derived, BuildError> {
+        let (first, second) = (self.occurrence(left)?, self.occurrence(right)?);
+        require(first.positive != second.positive, Reason::Signs)?;
+        let (l, r) = (self.derivation(left.clause)?, self.derivation(right.clause)?);
+        let raise = |at: At| At { row: at.row, index: at.index + l.maximum };
+        let raised = |occurrence: Occurrence| Occurrence { atom: raise(occurrence.atom), ..occurrence };
+        let mut literals = without(&l.literals, left.number);
+        literals.extend(without(&r.literals, right.number).into_iter().map(raised));
+        let maximum = l.maximum + r.maximum;
+        require(literals.len() <= usize::from(LITERALS) && maximum <= INDEX, Reason::TooLarge)?;
+        let (atom, other) = (first.atom, raise(second.atom));
+        let origin = Origin::Resolve { left: left.clause.0, right: right.clause.0 };
+        let candidate = Derivation { origin, literals, maximum, own: HashMap::new() };
+        self.step(candidate, atom, other, |file| file.resolve(left, right))
+    }
+
+    /// A factoring step that keeps one literal of a clause and deletes another; refused, it leaves the
+    /// file as it was.
+    pub fn factor(&mut self, kept: Literal, deleted: Literal) -> Result<Derived, BuildError> {
+        if kept.clause != deleted.clause {
+            return Err(BuildError::TwoClauses);
+        }
+        let (first, second) = (self.occurrence(kept)?, self.occurrence(deleted)?);
+        require(kept != deleted && first.positive == second.positive, Reason::Signs)?;
+        let parent = self.derivation(kept.clause)?;
+        let literals = without(&parent.literals, deleted.number);
+        let origin = Origin::Factor { parent: kept.clause.0 };
+        let candidate = Derivation { origin, literals, maximum: parent.maximum, own: HashMap::new() };
+        self.step(candidate, first.atom, second.atom, |file| file.factor(kept, deleted))
+    }
+
+    /// The literals of a clause, in order.
+    pub fn literals(&self, clause: Clause) -> Result<Vec<Standing>, BuildError> {
+        let literals = self.derivation(clause)?.literals.iter().zip(1..);
+        let standing = |(occurrence, number): (&Occurrence, u16)| Standing {
+            literal: clause.literal(number),
+            positive: occurrence.positive,
+            atom: Expression { clause, at: occurrence.atom },
+        };
+        Ok(literals.map(standing).collect())
+    }
+
+    /// What stands at the top of an expression.
+    pub fn value(&self, expression: Expression) -> Value {
+        Reading::new(&self.file, self.environment(expression.clause), expression.clause).top(expression.at)
+    }
+
+    /// A literal as the readout writes it: its sign, and its term or `~` if that has more than 64
+    /// symbols and variables.
+    pub fn text(&self, standing: &Standing) -> String {
+        let Expression { clause, at } = standing.atom;
+        let term = Reading::new(&self.file, self.environment(clause), clause).text(at);
+        format!("{}{term}", if standing.positive { '+' } else { '-' })
+    }
+
+    /// The bindings in a clause.
+    fn environment(&self, clause: Clause) -> Environment<'_> {
+        Environment::new(self.file.rows(), &self.clauses, clause.0)
+    }
+
+    /// A clause's derivation.
+    fn derivation(&self, clause: Clause) -> Result<&Derivation, BuildError> {
+        self.clauses.get(usize::from(clause.0)).ok_or(BuildError::Foreign)
+    }
+
+    /// Sign and atom of a literal that a step names.
+    fn occurrence(&self, Literal { clause, number }: Literal) -> Result<Occurrence, BuildError> {
+        let literals = &self.derivation(clause)?.literals;
+        let place = usize::from(number).checked_sub(1);
+        let found = place.and_then(|place| literals.get(place)).copied();
+        let count = u16::try_from(literals.len()).unwrap_or(u16::MAX);
+        found.ok_or(BuildError::NoLiteral { number, literals: count })
+    }
+
+    /// Runs a step: the candidate clause is put up, unified in, and written; or taken away again.
+    fn step(
+        &mut self,
+        candidate: Derivation,
+        left: At,
+        right: At,
+        write: impl FnOnce(&mut FileBuilder) -> Result<Clause, BuildError>,
+    ) -> Result<Derived, BuildError> {
+        let number = u16::try_from(self.clauses.len()).map_err(|_| BuildError::Full)?;
+        self.clauses.push(candidate);
+        let outcome = self.unified(Clause(number), left, right, write);
+        if outcome.is_err() {
+            self.clauses.truncate(usize::from(number));
+        }
+        let clause = outcome?;
+        Ok(Derived { clause, literals: self.literals(clause)? })
+    }
+
+    /// Unifies in the last clause and writes its record.
+    fn unified(
+        &mut self,
+        candidate: Clause,
+        left: At,
+        right: At,
+        write: impl FnOnce(&mut FileBuilder) -> Result<Clause, BuildError>,
+    ) -> Result<Clause, BuildError> {
+        let mut environment = Environment::new(self.file.rows(), &self.clauses, candidate.0);
+        let bound = unify(&mut environment, self.bindings, left, right).map_err(BuildError::Refused)?;
+        let clause = write(&mut self.file)?;
+        self.bindings += bound.len();
+        if let Some(last) = self.clauses.last_mut() {
+            last.own = bound.into_iter().collect();
+        }
+        Ok(clause)
+    }
+}
+
+/// Refused with this reason unless it holds.
+fn require(holds: bool, otherwise: Reason) -> Result<(), BuildError> {
+    holds.then_some(()).ok_or(BuildError::Refused(otherwise))
+}
+
+/// A list of literals without the one of a number.
+fn without(literals: &[Occurrence], number: u16) -> Vec<Occurrence> {
+    literals.iter().zip(1..).filter(|&(_, place)| place != number).map(|(literal, _)| *literal).collect()
+}

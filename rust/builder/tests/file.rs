@@ -1,0 +1,123 @@
+//! The file builder: equal terms are one row, what is tested of a record, and numbers that are the
+//! check's.
+
+use yestrwyn_builder::{neg, pos, BuildError, FileBuilder, Row};
+use yestrwyn_second::check;
+
+#[test]
+fn equal_terms_are_one_row() {
+    let mut file = FileBuilder::new();
+    let [f, a] = [2, 0].map(|arity| file.symbol(arity).unwrap());
+    let make = |file: &mut FileBuilder| {
+        let (a, x) = (file.constant(a).unwrap(), file.variable(3).unwrap());
+        let inner = file.apply(f, &[a, x]).unwrap();
+        file.apply(f, &[inner, inner]).unwrap()
+    };
+    let (first, second) = (make(&mut file), make(&mut file));
+    assert_eq!(first, second);
+    // Two symbols, then a, v3, f(a,v3), f(f(a,v3),f(a,v3)).
+    assert_eq!((first.number(), file.bytes().len()), (3, 6 * 16));
+    assert_eq!(check(file.bytes()).numbers(), [0, 0, 0, 2, 4, 0, 0]);
+}
+
+#[test]
+fn numbers_are_those_of_the_check() -> Result<(), BuildError> {
+    let mut file = FileBuilder::new();
+    let p = file.symbol(1)?;
+    let (x, y) = (file.variable(0)?, file.variable(1)?);
+    let (px, py) = (file.apply(p, &[x])?, file.apply(p, &[y])?);
+    let left = file.clause(&[pos(px), pos(py)])?;
+    let q = file.symbol(0)?;
+    let constant = file.constant(q)?;
+    let pq = file.apply(p, &[constant])?;
+    let right = file.clause(&[neg(pq)])?;
+    let factored = file.factor(left.literal(1), left.literal(2))?;
+    let empty = file.resolve(factored.literal(1), right.literal(1))?;
+    assert_eq!([left, right, factored, empty].map(|clause| clause.number()), [0, 1, 2, 3]);
+    assert_eq!(([p, q].map(|symbol| symbol.number()), p.arity()), ([0, 1], 1));
+    assert_eq!(check(&file.finish()).numbers(), [1, 3, 0, 2, 6, 4, 2]);
+    Ok(())
+}
+
+#[test]
+fn what_cannot_be_written_is_an_error_and_leaves_the_file() -> Result<(), BuildError> {
+    let mut file = FileBuilder::new();
+    let (p, q) = (file.symbol(1)?, file.symbol(0)?);
+    let (x, q) = (file.variable(0)?, file.constant(q)?);
+    let (px, pq) = (file.apply(p, &[x])?, file.apply(p, &[q])?);
+    let clause = file.clause(&[pos(px), pos(pq)])?;
+    let other = file.clause(&[neg(px)])?;
+    let written = file.bytes().to_vec();
+    assert_eq!(file.symbol(7), Err(BuildError::Arity(7)));
+    assert_eq!(file.variable(64), Err(BuildError::Variable(64)));
+    assert_eq!(file.apply(p, &[]), Err(BuildError::Arguments { arity: 1, given: 0 }));
+    assert_eq!(file.apply(p, &[x, q]), Err(BuildError::Arguments { arity: 1, given: 2 }));
+    assert_eq!(file.constant(p), Err(BuildError::Arguments { arity: 1, given: 0 }));
+    assert_eq!(file.clause(&[pos(px); 8]), Err(BuildError::Literals(8)));
+    assert_eq!(file.clause(&[pos(px); 300]), Err(BuildError::Literals(300)));
+    assert_eq!(file.clause(&[pos(x)]), Err(BuildError::VariableLiteral));
+    let missing = |number| Err(BuildError::NoLiteral { number, literals: 2 });
+    assert_eq!(file.resolve(clause.literal(0), other.literal(1)), missing(0));
+    assert_eq!(file.resolve(other.literal(1), clause.literal(3)), missing(3));
+    assert_eq!(file.factor(clause.literal(1), clause.literal(9)), missing(9));
+    assert_eq!(file.factor(clause.literal(1), other.literal(1)), Err(BuildError::TwoClauses));
+    assert_eq!(file.bytes(), written);
+    Ok(())
+}
+
+#[test]
+fn handles_of_another_file_are_errors() -> Result<(), BuildError> {
+    let (mut one, mut other) = (FileBuilder::new(), FileBuilder::new());
+    let (p, q) = (one.symbol(1)?, one.symbol(0)?);
+    let row = one.constant(q)?;
+    let atom = one.apply(p, &[row])?;
+    let clause = one.clause(&[pos(atom)])?;
+    assert_eq!(other.constant(q), Err(BuildError::Foreign));
+    let own = other.symbol(1)?;
+    assert_eq!(other.apply(own, &[row]), Err(BuildError::Foreign));
+    assert_eq!(other.clause(&[pos(atom)]), Err(BuildError::Foreign));
+    assert_eq!(other.resolve(clause.literal(1), clause.literal(1)), Err(BuildError::Foreign));
+    Ok(())
+}
+
+#[test]
+fn no_file_gets_longer_than_4096_records() -> Result<(), BuildError> {
+    let mut file = FileBuilder::new();
+    for _ in 0..4096 {
+        file.symbol(0)?;
+    }
+    assert_eq!(file.symbol(0), Err(BuildError::Full));
+    assert_eq!(file.variable(0), Err(BuildError::Full));
+    assert_eq!(check(file.bytes()).numbers(), [0, 0, 0, 4096, 0, 0, 0]);
+    Ok(())
+}
+
+#[test]
+fn deep_terms_and_many_literals_need_no_deep_recursion() -> Result<(), BuildError> {
+    let mut file = FileBuilder::new();
+    let [p, f] = [file.symbol(1)?, file.symbol(1)?];
+    let mut deep: Row = file.variable(0)?;
+    for _ in 0..4000 {
+        deep = file.apply(f, &[deep])?;
+    }
+    let atom = file.apply(p, &[deep])?;
+    let mut clause = file.clause(&[neg(atom), pos(atom), pos(atom)])?;
+    for _ in 0..20 {
+        // A clause that is too large is written all the same: the check refuses it.
+        clause = file.resolve(clause.literal(2), clause.literal(1))?;
+    }
+    assert_eq!(check(&file.finish()).numbers()[..3], [2, 9, 4011]);
+    Ok(())
+}
+
+#[test]
+fn errors_say_what_is_wrong() {
+    let texts = [
+        (BuildError::Arguments { arity: 2, given: 3 }, "3 arguments to a symbol of arity 2"),
+        (BuildError::Variable(64), "variable 64, over 63"),
+        (BuildError::Refused(yestrwyn_builder::Reason::Clash), "refused with 10: two different symbols meet"),
+    ];
+    for (error, text) in texts {
+        assert_eq!(error.to_string(), text);
+    }
+}

@@ -1,0 +1,72 @@
+//! The guide to the format agrees with the stored examples and with the limits.
+
+mod pages;
+
+use pages::{cells, hexadecimal, indented, section, stored, text};
+use yestrwyn_types::limits::{
+    ARITY, BINDINGS, BINDING_CELLS, CLAUSE_CELLS, FILE_BYTES, INDEX, INPUT_LITERALS, LITERALS,
+    READOUT_OCCURRENCES, RECORDS, ROW_CELLS, SYMBOL_CELLS, VARIABLES, WORK,
+};
+
+/// A number with a comma before its last three digits, if it has more.
+fn written(number: usize) -> String {
+    match number {
+        0..=999 => number.to_string(),
+        _ => format!("{},{:03}", number / 1000, number % 1000),
+    }
+}
+
+#[test]
+fn the_worked_example_is_the_stored_file() {
+    let guide = text("docs/FORMAT.md");
+    let told: Vec<(&str, &str)> =
+        cells(section(&guide, "A worked example")).filter(|row| row.1.starts_with('`')).collect();
+    let permit = hexadecimal(&stored("examples/permit.proof"));
+    let duty = hexadecimal(&stored("examples/duty.proof"));
+    let numbers: Vec<String> = (0..permit.len()).map(|number| number.to_string()).collect();
+    let mut right: Vec<(&str, &str)> =
+        numbers.iter().zip(&permit).map(|(number, bytes)| (number.as_str(), bytes.as_str())).collect();
+    right.push(("25", &duty[25]));
+    assert_eq!(told, right);
+}
+
+#[test]
+fn the_readout_of_the_worked_example_is_quoted() {
+    let quoted = indented(&text("examples/permit.txt"));
+    assert!(section(&text("docs/FORMAT.md"), "Verdict and readout").contains(&quoted));
+}
+
+#[test]
+fn every_refusal_has_its_line() {
+    let guide = text("docs/FORMAT.md");
+    let numbers: Vec<&str> = cells(section(&guide, "Refusals")).map(|row| row.0).skip(1).collect();
+    let right: Vec<String> = (1..=13).map(|number: u8| number.to_string()).collect();
+    assert_eq!(numbers, right);
+}
+
+#[test]
+fn the_limits_are_those_of_the_check() {
+    let guide = text("docs/FORMAT.md");
+    let told: Vec<&str> = cells(section(&guide, "Limits")).map(|row| row.1).skip(1).collect();
+    let bytes = format!("{} bytes, {} records", written(FILE_BYTES), written(RECORDS));
+    let others = [
+        usize::from(ARITY),
+        VARIABLES - 1,
+        usize::from(INPUT_LITERALS),
+        usize::from(LITERALS),
+        usize::from(INDEX),
+        WORK as usize,
+        BINDINGS,
+        READOUT_OCCURRENCES,
+    ];
+    let right: Vec<String> = std::iter::once(bytes).chain(others.map(written)).collect();
+    assert_eq!(told, right);
+}
+
+#[test]
+fn the_tables_are_those_of_the_check() {
+    let guide = text("docs/FORMAT.md");
+    let told: Vec<&str> =
+        cells(section(&guide, "Calling the library")).map(|row| row.1).skip(1).take(4).collect();
+    assert_eq!(told, [SYMBOL_CELLS, ROW_CELLS, CLAUSE_CELLS, BINDING_CELLS].map(written));
+}

@@ -1,0 +1,80 @@
+//! The stored examples are what the example program writes, and the pages say what they say.
+
+mod pages;
+
+use pages::{cells, hexadecimal, indented, section, stored, text};
+use yestrwyn_types::record::{kind, read};
+
+#[path = "../examples/trips/curfew.rs"]
+mod curfew;
+#[path = "../examples/trips/duty.rs"]
+mod duty;
+#[path = "../examples/trips/files.rs"]
+mod files;
+#[path = "../examples/trips/permit.rs"]
+mod permit;
+#[path = "../examples/trips/two_steps.rs"]
+mod two_steps;
+
+/// The stored files by name.
+fn files() -> Vec<(&'static str, Vec<u8>)> {
+    files::files().expect("every file is built")
+}
+
+#[test]
+fn stored_files_are_what_the_example_writes() {
+    let advice = "write it anew with `cargo run -p yestrwyn-builder --example trips`";
+    for (name, file) in files() {
+        assert!(stored(&format!("examples/{name}.proof")) == file, "{name}.proof differs: {advice}");
+        let readout = yestrwyn_second::readout(&file);
+        assert!(stored(&format!("examples/{name}.txt")) == readout, "{name}.txt differs: {advice}");
+    }
+}
+
+#[test]
+fn verdicts() {
+    let lines: Vec<String> = files()
+        .iter()
+        .map(|(name, _)| text(&format!("examples/{name}.txt")).lines().next().unwrap_or("").to_string())
+        .collect();
+    assert_eq!(lines, ["accepted 11", "accepted 15", "accepted 9", "refused 8 at 22", "accepted 4"]);
+}
+
+#[test]
+fn the_page_explains_every_line_of_every_readout() {
+    let page = text("examples/README.md");
+    for (name, _) in files() {
+        let explained: Vec<&str> = cells(section(&page, name))
+            .filter_map(|row| row.0.strip_prefix('`')?.strip_suffix('`'))
+            .collect();
+        let readout = text(&format!("examples/{name}.txt"));
+        assert_eq!(explained, readout.lines().collect::<Vec<_>>(), "{name}");
+    }
+}
+
+#[test]
+fn the_front_page_prints_the_first_readout() {
+    assert!(text("README.md").contains(&format!("\n\n{}\n", indented(&text("examples/curfew.txt")))));
+}
+
+#[test]
+fn duty_cannot_do_without_its_factor() {
+    // A resolvent of clauses with two or more literals has two or more, so it is never empty.
+    let file = duty::file().expect("the file is built");
+    let records = (0..).map_while(|number| read(&file, number));
+    let (mut inputs, mut factors) = (0, 0);
+    for record in records {
+        inputs += u16::from(record.kind == kind::INPUT);
+        factors += u16::from(record.kind == kind::FACTOR);
+        assert!(record.kind != kind::INPUT || record.count >= 2);
+    }
+    assert_eq!((inputs, factors), (4, 1));
+}
+
+#[test]
+fn the_refused_file_has_one_slip() {
+    let [right, wrong] = [duty::file(), duty::refused_file()].map(|file| file.expect("it is built"));
+    let differing: Vec<usize> = (0..right.len()).filter(|&at| right[at] != wrong[at]).collect();
+    assert_eq!(differing, [22 * 16 + 8]);
+    assert!(section(&text("examples/README.md"), "refused").contains(&hexadecimal(&wrong)[22]));
+}

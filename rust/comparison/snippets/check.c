@@ -1,0 +1,35 @@
+/* Checks a proof file from standard input and prints the verdict. */
+#include <stdio.h>
+
+#include "checker.h"
+
+/* One byte more than the longest file: what is longer is read as too long. */
+static uint8_t file[65536 + 1];
+static uint16_t symbols[CHECKER_SYMBOLS], rows[CHECKER_ROWS];
+static uint16_t clauses[CHECKER_CLAUSES], bindings[CHECKER_BINDINGS];
+
+/* What printf returns for the verdict: negative where it could not be written. */
+static int print_verdict(const uint16_t *answer) {
+    if (answer[0] == 0)
+        return printf("open\n");
+    if (answer[0] == 1)
+        return printf("accepted %u\n", (unsigned)answer[1]);
+    return printf("refused %u at %u\n", (unsigned)answer[1], (unsigned)answer[2]);
+}
+
+int main(void) {
+    uint16_t answer[CHECKER_ANSWER];
+    size_t length = fread(file, 1, sizeof file, stdin);
+    if (ferror(stdin)) {
+        perror("standard input");
+        return 1;
+    }
+    checker_check(file, length, symbols, CHECKER_SYMBOLS, rows, CHECKER_ROWS,
+                  clauses, CHECKER_CLAUSES, bindings, CHECKER_BINDINGS,
+                  answer, CHECKER_ANSWER);
+    if (print_verdict(answer) < 0 || fflush(stdout) != 0) {
+        perror("standard output");
+        return 1;
+    }
+    return 0;
+}

@@ -1,0 +1,95 @@
+//! The proved check and the second implementation on the same files in one run: a table in Markdown with the times and
+//! their ratio.
+
+use std::fmt::Display;
+use std::hint::black_box;
+use std::io;
+use std::time::Duration;
+
+use yestrwyn_comparison::clock::own_time;
+use yestrwyn_comparison::files::measured;
+use yestrwyn_comparison::rounds::Rounds;
+use yestrwyn_types::{Answer, Cells};
+use yestrwyn_vectors::examples::{cases, heavy};
+use yestrwyn_vectors::stored::groups;
+
+/// A measurement is repeated until it takes about so long.
+const LONG_ENOUGH: Duration = Duration::from_millis(5);
+
+fn main() -> io::Result<()> {
+    println!("| file | proved | second | ratio | over ten rounds |");
+    println!("|---|---|---|---|---|");
+    yestrwyn::with_stack(on_lent_tables)?;
+    println!();
+    println!(
+        "| file, one call with tables of its own | `yestrwyn::check` | second | ratio | over ten rounds |"
+    );
+    println!("|---|---|---|---|---|");
+    whole_calls();
+    Ok(())
+}
+
+/// Both with tables that are lent to them again and again.
+fn on_lent_tables() {
+    for example in measured() {
+        check_line(example.name, &[&example.file]);
+    }
+    for example in heavy::examples() {
+        check_line(format!("`{}`", example.name), &[&example.file]);
+    }
+    for group in groups() {
+        let files: Vec<&[u8]> = group.examples.iter().map(|example| example.file.as_slice()).collect();
+        check_line(format!("stored vectors: `{}`", group.name), &files);
+    }
+    for example in cases::examples().iter().take(12) {
+        check_line(format!("case {} alone", example.name), &[&example.file]);
+    }
+}
+
+/// A line of the table.
+fn check_line(name: impl Display, files: &[&[u8]]) {
+    let proved = |file: &[u8], cells: &mut Cells| yestrwyn::check_here(file, &mut cells.lend());
+    let second = |file: &[u8], cells: &mut Cells| yestrwyn_second::check_into(file, &mut cells.lend());
+    let rounds = Rounds::take(|| time_all(files, proved), || time_all(files, second));
+    println!("| {name} | {rounds} |");
+}
+
+/// How long a check takes for all files.
+fn time_all(files: &[&[u8]], check: impl Fn(&[u8], &mut Cells) -> Answer) -> Duration {
+    let mut cells = Cells::new();
+    time(|| {
+        for file in files {
+            black_box(check(file, &mut cells));
+        }
+    })
+}
+
+/// The function for users, with its own thread and tables, against the second implementation's.
+fn whole_calls() {
+    let examples = cases::examples();
+    for example in examples.iter().filter(|example| ["A", "F", "K-12"].contains(&example.name.as_str())) {
+        let rounds = Rounds::take(
+            || time(|| assert!(black_box(yestrwyn::check(&example.file)).is_ok())),
+            || {
+                time(|| {
+                    black_box(yestrwyn_second::check(&example.file));
+                })
+            },
+        );
+        println!("| case {} | {rounds} |", example.name);
+    }
+}
+
+/// How long something takes, repeated until it has taken long enough to be measured.
+fn time(mut run: impl FnMut()) -> Duration {
+    let start = own_time();
+    let mut repeats = 0;
+    loop {
+        run();
+        repeats += 1;
+        let taken = own_time().saturating_sub(start);
+        if taken >= LONG_ENOUGH {
+            return taken / repeats;
+        }
+    }
+}

@@ -1,0 +1,158 @@
+//! The proved check beside the second implementation: every number of the answer and every cell.
+
+use std::fmt;
+
+use yestrwyn::exported::check_numbers;
+use yestrwyn_types::{Tables, ANSWER_CELLS, LENGTHS};
+use yestrwyn_vectors::random::SplitMix64;
+use yestrwyn_vectors::{damage, random_file, random_file_of};
+
+/// How many cells each table has, and the answer.
+#[derive(Clone, Copy, PartialEq, Eq, Debug)]
+pub struct Lengths {
+    pub tables: [usize; 4],
+    pub answer: usize,
+}
+
+impl Lengths {
+    /// Tables and an answer that are longer than they need to be by some cells.
+    pub fn longer(by: usize) -> Lengths {
+        Lengths { tables: LENGTHS.map(|length| length + by), answer: ANSWER_CELLS + by }
+    }
+}
+
+/// Where the two differ.
+#[derive(Clone, PartialEq, Eq, Debug)]
+pub struct Difference {
+    pub part: &'static str,
+    pub cell: usize,
+    pub proved: u16,
+    pub second: u16,
+}
+
+impl fmt::Display for Difference {
+    fn fmt(&self, out: &mut fmt::Formatter<'_>) -> fmt::Result {
+        write!(out, "{}[{}]: proved {}, second {}", self.part, self.cell, self.proved, self.second)
+    }
+}
+
+/// The cells that each of the two is lent, kept between files so that none is made anew.
+pub struct Lent {
+    tables: [Vec<u16>; 4],
+    answer: Vec<u16>,
+}
+
+impl Lent {
+    /// The tables, as they are lent.
+    fn tables(&mut self) -> (Tables<'_>, &mut Vec<u16>) {
+        let [symbols, rows, clauses, bindings] = &mut self.tables;
+        (Tables { symbols, rows, clauses, bindings }, &mut self.answer)
+    }
+
+    /// Cells that each hold a mark of their own, so that a cell moved or cleared is seen.
+    fn fill(&mut self, lengths: Lengths, mark: u16) {
+        for (table, length) in self.tables.iter_mut().zip(lengths.tables) {
+            marked(table, length, mark);
+        }
+        marked(&mut self.answer, lengths.answer, mark);
+    }
+}
+
+/// Fills a part with marks, which differ from cell to cell.
+fn marked(cells: &mut Vec<u16>, length: usize, mark: u16) {
+    cells.clear();
+    cells.extend((0..length).map(|cell| mark.wrapping_add(cell as u16)));
+}
+
+/// The cells of both.
+pub struct Pair {
+    proved: Lent,
+    second: Lent,
+}
+
+impl Default for Pair {
+    fn default() -> Pair {
+        let lent = || Lent { tables: Default::default(), answer: Vec::new() };
+        Pair { proved: lent(), second: lent() }
+    }
+}
+
+impl Pair {
+    /// Checks a file by both, with tables of some lengths; gives the kind of answer (0 open,
+    /// 1 accepted, 2 refused), nothing if there is no room for one, or where the two differ.
+    pub fn compare(&mut self, file: &[u8], lengths: Lengths, mark: u16) -> Result<Option<u16>, Difference> {
+        let Pair { proved, second } = self;
+        proved.fill(lengths, mark);
+        second.fill(lengths, mark);
+        run_proved(file, proved);
+        run_second(file, second);
+        differ("answer", &proved.answer, &second.answer)?;
+        let names = ["symbols", "rows", "clauses", "bindings"];
+        for ((name, ours), theirs) in names.into_iter().zip(&proved.tables).zip(&second.tables) {
+            differ(name, ours, theirs)?;
+        }
+        Ok(proved.answer.first().copied().filter(|_| lengths.answer >= ANSWER_CELLS))
+    }
+}
+
+/// One comparison with cells of its own.
+pub fn compare(file: &[u8], lengths: Lengths) -> Result<(), Difference> {
+    Pair::default().compare(file, lengths, 0xabcd).map(|_| ())
+}
+
+fn run_proved(file: &[u8], lent: &mut Lent) {
+    let (mut tables, answer) = lent.tables();
+    check_numbers(file, &mut tables, answer);
+}
+
+/// The second implementation, with its answer written as the header of the proved one says.
+fn run_second(file: &[u8], lent: &mut Lent) {
+    let (mut tables, answer) = lent.tables();
+    let Some(cells) = answer.get_mut(..ANSWER_CELLS) else { return };
+    cells.copy_from_slice(&yestrwyn_second::check_into(file, &mut tables).numbers());
+}
+
+fn differ(part: &'static str, proved: &[u16], second: &[u16]) -> Result<(), Difference> {
+    if proved == second {
+        return Ok(());
+    }
+    let cell = proved.iter().zip(second).position(|(one, other)| one != other).unwrap_or(0);
+    Err(Difference { part, cell, proved: proved[cell], second: second[cell] })
+}
+
+/// The file of a number within a run: random files, damaged ones, longer ones and any bytes.
+pub fn file_of(seed: u64) -> Vec<u8> {
+    let mut random = SplitMix64::new(seed);
+    let own = random.next_u64();
+    match random.below(16) {
+        0..=6 => random_file(own),
+        7..=10 => damage(&random_file(own), random.next_u64()),
+        11 | 12 => damage(&damage(&random_file(own), random.next_u64()), random.next_u64()),
+        13 => random_file_of(own, random.between(60, 300)),
+        14 => damage(&random_file_of(own, random.between(60, 300)), random.next_u64()),
+        _ => any_bytes(&mut random),
+    }
+}
+
+/// Any bytes: of all values, or of small ones in whole records, which come further.
+fn any_bytes(random: &mut SplitMix64) -> Vec<u8> {
+    let length = random.below(400);
+    if random.one_in(2) {
+        return (0..length).map(|_| random.below(256) as u8).collect();
+    }
+    (0..length / 16 * 16).map(|place| if place % 2 == 1 { 0 } else { random.below(7) as u8 }).collect()
+}
+
+/// The lengths that go with a seed: mostly just long enough or longer, at times one part too short.
+pub fn lengths_of(seed: u64) -> Lengths {
+    let mut random = SplitMix64::new(!seed);
+    let mut lengths = Lengths::longer(random.below(4));
+    if random.one_in(16) {
+        let short = random.below(5);
+        match lengths.tables.get_mut(short) {
+            Some(length) => *length = random.below(LENGTHS[short]),
+            None => lengths.answer = random.below(ANSWER_CELLS),
+        }
+    }
+    lengths
+}

@@ -1,0 +1,80 @@
+//! Files of some thousand records that are measured beside the heavy ones.
+
+use yestrwyn_vectors::examples::{deep, edges, Example};
+use yestrwyn_vectors::sketch::{app, neg, pos, var, FileBuilder};
+
+/// The files by what they do.
+pub fn measured() -> Vec<Example> {
+    vec![
+        Example::new("a count to 4,000, growing parent left", deep::derivation(4000)),
+        Example::new("a count to 4,000, growing parent right", count_right()),
+        Example::new("the chain of the rule with itself, 4,000 steps", chain()),
+        Example::new("2,000 links whose oldest variable stands at 4,096 leaves, 2,000 uses", links()),
+        Example::new("3,900 steps that unify two terms of 4,096 leaves", leaves()),
+        Example::new("4,095 rows", edges::many_rows(4095).finish()),
+    ]
+}
+
+/// A count upward: each step resolves the rule with the last result, as right parent.
+fn count_right() -> Vec<u8> {
+    let mut file = FileBuilder::new();
+    let [q, f, a] = [1, 1, 0].map(|arity| file.symbol(arity));
+    let mut known = file.clause(&[pos(app(q, [app(a, [])]))]);
+    let rule = file.clause(&[neg(app(q, [var(0)])), pos(app(q, [app(f, [var(0)])]))]);
+    for _ in 0..4000 {
+        known = file.resolve(rule, 1, known, 1);
+    }
+    file.finish()
+}
+
+/// The rule -q(x) +q(f(x)) resolved with itself, one step longer each time.
+fn chain() -> Vec<u8> {
+    let mut file = FileBuilder::new();
+    let [q, f] = [1, 1].map(|arity| file.symbol(arity));
+    let rule = file.clause(&[neg(app(q, [var(0)])), pos(app(q, [app(f, [var(0)])]))]);
+    let mut known = rule;
+    for _ in 0..4000 {
+        known = file.resolve(known, 2, rule, 1);
+    }
+    file.finish()
+}
+
+/// A full tree of 4,096 equal leaves.
+fn tree(file: &mut FileBuilder, g: u16, leaf: u16) -> u16 {
+    (0..12).fold(leaf, |row, _| file.application(g, &[row, row]))
+}
+
+/// A clause at the end of 2,000 links from variable to variable, the oldest of which stands at 4,096 leaves, used in 2,000 steps.
+fn links() -> Vec<u8> {
+    let mut file = FileBuilder::new();
+    let [q, r, g, a] = [1, 1, 2, 0].map(|arity| file.symbol(arity));
+    let (x, a) = (file.variable(0), file.application(a, &[]));
+    let (open, full) = (tree(&mut file, g, x), tree(&mut file, g, a));
+    let [link, old, goal] =
+        [(q, x), (r, open), (r, full)].map(|(symbol, row)| file.application(symbol, &[row]));
+    let mut known = file.clause_of_rows(&[(true, old), (true, link)]);
+    let rule = file.clause_of_rows(&[(false, link), (true, link)]);
+    let goal = file.clause_of_rows(&[(false, goal)]);
+    for _ in 0..2000 {
+        known = file.resolve(known, 2, rule, 1);
+    }
+    for _ in 0..2000 {
+        file.resolve(known, 1, goal, 1);
+    }
+    file.finish()
+}
+
+/// 3,900 steps that each unify two terms of 4,096 leaves.
+fn leaves() -> Vec<u8> {
+    let mut file = FileBuilder::new();
+    let [r, g, a] = [1, 2, 0].map(|arity| file.symbol(arity));
+    let (x, a) = (file.variable(0), file.application(a, &[]));
+    let (open, full) = (tree(&mut file, g, x), tree(&mut file, g, a));
+    let [open, full] = [open, full].map(|row| file.application(r, &[row]));
+    let left = file.clause_of_rows(&[(true, open)]);
+    let right = file.clause_of_rows(&[(false, full)]);
+    for _ in 0..3900 {
+        file.resolve(left, 1, right, 1);
+    }
+    file.finish()
+}

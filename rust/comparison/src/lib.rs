@@ -1,0 +1,10 @@
+//! The proved check and readout compared with the second implementation: every answer, every cell and
+//! every byte; and the time that both take.
+
+pub mod clock;
+pub mod compare;
+pub mod files;
+pub mod pieces;
+pub mod rounds;
+
+pub use compare::{compare, Difference, Lengths};

@@ -1,0 +1,156 @@
+//! Pieces of the proved readout beside the second implementation's: every byte, every number and
+//! every cell.
+
+use yestrwyn::exported::{readout_numbers, PROGRESS_CELLS};
+use yestrwyn::ENOUGH;
+use yestrwyn_types::Tables;
+use yestrwyn_vectors::random::SplitMix64;
+
+use crate::compare::Lengths;
+
+/// What the output and the progress hold before a call.
+const OUTPUT_MARK: u8 = 0xa5;
+const PROGRESS_MARK: u64 = 7;
+
+/// Pieces that a walk through a readout takes at most.
+const TURNS: usize = 40;
+
+/// What a call is asked for: the clause to begin with, bytes of output and cells for the progress.
+#[derive(Clone, Copy, PartialEq, Eq, Debug)]
+pub struct Asked {
+    pub clause: u16,
+    pub room: usize,
+    pub cells: usize,
+}
+
+/// What a piece can begin with: the line of each clause, with the first line before that of clause 0.
+pub fn units(text: &[u8]) -> Vec<&[u8]> {
+    let mut lines: Vec<&[u8]> = text.split_inclusive(|&byte| byte == b'\n').collect();
+    if lines.len() > 1 {
+        let first = lines[0].len() + lines[1].len();
+        lines.remove(0);
+        lines[0] = &text[..first];
+    }
+    lines
+}
+
+/// The bytes and the three numbers of a piece, by its description.
+pub fn expected(units: &[&[u8]], clause: u16, room: usize) -> (Vec<u8>, [u64; PROGRESS_CELLS]) {
+    let start = usize::from(clause).min(units.len());
+    let mut bytes = Vec::new();
+    let mut next = start;
+    while next < units.len() && bytes.len() + units[next].len() <= room {
+        bytes.extend_from_slice(units[next]);
+        next += 1;
+    }
+    let written = bytes.len() as u64;
+    let numbers = match next {
+        _ if next == units.len() => [0, written, 0],
+        _ if next == start => [2, 0, u64::from(clause)],
+        _ => [1, written, next as u64],
+    };
+    (bytes, numbers)
+}
+
+/// A file with the tables that it is checked with, and what the second implementation makes of it.
+pub struct Second<'a> {
+    file: &'a [u8],
+    lengths: Lengths,
+    mark: u16,
+    text: Vec<u8>,
+    tables: [Vec<u16>; 4],
+}
+
+impl<'a> Second<'a> {
+    /// Runs the second implementation.
+    pub fn new(file: &'a [u8], lengths: Lengths, mark: u16) -> Second<'a> {
+        let mut tables = lengths.tables.map(|length| marked(length, mark));
+        let [symbols, rows, clauses, bindings] = &mut tables;
+        let text = yestrwyn_second::readout_into(file, &mut Tables { symbols, rows, clauses, bindings });
+        Second { file, lengths, mark, text, tables }
+    }
+
+    /// Goes through the readout in pieces of any room, and begins once anywhere; says where the two
+    /// differ.
+    pub fn walk(&self, random: &mut SplitMix64) -> Result<(), String> {
+        let units = units(&self.text);
+        let mut clause = 0;
+        for _ in 0..TURNS {
+            let room = some_room(random, &units, clause);
+            clause = match self.piece(&units, Asked { clause, room, cells: 4 })? {
+                [1, _, next] => next as u16,
+                [2, ..] => clause + 1,
+                _ => break,
+            };
+        }
+        self.anywhere(&units, random)
+    }
+
+    /// Two pieces only: the first with room for every line, and one from anywhere.
+    pub fn two(&self, random: &mut SplitMix64) -> Result<(), String> {
+        let units = units(&self.text);
+        self.piece(&units, Asked { clause: 0, room: ENOUGH, cells: 3 })?;
+        self.anywhere(&units, random)
+    }
+
+    /// A piece from any clause, also past the last, at times with too few cells for the progress.
+    fn anywhere(&self, units: &[&[u8]], random: &mut SplitMix64) -> Result<(), String> {
+        let clause = random.below(units.len() + 3) as u16;
+        let room = some_room(random, units, clause);
+        let cells = if random.one_in(16) { random.below(PROGRESS_CELLS) } else { random.between(3, 5) };
+        self.piece(units, Asked { clause, room, cells }).map(|_| ())
+    }
+
+    /// One piece: its numbers, if nothing differs.
+    fn piece(&self, units: &[&[u8]], asked: Asked) -> Result<[u64; PROGRESS_CELLS], String> {
+        let mut ours = self.lengths.tables.map(|length| marked(length, self.mark));
+        let [symbols, rows, clauses, bindings] = &mut ours;
+        let mut tables = Tables { symbols, rows, clauses, bindings };
+        let mut output = vec![OUTPUT_MARK; asked.room];
+        let mut progress = vec![PROGRESS_MARK; asked.cells];
+        readout_numbers(self.file, &mut tables, asked.clause, &mut output, &mut progress);
+        let (mut bytes, numbers) = expected(units, asked.clause, asked.room);
+        let mut cells = vec![PROGRESS_MARK; asked.cells];
+        match cells.get_mut(..PROGRESS_CELLS) {
+            Some(first) => {
+                first.copy_from_slice(&numbers);
+                differ(asked, "table", ours == self.tables)?;
+            }
+            None => {
+                bytes.clear();
+                let left = ours.iter().all(|table| *table == marked(table.len(), self.mark));
+                differ(asked, "table", left)?;
+            }
+        }
+        bytes.resize(asked.room, OUTPUT_MARK);
+        differ(asked, "progress", progress == cells)?;
+        differ(asked, "output", output == bytes)?;
+        Ok(numbers)
+    }
+}
+
+/// An error if something is not the same.
+fn differ(asked: Asked, part: &str, same: bool) -> Result<(), String> {
+    if same {
+        return Ok(());
+    }
+    Err(format!("readout, {asked:?}: {part} differs"))
+}
+
+/// Room for some of the next lines: just enough, one byte less, some more, or any.
+fn some_room(random: &mut SplitMix64, units: &[&[u8]], clause: u16) -> usize {
+    let rest = units.get(usize::from(clause)..).unwrap_or(&[]);
+    let lines = random.below(rest.len().min(8) + 1);
+    let exact: usize = rest[..lines].iter().map(|unit| unit.len()).sum();
+    match random.below(4) {
+        0 => exact,
+        1 => exact.saturating_sub(1),
+        2 => exact + random.below(200),
+        _ => random.below(5000),
+    }
+}
+
+/// Cells that each hold a mark of their own, so that a cell moved or cleared is seen.
+fn marked(length: usize, mark: u16) -> Vec<u16> {
+    (0..length).map(|cell| mark.wrapping_add(cell as u16)).collect()
+}

@@ -1,0 +1,76 @@
+//! Two programs timed in rounds, in alternating order: the least time of each, and their ratio with its
+//! spread over the rounds.
+
+use std::fmt;
+use std::time::Duration;
+
+/// How many rounds each line of a table takes.
+pub const ROUNDS: usize = 10;
+
+/// The times of the rounds, of both programs.
+pub struct Rounds {
+    ours: Vec<Duration>,
+    theirs: Vec<Duration>,
+}
+
+impl Rounds {
+    /// Times both in every round; in every second round the other one goes first.
+    pub fn take(mut ours: impl FnMut() -> Duration, mut theirs: impl FnMut() -> Duration) -> Rounds {
+        let mut rounds = Rounds { ours: Vec::new(), theirs: Vec::new() };
+        for round in 0..ROUNDS {
+            if round % 2 == 0 {
+                rounds.ours.push(ours());
+            }
+            rounds.theirs.push(theirs());
+            if round % 2 == 1 {
+                rounds.ours.push(ours());
+            }
+        }
+        rounds
+    }
+
+    /// The least time of each.
+    pub fn least(&self) -> [Duration; 2] {
+        [&self.ours, &self.theirs].map(|times| times.iter().min().copied().unwrap_or_default())
+    }
+
+    /// Ratios of ours to theirs round by round, the least first.
+    fn ratios(&self) -> Vec<f64> {
+        let ratio = |(ours, theirs): (&Duration, &Duration)| ours.as_secs_f64() / theirs.as_secs_f64();
+        let mut ratios: Vec<f64> = self.ours.iter().zip(&self.theirs).map(ratio).collect();
+        ratios.sort_by(f64::total_cmp);
+        ratios
+    }
+
+    /// The rounds of several lines taken together, as one line.
+    pub fn sum(lines: &[Rounds]) -> Rounds {
+        let total = |times: fn(&Rounds) -> &Vec<Duration>| {
+            (0..ROUNDS).map(|round| lines.iter().map(|line| times(line)[round]).sum()).collect()
+        };
+        Rounds { ours: total(|line| &line.ours), theirs: total(|line| &line.theirs) }
+    }
+}
+
+/// Four cells of a table: both times, the middle ratio, and the ratios from the least to the largest.
+impl fmt::Display for Rounds {
+    fn fmt(&self, out: &mut fmt::Formatter<'_>) -> fmt::Result {
+        let [ours, theirs] = self.least();
+        let ratios = self.ratios();
+        let (least, most) = (ratios[0], ratios[ratios.len() - 1]);
+        let middle = (ratios[(ratios.len() - 1) / 2] + ratios[ratios.len() / 2]) / 2.0;
+        write!(out, "{} | {} | {middle:.2} | {least:.2} to {most:.2}", shown(ours), shown(theirs))
+    }
+}
+
+/// A time with three digits and its unit.
+pub fn shown(time: Duration) -> String {
+    let seconds = time.as_secs_f64();
+    let (value, unit) = match seconds {
+        1.0.. => (seconds, "s"),
+        1e-3.. => (seconds * 1e3, "ms"),
+        1e-6.. => (seconds * 1e6, "µs"),
+        _ => (seconds * 1e9, "ns"),
+    };
+    let digits = if value >= 100.0 { 0 } else { 2 - usize::from(value >= 10.0) };
+    format!("{value:.digits$} {unit}")
+}

@@ -1,0 +1,123 @@
+//! Everything is lent from the middle of larger buffers, and both sides of every part are watched.
+
+use yestrwyn::exported::{check_numbers, readout_numbers, PROGRESS_CELLS};
+use yestrwyn::{Tables, LENGTHS};
+use yestrwyn_comparison::compare::file_of;
+use yestrwyn_types::{Cells, ANSWER_CELLS};
+use yestrwyn_vectors::examples::{cases, edges, published, refusals};
+
+/// Cells before, between and after the parts.
+const MARGIN: usize = 40;
+
+/// Cells of each of the five parts: the tables and the answer.
+const PARTS: [usize; 5] = [LENGTHS[0], LENGTHS[1], LENGTHS[2], LENGTHS[3], ANSWER_CELLS];
+
+/// What a cell of the buffer holds before a call.
+fn mark(place: usize) -> u16 {
+    0x5a00 ^ place as u16
+}
+
+/// One buffer for all five parts, with margins around each.
+fn buffer() -> Vec<u16> {
+    let length = MARGIN + PARTS.iter().map(|part| part + MARGIN).sum::<usize>();
+    (0..length).map(mark).collect()
+}
+
+/// The five parts of a buffer.
+fn parts(buffer: &mut [u16]) -> [&mut [u16]; 5] {
+    let mut rest = buffer;
+    PARTS.map(|length| {
+        let (part, after) = std::mem::take(&mut rest)[MARGIN..].split_at_mut(length);
+        rest = after;
+        part
+    })
+}
+
+/// Are all margins as they were?
+fn margins_hold(buffer: &[u16]) -> bool {
+    let mut start = 0;
+    PARTS.iter().chain([&0]).all(|part| {
+        let margin = start..start + MARGIN;
+        start = margin.end + part;
+        margin.clone().all(|place| buffer[place] == mark(place))
+    })
+}
+
+/// Files of every kind.
+fn files() -> Vec<Vec<u8>> {
+    let mut examples = cases::examples();
+    examples.extend(published());
+    examples.extend(edges::examples());
+    examples.extend(refusals::examples());
+    let named = examples.into_iter().map(|example| example.file);
+    named.chain((0..300).map(file_of)).collect()
+}
+
+/// A file from the middle of a larger buffer too.
+fn in_the_middle(file: &[u8]) -> Vec<u8> {
+    [&[0xff; 64], file, &[0xff; 64]].concat()
+}
+
+#[test]
+fn the_check_stays_inside_what_it_was_lent() {
+    let check = || {
+        for file in files() {
+            let lent = in_the_middle(&file);
+            let mut buffer = buffer();
+            let [symbols, rows, clauses, bindings, answer] = parts(&mut buffer);
+            let mut tables = Tables { symbols, rows, clauses, bindings };
+            check_numbers(&lent[64..64 + file.len()], &mut tables, answer);
+            assert!(margins_hold(&buffer));
+            let mut cells = Cells { symbols: vec![], rows: vec![], clauses: vec![], bindings: vec![] };
+            let [symbols, rows, clauses, bindings, answer] = parts(&mut buffer);
+            let second = yestrwyn_second::check_into(&file, &mut before(&mut cells).lend());
+            assert_eq!(answer, second.numbers());
+            assert!([symbols, rows, clauses, bindings].into_iter().eq([
+                &cells.symbols,
+                &cells.rows,
+                &cells.clauses,
+                &cells.bindings
+            ]));
+        }
+    };
+    yestrwyn::with_stack(check).expect("a thread");
+}
+
+/// Cells that hold what the parts of a buffer hold before a call.
+fn before(cells: &mut Cells) -> &mut Cells {
+    let mut buffer = buffer();
+    let [symbols, rows, clauses, bindings, _] = parts(&mut buffer).map(|part| part.to_vec());
+    *cells = Cells { symbols, rows, clauses, bindings };
+    cells
+}
+
+#[test]
+fn the_readout_stays_inside_what_it_was_lent() {
+    let read = || {
+        for file in files() {
+            let lent = in_the_middle(&file);
+            let second = yestrwyn_second::readout(&file);
+            for room in [0, 1, second.len().saturating_sub(1), second.len(), second.len() + 9] {
+                let mut buffer = buffer();
+                let [symbols, rows, clauses, bindings, _] = parts(&mut buffer);
+                let mut tables = Tables { symbols, rows, clauses, bindings };
+                let mut output = vec![0xa5; room + 64];
+                let mut progress = [7; PROGRESS_CELLS + 4];
+                readout_numbers(
+                    &lent[64..64 + file.len()],
+                    &mut tables,
+                    0,
+                    &mut output[32..32 + room],
+                    &mut progress[2..2 + PROGRESS_CELLS],
+                );
+                let written = progress[3] as usize;
+                assert!(margins_hold(&buffer));
+                assert_eq!((progress[..2].to_vec(), progress[5..].to_vec()), (vec![7; 2], vec![7; 2]));
+                assert!(written <= room && second.starts_with(&output[32..32 + written]));
+                let around = output[..32].iter().chain(&output[32 + written..]);
+                assert!(around.into_iter().all(|&byte| byte == 0xa5));
+            }
+        }
+    };
+    yestrwyn::with_stack(read).expect("a thread");
+}

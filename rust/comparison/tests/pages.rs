@@ -1,0 +1,112 @@
+//! Files and tables that end, or begin, where a page ends that nobody may read: a step too far would end
+//! the process.
+
+use std::ffi::c_void;
+use std::slice;
+
+use yestrwyn::{check_here, readout_piece_here, Cells, Rest, Tables, ENOUGH, LENGTHS};
+use yestrwyn_vectors::examples::{cases, deep, edges, published};
+use yestrwyn_vectors::random_file;
+
+const PAGE: usize = 4096;
+
+const NONE: i32 = 0;
+const READ_AND_WRITE: i32 = 3;
+const PRIVATE_AND_ANONYMOUS: i32 = 0x22;
+
+extern "C" {
+    fn mmap(at: *mut c_void, length: usize, access: i32, flags: i32, file: i32, from: i64) -> *mut c_void;
+    fn mprotect(at: *mut c_void, length: usize, access: i32) -> i32;
+    fn munmap(at: *mut c_void, length: usize) -> i32;
+}
+
+/// Whole pages of memory between two that nobody may read.
+struct Guarded {
+    start: *mut u8,
+    pages: usize,
+}
+
+impl Guarded {
+    /// Pages for some bytes.
+    fn new(bytes: usize) -> Guarded {
+        let pages = bytes.div_ceil(PAGE).max(1);
+        // Safety: new memory is asked for, wherever the system has it.
+        let start =
+            unsafe { mmap(std::ptr::null_mut(), (pages + 2) * PAGE, NONE, PRIVATE_AND_ANONYMOUS, -1, 0) };
+        assert!(start as isize != -1, "the system gives no memory");
+        let start = start.cast::<u8>();
+        // Safety: the pages between the first and the last of that memory.
+        let status = unsafe { mprotect(start.wrapping_add(PAGE).cast(), pages * PAGE, READ_AND_WRITE) };
+        assert_eq!(status, 0, "the pages between can be read");
+        Guarded { start, pages }
+    }
+
+    /// The readable bytes.
+    fn bytes(&mut self) -> &mut [u8] {
+        // Safety: these pages were made readable and writable; they live as long as this value.
+        unsafe { slice::from_raw_parts_mut(self.start.wrapping_add(PAGE), self.pages * PAGE) }
+    }
+
+    /// The same as cells.
+    fn cells(&mut self) -> &mut [u16] {
+        // Safety: as above; a page begins at a multiple of 4,096.
+        unsafe { slice::from_raw_parts_mut(self.start.wrapping_add(PAGE).cast(), self.pages * PAGE / 2) }
+    }
+}
+
+impl Drop for Guarded {
+    fn drop(&mut self) {
+        // Safety: the memory that `new` was given, which nothing borrows any more.
+        unsafe { munmap(self.start.cast(), (self.pages + 2) * PAGE) };
+    }
+}
+
+/// Where a file lies in its pages.
+#[derive(Clone, Copy, Debug)]
+enum Place {
+    First,
+    Last,
+}
+
+/// Checks and reads out a file that lies against an unreadable page, with tables that fill their pages.
+fn same(name: &str, file: &[u8], place: Place) {
+    let mut pages = Guarded::new(file.len());
+    let free = pages.bytes().len() - file.len();
+    let start = if let Place::First = place { 0 } else { free };
+    let lent = &mut pages.bytes()[start..start + file.len()];
+    lent.copy_from_slice(file);
+    let mut guarded = LENGTHS.map(|cells| Guarded::new(2 * cells));
+    let [symbols, rows, clauses, bindings] = guarded.each_mut().map(|table| table.cells());
+    assert_eq!([symbols.len(), rows.len(), clauses.len(), bindings.len()], LENGTHS);
+    let mut tables = Tables { symbols, rows, clauses, bindings };
+    let mut second = Cells::new();
+    let expected = yestrwyn_second::check_into(file, &mut second.lend());
+    assert_eq!(check_here(lent, &mut tables), expected, "{name} {place:?}");
+    let mut output = Guarded::new(ENOUGH);
+    let piece = readout_piece_here(lent, &mut tables, 0, output.bytes());
+    let text = yestrwyn_second::readout(file);
+    assert!(text.starts_with(&output.bytes()[..piece.written]), "{name} {place:?}");
+    assert_eq!(piece.rest == Rest::Complete, piece.written == text.len(), "{name} {place:?}");
+    let Tables { symbols, rows, clauses, bindings } = tables;
+    let cells = [&second.symbols, &second.rows, &second.clauses, &second.bindings];
+    assert!([symbols, rows, clauses, bindings].into_iter().eq(cells), "{name} {place:?}");
+}
+
+#[test]
+fn files_and_tables_beside_unreadable_pages() {
+    let compare = || {
+        let mut examples = cases::examples();
+        examples.extend(published());
+        // The longest file fills its pages and lies against unreadable ones on both sides.
+        examples.extend(edges::examples());
+        examples.extend(deep::examples());
+        for example in examples {
+            same(&example.name, &example.file, Place::Last);
+            same(&example.name, &example.file, Place::First);
+        }
+        for seed in 0..200 {
+            same(&format!("seed {seed}"), &random_file(seed), Place::Last);
+        }
+    };
+    yestrwyn::with_stack(compare).expect("a thread");
+}

@@ -1,0 +1,178 @@
+//! The proved readout gives the second implementation's, in pieces of any room.
+//!
+//! Every test runs in a thread with a larger stack than a test's own 2 MiB: see `yestrwyn::with_stack`.
+
+use std::io::{self, Write};
+
+use yestrwyn::exported::readout_numbers;
+use yestrwyn::{readout_piece_here, Cells, Rest, Tables, ENOUGH, LENGTHS};
+use yestrwyn_comparison::compare::{file_of, lengths_of, Lengths};
+use yestrwyn_comparison::pieces::Second;
+use yestrwyn_vectors::damage;
+use yestrwyn_vectors::examples::{cases, heavy, Example};
+use yestrwyn_vectors::random::SplitMix64;
+use yestrwyn_vectors::stored::groups;
+
+/// Runs a test with stack enough for every file.
+fn with_stack(test: impl FnOnce() + Send) {
+    yestrwyn::with_stack(test).expect("a thread");
+}
+
+/// Goes through a file's readout in pieces of any room.
+fn same(file: &[u8], lengths: Lengths, seed: u64) {
+    let outcome = Second::new(file, lengths, seed as u16).walk(&mut SplitMix64::new(seed));
+    assert_eq!(outcome, Ok(()), "seed {seed} with {lengths:?} on {file:02x?}");
+}
+
+/// All stored files.
+fn stored() -> Vec<Example> {
+    groups().into_iter().flat_map(|group| group.examples).collect()
+}
+
+#[test]
+fn all_stored_vectors_in_pieces() {
+    with_stack(|| {
+        for (example, seed) in stored().iter().zip(0..) {
+            same(&example.file, Lengths::longer(seed as usize % 3), seed);
+        }
+    });
+}
+
+#[test]
+fn all_stored_vectors_whole() {
+    for example in stored() {
+        let text = yestrwyn::readout(&example.file).expect("a thread");
+        assert!(text == yestrwyn_second::readout(&example.file), "{}", example.name);
+    }
+}
+
+#[test]
+fn stored_vectors_damaged() {
+    with_stack(|| {
+        for (example, seed) in stored().iter().zip(0..) {
+            same(&damage(&example.file, seed), Lengths::longer(1), seed);
+        }
+    });
+}
+
+#[test]
+fn random_and_damaged_files() {
+    with_stack(|| {
+        for seed in 0..2000 {
+            same(&file_of(seed), lengths_of(seed), seed);
+        }
+    });
+}
+
+#[test]
+fn short_tables() {
+    with_stack(|| {
+        for (short, named) in LENGTHS.into_iter().enumerate() {
+            for length in [0, named - 1] {
+                let mut lengths = Lengths::longer(3);
+                lengths.tables[short] = length;
+                same(&cases::case_a(), lengths, length as u64);
+                same(&[0; 15], lengths, length as u64);
+            }
+        }
+    });
+}
+
+#[test]
+fn short_progress_touches_nothing() {
+    with_stack(|| {
+        for length in 0..3 {
+            let mut tables = LENGTHS.map(|cells| vec![7; cells]);
+            let [symbols, rows, clauses, bindings] = &mut tables;
+            let mut lent = Tables { symbols, rows, clauses, bindings };
+            let (mut output, mut progress) = (vec![7; 1000], vec![7; length]);
+            readout_numbers(&cases::case_a(), &mut lent, 0, &mut output, &mut progress);
+            assert!(tables.iter().flatten().all(|&cell| cell == 7));
+            assert!(output.iter().all(|&byte| byte == 7));
+            assert!(progress.iter().all(|&cell| cell == 7));
+        }
+    });
+}
+
+#[test]
+fn case_a_by_its_pieces() {
+    with_stack(|| {
+        let (file, mut cells) = (cases::case_a(), Cells::new());
+        let text =
+            "accepted 4\n0 1 +s0(s2)\n1 1 -s0(v0.1) +s0(s1(v0.1))\n2 1 -s0(s1(s2))\n3 2 +s0(s1(s2))\n4 3\n";
+        assert_eq!(yestrwyn::readout(&file).expect("a thread"), text.as_bytes());
+        let mut piece = |clause, room| {
+            let mut output = vec![0; room];
+            let piece = readout_piece_here(&file, &mut cells.lend(), clause, &mut output);
+            (String::from_utf8_lossy(&output[..piece.written]).into_owned(), piece.rest)
+        };
+        assert_eq!(piece(0, 22), (String::new(), Rest::TooShort(0)));
+        assert_eq!(piece(0, 23), (text[..23].to_string(), Rest::GoOn(1)));
+        assert_eq!(piece(3, 19), ("3 2 +s0(s1(s2))\n".to_string(), Rest::GoOn(4)));
+        assert_eq!(piece(3, 20), ("3 2 +s0(s1(s2))\n4 3\n".to_string(), Rest::Complete));
+        assert_eq!(piece(4, 3), (String::new(), Rest::TooShort(4)));
+        assert_eq!(piece(5, 0), (String::new(), Rest::Complete));
+        assert_eq!(piece(u16::MAX, 9), (String::new(), Rest::Complete));
+    });
+}
+
+/// FNV-1a with 64 bits, and how many bytes there were.
+#[derive(PartialEq, Eq)]
+struct Hash {
+    value: u64,
+    bytes: usize,
+}
+
+impl Hash {
+    fn new() -> Hash {
+        Hash { value: 0xcbf2_9ce4_8422_2325, bytes: 0 }
+    }
+}
+
+impl Write for Hash {
+    fn write(&mut self, bytes: &[u8]) -> io::Result<usize> {
+        for &byte in bytes {
+            self.value = (self.value ^ u64::from(byte)).wrapping_mul(0x0100_0000_01b3);
+        }
+        self.bytes += bytes.len();
+        Ok(bytes.len())
+    }
+
+    fn flush(&mut self) -> io::Result<()> {
+        Ok(())
+    }
+}
+
+/// The hash of a readout by the second implementation, and the tables that it leaves.
+fn second_hash(file: &[u8]) -> (Hash, Cells) {
+    let (mut hash, mut cells) = (Hash::new(), Cells::new());
+    yestrwyn_second::write_readout(file, &mut cells.lend(), &mut hash).expect("a hash takes every byte");
+    (hash, cells)
+}
+
+/// The same by the proved readout, in pieces of some room.
+fn proved_hash(file: &[u8], room: usize) -> (Hash, Cells) {
+    let (mut hash, mut cells) = (Hash::new(), Cells::new());
+    let (mut output, mut clause) = (vec![0; room], 0);
+    loop {
+        let piece = readout_piece_here(file, &mut cells.lend(), clause, &mut output);
+        hash.write_all(&output[..piece.written]).expect("a hash takes every byte");
+        match piece.rest {
+            Rest::Complete => return (hash, cells),
+            Rest::GoOn(next) => clause = next,
+            Rest::TooShort(clause) => panic!("{room} bytes are too short for clause {clause}"),
+        }
+    }
+}
+
+#[test]
+fn heavy_files_by_their_hashes() {
+    with_stack(|| {
+        for example in heavy::examples() {
+            let second = second_hash(&example.file);
+            // Every piece checks the file anew: of a long readout some three are taken.
+            let room = ENOUGH.max(second.0.bytes / 3);
+            assert!(proved_hash(&example.file, room) == second, "{}", example.name);
+        }
+    });
+}

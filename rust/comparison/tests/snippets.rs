@@ -1,0 +1,122 @@
+//! The programs that the guide to the format quotes compile, and print what the stored readouts say.
+
+use std::fs;
+use std::path::{Path, PathBuf};
+use std::process::{Command, Stdio};
+use std::sync::OnceLock;
+
+#[allow(dead_code)]
+#[path = "../../yestrwyn/examples/check.rs"]
+mod check;
+
+/// The stored examples.
+const EXAMPLES: [&str; 5] = ["curfew", "duty", "permit", "refused", "two_steps"];
+
+/// A path from the root of the repository.
+fn path(from_root: &str) -> PathBuf {
+    Path::new(env!("CARGO_MANIFEST_DIR")).join("../..").join(from_root)
+}
+
+/// A stored text.
+fn text(from_root: &str) -> String {
+    fs::read_to_string(path(from_root)).unwrap_or_else(|error| panic!("{from_root}: {error}"))
+}
+
+/// The stored readout of an example.
+fn readout(example: &str) -> String {
+    text(&format!("examples/{example}.txt"))
+}
+
+/// The first line of it, with its line feed.
+fn verdict(example: &str) -> String {
+    readout(example).split_inclusive('\n').next().unwrap_or("").to_string()
+}
+
+/// The programs `check` and `readout`, compiled once.
+fn programs() -> &'static [PathBuf; 2] {
+    static PROGRAMS: OnceLock<[PathBuf; 2]> = OnceLock::new();
+    PROGRAMS.get_or_init(|| ["check", "readout"].map(compiled))
+}
+
+/// Compiles a program of `snippets` against the library and returns where it lies.
+fn compiled(name: &str) -> PathBuf {
+    let program = Path::new(env!("CARGO_TARGET_TMPDIR")).join(name);
+    let status = Command::new("gcc")
+        .args(["-std=c99", "-Wall", "-Wextra", "-Werror", "-pedantic", "-O2", "-I"])
+        .arg(path("crates/checker_c"))
+        .arg(path(&format!("rust/comparison/snippets/{name}.c")))
+        .arg(path("target/staticlib/libchecker_c.a"))
+        .arg("-o")
+        .arg(&program)
+        .status();
+    assert!(status.expect("gcc is there").success(), "{name}.c compiles");
+    program
+}
+
+/// What a program prints for an example.
+fn printed(program: &Path, example: &str) -> String {
+    let file = fs::File::open(path(&format!("examples/{example}.proof"))).expect("a stored example");
+    let output = Command::new(program).stdin(Stdio::from(file)).output().expect("it runs");
+    assert!(output.status.success());
+    String::from_utf8(output.stdout).expect("text")
+}
+
+#[test]
+fn the_check_from_c() {
+    let [program, _] = programs();
+    for example in EXAMPLES {
+        assert_eq!(printed(program, example), verdict(example), "{example}");
+    }
+}
+
+#[test]
+fn the_readout_from_c() {
+    let [_, program] = programs();
+    for example in EXAMPLES {
+        assert_eq!(printed(program, example), readout(example), "{example}");
+    }
+}
+
+/// Reading a folder fails, and writing to a full device: neither ends like a verdict.
+#[test]
+fn failed_reads_and_writes_from_c() {
+    for program in programs() {
+        let folder = fs::File::open(path("examples")).expect("the folder");
+        let read = Command::new(program).stdin(Stdio::from(folder)).output().expect("it runs");
+        assert!(!read.status.success() && read.stdout.is_empty(), "{}", program.display());
+        assert!(String::from_utf8_lossy(&read.stderr).starts_with("standard input: "));
+        let file = fs::File::open(path("examples/duty.proof")).expect("a stored example");
+        let full = fs::File::options().write(true).open("/dev/full").expect("a full device");
+        let written = Command::new(program)
+            .stdin(Stdio::from(file))
+            .stdout(Stdio::from(full))
+            .stderr(Stdio::piped())
+            .spawn()
+            .and_then(|child| child.wait_with_output())
+            .expect("it runs");
+        assert!(!written.status.success(), "{}", program.display());
+        assert!(String::from_utf8_lossy(&written.stderr).starts_with("standard output: "));
+    }
+}
+
+#[test]
+fn the_check_from_rust() {
+    for example in EXAMPLES {
+        let file = fs::read(path(&format!("examples/{example}.proof"))).expect("a stored example");
+        assert_eq!(check::verdict(&file).expect("a thread") + "\n", verdict(example), "{example}");
+    }
+}
+
+#[test]
+fn the_guide_quotes_the_programs() {
+    let guide = text("docs/FORMAT.md");
+    let quoted = [
+        ("c", "comparison/snippets/check.c"),
+        ("rust", "yestrwyn/examples/check.rs"),
+        ("c", "comparison/snippets/readout.c"),
+    ];
+    for (language, program) in quoted {
+        let block = format!("```{language}\n{}```\n", text(&format!("rust/{program}")));
+        assert!(guide.contains(&block), "docs/FORMAT.md does not quote {program} as it is");
+    }
+}

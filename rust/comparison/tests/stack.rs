@@ -1,0 +1,81 @@
+//! The safe functions bring their own stack: on a thread that has next to none they answer every file.
+
+use std::io;
+use std::thread::Builder;
+
+use yestrwyn::{check, check_into, readout, readout_piece, write_readout, write_readout_here};
+use yestrwyn::{Cells, Rest, ENOUGH};
+use yestrwyn_vectors::examples::deep;
+
+/// Runs something on a thread of 128 KiB. A test's own thread has 2 MiB, and the check alone takes more
+/// than 1 MiB for any file.
+fn on_a_small_thread(run: impl FnOnce() + Send) {
+    std::thread::scope(|scope| {
+        let thread = Builder::new().stack_size(128 << 10).spawn_scoped(scope, run).expect("a thread");
+        thread.join().expect("it ends");
+    });
+}
+
+#[test]
+fn the_deepest_files_on_a_small_thread() {
+    for example in deep::examples() {
+        let (file, mut cells, mut second) = (&example.file, Cells::new(), Cells::new());
+        let expected = yestrwyn_second::check_into(file, &mut second.lend());
+        let text = yestrwyn_second::readout(file);
+        on_a_small_thread(|| {
+            assert_eq!(check(file).expect("an answer"), expected);
+            assert_eq!(check_into(file, &mut cells.lend()).expect("an answer"), expected);
+            assert!(readout(file).expect("a readout") == text);
+            let mut output = vec![0; ENOUGH.max(text.len())];
+            let piece = readout_piece(file, &mut cells.lend(), 0, &mut output).expect("a piece");
+            assert!(piece.rest == Rest::Complete && output[..piece.written] == text);
+        });
+        assert!(cells == second, "{}", example.name);
+    }
+}
+
+/// A writer that takes some bytes and no more.
+struct Full(usize);
+
+impl io::Write for Full {
+    fn write(&mut self, bytes: &[u8]) -> io::Result<usize> {
+        if self.0 < bytes.len() {
+            return Err(io::Error::other("full"));
+        }
+        self.0 -= bytes.len();
+        Ok(bytes.len())
+    }
+
+    fn flush(&mut self) -> io::Result<()> {
+        Ok(())
+    }
+}
+
+#[test]
+fn a_readout_that_cannot_be_written_is_an_error() {
+    let file = deep::derivation(100);
+    let length = readout(&file).expect("a readout").len();
+    assert!(write_readout(&file, &mut Full(length)).is_ok());
+    assert!(write_readout(&file, &mut Full(length - 1)).is_err());
+}
+
+#[test]
+fn a_readout_that_is_cut_is_an_error() {
+    let file = deep::derivation(100);
+    let text = yestrwyn_second::readout(&file);
+    let longest = text.split_inclusive(|&byte| byte == b'\n').map(<[u8]>::len).max().unwrap_or(0);
+    for room in [0, 1, longest - 1, longest, longest + 1, text.len()] {
+        let (mut cells, mut output, mut out) = (Cells::new(), vec![0; room], Vec::new());
+        let run = || write_readout_here(&file, &mut cells.lend(), &mut output, &mut out);
+        let written = yestrwyn::with_stack(run).expect("a thread");
+        // The first line is handed on with that of clause 0, and is shorter than the longest here.
+        assert_eq!(written.is_ok(), room >= longest, "{room} bytes, {written:?}");
+        assert!(text.starts_with(&out) && (written.is_err() || out == text));
+    }
+}
+
+#[test]
+fn a_panic_comes_through() {
+    let caught = std::panic::catch_unwind(|| yestrwyn::with_stack(|| panic!("on purpose")));
+    assert!(caught.is_err());
+}

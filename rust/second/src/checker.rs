@@ -1,0 +1,254 @@
+//! The check of one record after another: what stands so far, and the next record or its reason.
+
+use yestrwyn_types::limits::{ARITY, INDEX, INPUT_LITERALS, LITERALS, RECORDS, RECORD_BYTES, VARIABLES};
+use yestrwyn_types::record::{kind, Record};
+use yestrwyn_types::{Answer, Reason, Verdict};
+
+use crate::clause::{literal, Clause, Literal, Loader, Origin};
+use crate::distinct::Distinct;
+use crate::environment::Environment;
+use crate::expression::{Binding, Expression, Node};
+use crate::unify::Unifier;
+
+/// A symbol that stands.
+#[derive(Clone, Copy, PartialEq, Eq, Debug)]
+pub struct Symbol {
+    pub record: u16,
+    pub arity: u8,
+}
+
+/// Everything that the records read so far have put up, and the working memory of a step.
+#[derive(Default)]
+pub struct Checker {
+    records: u16,
+    symbols: Vec<Symbol>,
+    row_records: Vec<u16>,
+    nodes: Vec<Node>,
+    distinct: Distinct,
+    clauses: Vec<Clause>,
+    bindings: Vec<Binding>,
+    empty: Option<u16>,
+    environment: Environment,
+    loader: Loader,
+    unifier: Unifier,
+    work: Option<u32>,
+}
+
+impl Checker {
+    /// A checker that has read no record.
+    pub fn new() -> Checker {
+        Checker::default()
+    }
+
+    /// Reads the next record. If it is refused, everything stays as the records before it left it.
+    /// Past 4,096 records each one more is refused as a file that is too long would be.
+    pub fn record(&mut self, bytes: &[u8; RECORD_BYTES]) -> Result<(), Reason> {
+        self.work = None;
+        if usize::from(self.records) >= RECORDS {
+            return Err(Reason::Length);
+        }
+        let record = Record::from_bytes(bytes);
+        match record.kind {
+            kind::SYMBOL => self.symbol(&record),
+            kind::VARIABLE => self.variable(&record),
+            kind::APPLICATION => self.application(&record),
+            kind::INPUT => self.input(&record),
+            kind::RESOLVE => self.resolve(&record),
+            kind::FACTOR => self.factor(&record),
+            _ => Err(Reason::Kind),
+        }?;
+        self.records += 1;
+        Ok(())
+    }
+
+    /// The work of the last record read, if it was a step that came as far as unification.
+    pub fn last_work(&self) -> Option<u32> {
+        self.work
+    }
+
+    /// The symbols that stand.
+    pub fn symbols(&self) -> &[Symbol] {
+        &self.symbols
+    }
+
+    /// The record of each row that stands.
+    pub fn row_records(&self) -> &[u16] {
+        &self.row_records
+    }
+
+    /// The rows that stand.
+    pub fn nodes(&self) -> &[Node] {
+        &self.nodes
+    }
+
+    /// The clauses that stand.
+    pub fn clauses(&self) -> &[Clause] {
+        &self.clauses
+    }
+
+    /// The bindings of all clauses that stand.
+    pub fn bindings(&self) -> &[Binding] {
+        &self.bindings
+    }
+
+    /// The answer if the file ended here, or if the next record were refused for a reason.
+    pub fn answer(&self, refusal: Option<Reason>) -> Answer {
+        let verdict = match (refusal, self.empty) {
+            (Some(reason), _) => Verdict::Refused { reason, record: self.records },
+            (None, Some(clause)) => Verdict::Accepted(clause),
+            (None, None) => Verdict::Open,
+        };
+        Answer {
+            verdict,
+            symbols: small(self.symbols.len()),
+            rows: small(self.nodes.len()),
+            clauses: small(self.clauses.len()),
+            bindings: small(self.bindings.len()),
+        }
+    }
+
+    /// Makes the environment that of one clause, for reading values out, and hands it out with the rows.
+    pub fn load(&mut self, clause: u16) -> (&[Node], &mut Environment) {
+        let index = self.clauses.get(usize::from(clause)).map_or(0, |clause| clause.max_index);
+        self.environment.clear(index);
+        self.load_at(clause, 0);
+        (&self.nodes, &mut self.environment)
+    }
+
+    /// Kind 1: a symbol with its arity.
+    fn symbol(&mut self, record: &Record) -> Result<(), Reason> {
+        require(record.count <= ARITY && record.zero_from(0), Reason::Range)?;
+        self.symbols.push(Symbol { record: self.records, arity: record.count });
+        Ok(())
+    }
+
+    /// Kind 2: a row that is a variable.
+    fn variable(&mut self, record: &Record) -> Result<(), Reason> {
+        let number = record.fields[0];
+        let in_range = record.count == 0 && usize::from(number) < VARIABLES;
+        require(in_range && record.zero_from(1), Reason::Range)?;
+        self.row(record, Node::Variable(number))
+    }
+
+    /// Kind 3: a row that is an application of a symbol to earlier rows.
+    fn application(&mut self, record: &Record) -> Result<(), Reason> {
+        let count = usize::from(record.count);
+        require(record.count <= ARITY && record.zero_from(1 + count), Reason::Range)?;
+        let symbol = record.fields[0];
+        let arguments = &record.fields[1..1 + count];
+        let known = self.symbols.get(usize::from(symbol)).is_some_and(|known| known.arity == record.count);
+        let rows = self.nodes.len();
+        require(known && arguments.iter().all(|&row| usize::from(row) < rows), Reason::Missing)?;
+        self.row(record, Node::application(symbol, arguments))
+    }
+
+    /// Adds a row that is new as a record.
+    fn row(&mut self, record: &Record, node: Node) -> Result<(), Reason> {
+        require(self.distinct.insert(&record.to_bytes()), Reason::Repeated)?;
+        self.row_records.push(self.records);
+        self.nodes.push(node);
+        Ok(())
+    }
+
+    /// Kind 4: an input clause.
+    fn input(&mut self, record: &Record) -> Result<(), Reason> {
+        let count = usize::from(record.count);
+        require(record.count <= INPUT_LITERALS && record.zero_from(count), Reason::Range)?;
+        let atoms = || record.fields[..count].iter().map(|code| self.nodes.get(usize::from(code / 2)));
+        require(atoms().all(|node| node.is_some()), Reason::Missing)?;
+        let no_variable = atoms().all(|node| !matches!(node, Some(Node::Variable(_))));
+        require(no_variable, Reason::VariableLiteral)?;
+        self.clause(Origin::Input(record.fields), u16::from(record.count), 1, self.bindings.len());
+        Ok(())
+    }
+
+    /// Kind 5: the resolvent on literals of two clauses.
+    fn resolve(&mut self, record: &Record) -> Result<(), Reason> {
+        require(record.count == 0 && record.zero_from(4), Reason::Range)?;
+        let [left, left_literal, right, right_literal, ..] = record.fields;
+        let (l, first) = self.named(left, left_literal)?;
+        let (r, second) = self.named(right, right_literal)?;
+        require(first.positive != second.positive, Reason::Signs)?;
+        let literals = (l.literals + r.literals).saturating_sub(2);
+        let index = l.max_index + r.max_index;
+        require(literals <= LITERALS && index <= INDEX, Reason::TooLarge)?;
+        self.environment.clear(index);
+        self.load_at(left, 0);
+        self.load_at(right, l.max_index);
+        let raised = Expression { row: second.atom.row, index: second.atom.index + l.max_index };
+        let held = self.unify(first.atom, raised)?;
+        self.clause(Origin::Resolve { left, left_literal, right, right_literal }, literals, index, held);
+        Ok(())
+    }
+
+    /// Kind 6: the factor on two literals of a clause.
+    fn factor(&mut self, record: &Record) -> Result<(), Reason> {
+        require(record.count == 0 && record.zero_from(3), Reason::Range)?;
+        let [parent, kept, deleted, ..] = record.fields;
+        let (clause, first) = self.named(parent, kept)?;
+        let (_, second) = self.named(parent, deleted)?;
+        require(kept != deleted && first.positive == second.positive, Reason::Signs)?;
+        self.environment.clear(clause.max_index);
+        self.load_at(parent, 0);
+        let held = self.unify(first.atom, second.atom)?;
+        let literals = clause.literals.saturating_sub(1);
+        self.clause(Origin::Factor { parent, kept, deleted }, literals, clause.max_index, held);
+        Ok(())
+    }
+
+    /// A clause and a literal of it, which a step names.
+    fn named(&self, number: u16, of: u16) -> Result<(Clause, Literal), Reason> {
+        let clause = self.clauses.get(usize::from(number)).ok_or(Reason::Missing)?;
+        let Some(found) = literal(&self.clauses, number, of) else { return Err(Reason::Missing) };
+        Ok((*clause, found))
+    }
+
+    /// Loads the bindings of a derivation into the environment, indices raised by `offset`.
+    fn load_at(&mut self, clause: u16, offset: u16) {
+        let Checker { clauses, bindings, environment, loader, .. } = self;
+        loader.load(clauses, bindings, environment, clause, offset);
+    }
+
+    /// Unifies in the loaded environment and returns the number of bindings held before.
+    /// A refused step leaves no bindings behind.
+    fn unify(&mut self, left: Expression, right: Expression) -> Result<usize, Reason> {
+        let held = self.bindings.len();
+        let Checker { nodes, bindings, environment, unifier, .. } = self;
+        let result = unifier.unify(nodes, environment, bindings, left, right);
+        self.work = Some(self.unifier.work());
+        if let Err(reason) = result {
+            self.bindings.truncate(held);
+            return Err(reason);
+        }
+        Ok(held)
+    }
+
+    /// Adds a clause whose own bindings are those from number `held` on.
+    fn clause(&mut self, origin: Origin, literals: u16, max_index: u16, held: usize) {
+        if literals == 0 && self.empty.is_none() {
+            self.empty = Some(small(self.clauses.len()));
+        }
+        self.clauses.push(Clause {
+            record: self.records,
+            origin,
+            literals,
+            max_index,
+            first_binding: small(held),
+            bindings: small(self.bindings.len() - held),
+        });
+    }
+}
+
+/// A test of a record: refused with this reason unless it holds.
+fn require(holds: bool, otherwise: Reason) -> Result<(), Reason> {
+    if holds {
+        Ok(())
+    } else {
+        Err(otherwise)
+    }
+}
+
+/// A count that the limits of the format keep within 16 bits.
+fn small(count: usize) -> u16 {
+    u16::try_from(count).unwrap_or(u16::MAX)
+}

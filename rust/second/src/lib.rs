@@ -1,0 +1,21 @@
+//! A second checker of resolution proof files, beside the proved one and unproved itself.
+//!
+//! A file holds symbols, rows (shared terms), input clauses, and resolution and factoring steps.
+//! [`check()`] answers whether every record stands and whether some clause is empty, and fills four
+//! tables; [`readout()`] writes every clause in plain symbols. Derived clauses are never written
+//! out: a clause is its parents and the bindings that its own unification added.
+
+#![forbid(unsafe_code)]
+
+pub mod check;
+pub mod checker;
+pub mod clause;
+pub mod distinct;
+pub mod environment;
+pub mod expression;
+pub mod filling;
+pub mod readout;
+pub mod unify;
+
+pub use check::{check, check_counting, check_into, StepWork};
+pub use readout::{readout, readout_into, write_readout};

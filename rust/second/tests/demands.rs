@@ -1,0 +1,151 @@
+//! What the check promises of derived and empty clauses, against the textbook: resolvents and
+//! factors under a most general unifier, refusals only without one, and instances without a model.
+
+mod reference;
+mod textbook;
+
+use reference::{Clause as Shared, Expr, From, Reference, Row};
+use textbook::{canonical, factor, resolvent, size, unsatisfiable, Clause, Term};
+use yestrwyn_vectors::examples::{cases, published};
+use yestrwyn_vectors::outcome::outcome;
+use yestrwyn_vectors::random_file;
+
+/// Terms larger than this are not written out.
+const LARGEST: usize = 3000;
+
+/// The value of an expression in a clause, written out; a variable is 4,097 × row + index.
+fn value(state: &Reference, clause: &Shared, at: Expr, room: &mut usize) -> Option<Term> {
+    *room = room.checked_sub(1)?;
+    let (row, index) = state.follow(clause, at);
+    match &state.rows[usize::from(row)].1 {
+        Row::Variable(_) => Some(Term::Variable(usize::from(row) * 4097 + usize::from(index))),
+        Row::Application(symbol, arguments) => {
+            let inner: Option<Vec<Term>> =
+                arguments.iter().map(|&argument| value(state, clause, (argument, index), room)).collect();
+            Some(Term::Apply(*symbol, inner?))
+        }
+    }
+}
+
+/// The literals of a clause by shared structure, written out.
+fn shared(state: &Reference, clause: usize) -> Option<Clause> {
+    let mut room = LARGEST;
+    let literals = state.literals(clause).into_iter();
+    literals
+        .map(|(sign, atom)| Some((sign, value(state, &state.clauses[clause], atom, &mut room)?)))
+        .collect()
+}
+
+/// Every clause is what the textbook derives from its parents, up to renaming of variables.
+fn clauses_are_textbook(name: &str, state: &Reference) -> usize {
+    let mut compared = 0;
+    let mut book: Vec<Option<Clause>> = Vec::new();
+    for (number, clause) in state.clauses.iter().enumerate() {
+        let expected = match clause.from {
+            From::Input(_) => shared(state, number),
+            From::Resolve(a, b, c, d) => match (&book[a], &book[c]) {
+                (Some(left), Some(right)) => Some(resolvent(left, b, right, d).expect(name)),
+                _ => None,
+            },
+            From::Factor(a, b, c) => book[a].as_ref().map(|parent| factor(parent, b, c).expect(name)),
+        };
+        let expected =
+            expected.filter(|literals| literals.iter().map(|(_, atom)| size(atom)).sum::<usize>() < LARGEST);
+        let expected = expected.map(|literals| canonical(&literals));
+        if let (Some(expected), Some(ours)) = (&expected, shared(state, number)) {
+            assert_eq!(&canonical(&ours), expected, "clause {number} of {name}");
+            compared += 1;
+        }
+        book.push(expected);
+    }
+    compared
+}
+
+/// A step refused with 10 or 11 has no unifier by the textbook.
+fn refusal_is_textbook(name: &str, state: &Reference, file: &[u8]) -> bool {
+    let Some((10 | 11, record)) = state.refusal else { return false };
+    let bytes = &file[16 * usize::from(record)..];
+    let field = |number: usize| usize::from(bytes[2 + 2 * number]) + 256 * usize::from(bytes[3 + 2 * number]);
+    let (Some(left), Some(right)) =
+        (shared(state, field(0)), shared(state, if bytes[0] == 5 { field(2) } else { field(0) }))
+    else {
+        return false;
+    };
+    let result = match bytes[0] {
+        5 => resolvent(&canonical(&left), field(1), &canonical(&right), field(3)),
+        _ => factor(&left, field(1), field(2)),
+    };
+    assert_eq!(result, None, "refused step of {name}");
+    true
+}
+
+/// The instances of the uses of the first empty clause are ground and have no model.
+fn instances_have_no_model(name: &str, state: &Reference, maximum: u16) -> bool {
+    let Some(empty) = state.first_empty() else { return false };
+    let uses = state.uses(empty);
+    assert_eq!(uses.len(), usize::from(maximum), "uses of {name}");
+    let mut room = 20 * LARGEST;
+    let mut instances = Vec::new();
+    for (&used, k) in uses.iter().zip(1u16..) {
+        let mut instance = Vec::new();
+        for (sign, (row, _)) in state.literals(used) {
+            let Some(atom) = value(state, &state.clauses[empty], (row, k), &mut room) else { return false };
+            instance.push((sign, textbook::replace(&atom, &|_| Term::Constant)));
+        }
+        instances.push(instance);
+    }
+    assert!(unsatisfiable(&instances), "instances of {name}");
+    true
+}
+
+/// All of these for one file; says how much could be compared.
+fn hold(name: &str, file: &[u8]) -> (usize, bool, bool) {
+    let state = Reference::check(file);
+    let ours = outcome(file);
+    assert_eq!(ours.answer.numbers(), state.answer(), "answer of {name}");
+    let compared = clauses_are_textbook(name, &state);
+    let refused = refusal_is_textbook(name, &state, file);
+    let maximum = state.first_empty().map_or(0, |empty| ours.cells.clauses[5 * empty + 2]);
+    (compared, refused, instances_have_no_model(name, &state, maximum))
+}
+
+#[test]
+fn cases_and_published_examples() {
+    for example in cases::examples().into_iter().chain(published()) {
+        if !example.name.starts_with('K') {
+            hold(&example.name, &example.file);
+        }
+    }
+}
+
+#[test]
+fn random_files() {
+    let (mut compared, mut refused, mut refuted) = (0, 0, 0);
+    for seed in 0..2000 {
+        let (clauses, refusal, model) = hold(&format!("random {seed}"), &random_file(seed));
+        compared += clauses;
+        refused += usize::from(refusal);
+        refuted += usize::from(model);
+    }
+    // Enough of each that the comparison means something.
+    assert!(compared > 20_000, "{compared} clauses compared");
+    assert!(refused > 200, "{refused} refusals compared");
+    assert!(refuted > 400, "{refuted} refutations tested");
+}
+
+#[test]
+fn the_test_for_models_is_right() {
+    let atom = |n: u16| Term::Apply(n, Vec::new());
+    let lit = |n: i32| (n > 0, atom(n.unsigned_abs() as u16));
+    let clauses = |list: &[&[i32]]| -> Vec<Clause> {
+        list.iter().map(|clause| clause.iter().map(|&n| lit(n)).collect()).collect()
+    };
+    assert!(unsatisfiable(&clauses(&[&[1, 2], &[1, -2], &[-1, 2], &[-1, -2]])));
+    assert!(!unsatisfiable(&clauses(&[&[1, 2], &[1, -2], &[-1, 2]])));
+    assert!(!unsatisfiable(&[]));
+    assert!(unsatisfiable(&clauses(&[&[]])));
+    let chain: Vec<Vec<i32>> = (1..20).map(|n| vec![-n, n + 1]).chain([vec![1], vec![-20]]).collect();
+    let chain: Vec<&[i32]> = chain.iter().map(|clause| clause.as_slice()).collect();
+    assert!(unsatisfiable(&clauses(&chain)));
+    assert!(!unsatisfiable(&clauses(&chain[1..])));
+}

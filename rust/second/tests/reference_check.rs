@@ -1,0 +1,79 @@
+//! The check and readout against the slow reference, cell for cell.
+
+mod reference;
+
+use reference::Reference;
+use yestrwyn_vectors::examples::{cases, deep, edges, published, refusals, Example};
+use yestrwyn_vectors::outcome::outcome;
+use yestrwyn_vectors::random::random_file_of;
+use yestrwyn_vectors::{damage, random_file};
+
+/// Answer, all table cells, works and readout agree.
+fn agree(name: &str, file: &[u8]) {
+    let ours = outcome(file);
+    let theirs = Reference::check(file);
+    assert_eq!(ours.answer.numbers(), theirs.answer(), "answer of {name}");
+    for (cells, used) in ours.tables().into_iter().zip(theirs.tables()) {
+        assert_eq!(cells[..used.len()], used, "table of {name}");
+        assert!(cells[used.len()..].iter().all(|&cell| cell == 0), "rest of a table of {name}");
+    }
+    let works: Vec<(u16, u32)> = ours.works.iter().map(|step| (step.record, step.work)).collect();
+    assert_eq!(works, theirs.works, "works of {name}");
+    assert_eq!(String::from_utf8_lossy(&ours.readout), theirs.readout(), "readout of {name}");
+}
+
+fn agree_all(examples: Vec<Example>) {
+    for example in examples {
+        agree(&example.name, &example.file);
+    }
+}
+
+#[test]
+fn case_sheet() {
+    agree_all(cases::examples());
+}
+
+#[test]
+fn published_examples() {
+    agree_all(published());
+}
+
+#[test]
+fn refused_files() {
+    agree_all(refusals::examples());
+}
+
+#[test]
+fn edges_of_limits_and_deep_files() {
+    // The reference recurses as deep as terms nest, and takes minutes for a derivation of 4,000 steps.
+    let fast = |example: &Example| !example.name.starts_with("deep-derivation");
+    let compare = move || {
+        agree_all(edges::examples());
+        agree_all(deep::examples().into_iter().filter(fast).collect());
+        agree("a shorter count", &deep::derivation(300));
+        agree("a shorter chain of two derived parents", &deep::two_derived(300));
+    };
+    let walk = std::thread::Builder::new().stack_size(1 << 29).spawn(compare).expect("a thread");
+    walk.join().expect("agreement");
+}
+
+#[test]
+fn random_files() {
+    for seed in 0..8000 {
+        agree(&format!("random {seed}"), &random_file(seed));
+    }
+}
+
+#[test]
+fn damaged_random_files() {
+    for seed in 0..8000 {
+        agree(&format!("damaged {seed}"), &damage(&random_file(seed), seed));
+    }
+}
+
+#[test]
+fn longer_random_files() {
+    for seed in 0..200 {
+        agree(&format!("long {seed}"), &random_file_of(seed, 150));
+    }
+}

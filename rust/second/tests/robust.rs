@@ -1,0 +1,155 @@
+//! Any bytes at all: an answer, no panic, and nothing written outside what the answer allows.
+
+use yestrwyn_second::{check_into, readout_into};
+use yestrwyn_types::record::{input_literals, part, Record};
+use yestrwyn_types::{Reason, Tables, Verdict, LENGTHS};
+use yestrwyn_vectors::examples::{cases, edges, published, refusals};
+use yestrwyn_vectors::random::SplitMix64;
+use yestrwyn_vectors::sketch::FileBuilder;
+use yestrwyn_vectors::{damage, random_file};
+
+const MARK: u16 = 0xabcd;
+
+/// Tables filled with a mark, some cells longer than they need to be.
+fn marked(extra: usize) -> [Vec<u16>; 4] {
+    LENGTHS.map(|length| vec![MARK; length + extra])
+}
+
+/// Checks a file and tests what must hold of every answer.
+fn holds(file: &[u8]) {
+    let [mut symbols, mut rows, mut clauses, mut bindings] = marked(3);
+    let mut lent =
+        Tables { symbols: &mut symbols, rows: &mut rows, clauses: &mut clauses, bindings: &mut bindings };
+    let answer = check_into(file, &mut lent);
+    let tables = [symbols, rows, clauses, bindings];
+    let untouched = matches!(answer.verdict, Verdict::Refused { reason: Reason::Length | Reason::Table, .. });
+    let counts = [answer.symbols, answer.rows, answer.clauses * 5, answer.bindings * 4];
+    for ((table, length), used) in tables.iter().zip(LENGTHS).zip(counts) {
+        assert!(table[length..].iter().all(|&cell| cell == MARK), "cells past the named part");
+        let zero = &table[usize::from(used)..length];
+        assert!(zero.iter().all(|&cell| cell == if untouched { MARK } else { 0 }), "cells not used");
+    }
+    let clauses_empty = (0..answer.clauses).find(|&clause| tables[2][5 * usize::from(clause) + 1] == 0);
+    match answer.verdict {
+        Verdict::Accepted(clause) => assert_eq!(Some(clause), clauses_empty),
+        Verdict::Open => assert_eq!(None, clauses_empty),
+        Verdict::Refused { record, .. } => {
+            let before = answer.symbols + answer.rows + answer.clauses;
+            assert_eq!(record, before, "every record before the refused one stands");
+        }
+    }
+    readout_agrees(file, &tables, untouched);
+}
+
+/// The readout leaves the tables as the check does and has a line for each clause.
+fn readout_agrees(file: &[u8], tables: &[Vec<u16>; 4], untouched: bool) {
+    let [mut symbols, mut rows, mut clauses, mut bindings] = marked(3);
+    let mut lent =
+        Tables { symbols: &mut symbols, rows: &mut rows, clauses: &mut clauses, bindings: &mut bindings };
+    let text = readout_into(file, &mut lent);
+    assert_eq!([&symbols, &rows, &clauses, &bindings], tables.each_ref());
+    assert!(text.ends_with(b"\n") && text.is_ascii());
+    let lines = text.iter().filter(|&&byte| byte == b'\n').count();
+    let stand = if untouched { 0 } else { clauses[..20_480].chunks(5).filter(|cells| cells[2] != 0).count() };
+    assert_eq!(lines, 1 + stand);
+}
+
+#[test]
+fn random_bytes() {
+    let mut random = SplitMix64::new(1);
+    for _ in 0..500 {
+        let length = random.below(400);
+        let bytes: Vec<u8> = (0..length).map(|_| random.below(256) as u8).collect();
+        holds(&bytes);
+        let small: Vec<u8> = (0..length / 16 * 16).map(|_| random.below(4) as u8).collect();
+        holds(&small);
+    }
+}
+
+#[test]
+fn random_records() {
+    let mut random = SplitMix64::new(2);
+    for _ in 0..500 {
+        let mut file = FileBuilder::new();
+        for _ in 0..random.between(1, 40) {
+            let used = random.below(8);
+            let mut fields = [0; 7];
+            fields[..used].fill_with(|| random.below(5) as u16);
+            file.raw(Record { kind: random.between(1, 6) as u8, count: random.below(3) as u8, fields });
+        }
+        holds(&file.finish());
+    }
+}
+
+#[test]
+fn damaged_files() {
+    let mut examples = cases::examples();
+    examples.extend(published());
+    examples.extend(refusals::examples());
+    for (example, seed) in examples.iter().zip(0u64..) {
+        for round in 0..6 {
+            holds(&damage(&example.file, 1000 * seed + round));
+        }
+    }
+    for seed in 0..600 {
+        holds(&damage(&damage(&random_file(seed), seed), seed + 1));
+    }
+}
+
+#[test]
+fn edges_damaged() {
+    for (example, seed) in edges::examples().iter().zip(0u64..) {
+        holds(&example.file);
+        holds(&damage(&example.file, seed));
+    }
+}
+
+#[test]
+fn short_tables_give_2_and_stay() {
+    let file = cases::case_a();
+    for short in 0..4 {
+        for length in [0, 1, LENGTHS[short] - 1] {
+            let mut tables = marked(0);
+            tables[short].truncate(length);
+            let [symbols, rows, clauses, bindings] = &mut tables;
+            let mut lent = Tables { symbols, rows, clauses, bindings };
+            let answer = check_into(&file, &mut lent);
+            assert_eq!(answer.numbers(), [2, 2, 0, 0, 0, 0, 0]);
+            let text = readout_into(&file, &mut lent);
+            assert_eq!(text, b"refused 2 at 0\n");
+            assert!(tables.iter().flatten().all(|&cell| cell == MARK));
+        }
+    }
+}
+
+#[test]
+fn a_bad_length_comes_before_short_tables() {
+    let none = || Tables { symbols: &mut [], rows: &mut [], clauses: &mut [], bindings: &mut [] };
+    let answer = check_into(&[0; 15], &mut none());
+    assert_eq!(answer.numbers(), [2, 1, 0, 0, 0, 0, 0]);
+    let answer = check_into(&[0; 16], &mut none());
+    assert_eq!(answer.numbers(), [2, 2, 0, 0, 0, 0, 0]);
+}
+
+#[test]
+fn parts_of_a_file() {
+    let file = cases::case_a();
+    assert_eq!(part(&file, 0), &file[..16]);
+    assert_eq!(part(&file, 15), &file[240..256]);
+    assert_eq!(part(&file, 16), b"");
+    assert_eq!(part(&file[..255], 15), b"");
+    assert_eq!(part(&file, u16::MAX), b"");
+    assert_eq!(input_literals(&file, 12), (2, [8, 11, 0, 0, 0, 0, 0]));
+    assert_eq!(input_literals(&file, 0), (0, [0; 7]));
+    assert_eq!(input_literals(&file, 16), (0, [0; 7]));
+}
+
+#[test]
+fn equal_seeds_give_equal_files() {
+    for seed in 0..1000 {
+        assert_eq!(random_file(seed), random_file(seed));
+        let records = random_file(seed).len() / 16;
+        assert!((5..=60).contains(&records), "{records} records from seed {seed}");
+        assert_eq!(damage(&random_file(seed), 7), damage(&random_file(seed), 7));
+    }
+}

@@ -1,0 +1,18 @@
+//! What a check of a proof file answers, the tables that it fills, and the numbers of the format.
+//!
+//! The packages `yestrwyn` (the proved check) and `yestrwyn-builder` give these types on; there is no
+//! need to name this package beside them.
+
+#![forbid(unsafe_code)]
+#![warn(missing_docs)]
+
+pub mod limits;
+pub mod record;
+
+mod answer;
+mod reason;
+mod tables;
+
+pub use answer::{Answer, Verdict, ANSWER_CELLS};
+pub use reason::Reason;
+pub use tables::{Cells, Tables, LENGTHS};

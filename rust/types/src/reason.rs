@@ -1,0 +1,111 @@
+//! Why a file is refused.
+
+use std::error::Error;
+use std::fmt;
+
+/// Why a file is refused. The format may get further numbers, so a match needs a last arm; treat what
+/// it catches as a refusal too.
+#[non_exhaustive]
+#[derive(Clone, Copy, PartialEq, Eq, Hash, Debug)]
+pub enum Reason {
+    /// Length over 65,536 or not a multiple of 16.
+    Length,
+    /// A lent table is too short.
+    Table,
+    /// Kind not 1 to 6.
+    Kind,
+    /// Byte 1 or a variable number out of its range, or an unused field not zero.
+    Range,
+    /// A symbol, row, clause or literal that does not exist, or an argument count that is not the arity.
+    Missing,
+    /// A row equal to an earlier row.
+    Repeated,
+    /// A literal whose row is a variable.
+    VariableLiteral,
+    /// Resolve on equal signs, factor on opposite signs or on one literal twice.
+    Signs,
+    /// A result of over 128 literals or with a maximum index over 4,096.
+    TooLarge,
+    /// Symbols differ.
+    Clash,
+    /// The variable occurs in what it would be bound to.
+    Occurs,
+    /// Work 16,385 would begin.
+    Work,
+    /// A binding is to be added and 8,192 are held.
+    Bindings,
+    /// A number that this version does not know: a refusal all the same.
+    Other(u16),
+}
+
+/// The reasons that have a name, from number 1 on.
+const NAMED: [Reason; 13] = [
+    Reason::Length,
+    Reason::Table,
+    Reason::Kind,
+    Reason::Range,
+    Reason::Missing,
+    Reason::Repeated,
+    Reason::VariableLiteral,
+    Reason::Signs,
+    Reason::TooLarge,
+    Reason::Clash,
+    Reason::Occurs,
+    Reason::Work,
+    Reason::Bindings,
+];
+
+impl Reason {
+    /// The number of this reason, as readouts print it.
+    pub fn number(self) -> u16 {
+        match self {
+            Reason::Length => 1,
+            Reason::Table => 2,
+            Reason::Kind => 3,
+            Reason::Range => 4,
+            Reason::Missing => 5,
+            Reason::Repeated => 6,
+            Reason::VariableLiteral => 7,
+            Reason::Signs => 8,
+            Reason::TooLarge => 9,
+            Reason::Clash => 10,
+            Reason::Occurs => 11,
+            Reason::Work => 12,
+            Reason::Bindings => 13,
+            Reason::Other(number) => number,
+        }
+    }
+
+    /// The reason of a number.
+    pub fn from_number(number: u16) -> Reason {
+        let named = NAMED.into_iter().find(|reason| reason.number() == number);
+        named.unwrap_or(Reason::Other(number))
+    }
+}
+
+impl fmt::Display for Reason {
+    fn fmt(&self, out: &mut fmt::Formatter<'_>) -> fmt::Result {
+        out.write_str(match self {
+            Reason::Length => "the length is over 65,536 bytes or not a multiple of 16",
+            Reason::Table => "a lent table is too short",
+            Reason::Kind => "the kind is not 1 to 6",
+            Reason::Range => {
+                "byte 1 or the variable number is out of its range, or an unused field is not zero"
+            }
+            Reason::Missing => {
+                "a symbol, row, clause or literal does not exist, or the number of arguments is not the arity"
+            }
+            Reason::Repeated => "the row is equal to an earlier one",
+            Reason::VariableLiteral => "the row of a literal is a variable",
+            Reason::Signs => "the signs do not fit, or a literal is factored with itself",
+            Reason::TooLarge => "the result would have over 128 literals or a maximum index over 4,096",
+            Reason::Clash => "two different symbols meet",
+            Reason::Occurs => "a variable would become something in which it occurs",
+            Reason::Work => "the step would do more than 16,384 work",
+            Reason::Bindings => "a binding is to be added and 8,192 are held",
+            Reason::Other(number) => return write!(out, "reason {number}"),
+        })
+    }
+}
+
+impl Error for Reason {}

@@ -1,0 +1,32 @@
+//! Writes the stored vectors, and what the program `cases` must print for them.
+
+use std::io::Write;
+use std::{fs, io};
+
+use yestrwyn_vectors::stored::{expected, groups, listing, listing_path, pack, pack_path, results_path};
+
+fn main() -> io::Result<()> {
+    let mut out = io::stdout().lock();
+    let groups = groups();
+    let mut total = 0;
+    for group in &groups {
+        let (files, text) = (pack(&group.examples), expected(group));
+        writeln!(
+            out,
+            "{}: {} files, {} and {} bytes",
+            group.name,
+            group.examples.len(),
+            files.len(),
+            text.len()
+        )?;
+        total += files.len() + text.len();
+        fs::write(pack_path(group.name), files)?;
+        fs::write(results_path(group.name), text)?;
+    }
+    let text = listing(&groups);
+    writeln!(out, "printed by cases: {} bytes", text.len())?;
+    total += text.len();
+    fs::write(listing_path(), text)?;
+    writeln!(out, "{total} bytes in all")?;
+    Ok(())
+}

@@ -1,0 +1,13 @@
+//! Proof files for tests: the case sheet, examples from the literature, files at the edge of every
+//! limit, deep, heavy and random ones; and the vectors that are stored of them.
+
+#![forbid(unsafe_code)]
+
+pub mod examples;
+pub mod outcome;
+pub mod random;
+pub mod shapes;
+pub mod sketch;
+pub mod stored;
+
+pub use random::{damage, random_file, random_file_of};

@@ -1,0 +1,45 @@
+//! Everything that a check and a readout give for one file, in one value: for tests and vectors.
+
+use yestrwyn_second::{check_counting, readout_into, StepWork};
+use yestrwyn_types::{Answer, Cells};
+
+/// The answer, the named parts of the four tables, the work of each step and the readout.
+#[derive(Clone, PartialEq, Eq, Debug)]
+pub struct Outcome {
+    /// Verdict and counts.
+    pub answer: Answer,
+    /// The four tables.
+    pub cells: Cells,
+    /// The work of each step that came as far as unification.
+    pub works: Vec<StepWork>,
+    /// The readout.
+    pub readout: Vec<u8>,
+}
+
+/// Checks a file with tables that are just long enough and zero before.
+pub fn outcome(file: &[u8]) -> Outcome {
+    let mut cells = Cells::new();
+    let mut works = Vec::new();
+    let answer = check_counting(file, &mut cells.lend(), &mut works);
+    let readout = readout_into(file, &mut cells.lend());
+    Outcome { answer, cells, works, readout }
+}
+
+impl Outcome {
+    /// The cells of each table that hold something by the counts.
+    pub fn used(&self) -> [&[u16]; 4] {
+        let Answer { symbols, rows, clauses, bindings, .. } = self.answer;
+        let counts = [(symbols, 1), (rows, 1), (clauses, 5), (bindings, 4)];
+        let mut used = self.tables();
+        for (cells, (count, width)) in used.iter_mut().zip(counts) {
+            *cells = &cells[..(usize::from(count) * width).min(cells.len())];
+        }
+        used
+    }
+
+    /// The named parts of the four tables.
+    pub fn tables(&self) -> [&[u16]; 4] {
+        let Cells { symbols, rows, clauses, bindings } = &self.cells;
+        [symbols, rows, clauses, bindings]
+    }
+}

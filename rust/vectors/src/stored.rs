@@ -1,0 +1,179 @@
+//! Stored vectors: packs of files, what every file gives, and what the program `cases` prints for
+//! them. The format is described in `README.md` beside the results.
+
+use std::fmt::Write;
+use std::path::{Path, PathBuf};
+
+use crate::examples::{cases, deep, edges, published, refusals, Example};
+use crate::outcome::{outcome, Outcome};
+use crate::random::{damage, random_file, random_file_of};
+
+/// Tables with at most this many used cells are written in full.
+const CELLS_IN_FULL: usize = 400;
+/// Readouts of at most this many bytes are written in full.
+const READOUT_IN_FULL: usize = 4096;
+/// At most this many works are written in full.
+const WORKS_IN_FULL: usize = 400;
+/// Number of random files, and of longer ones.
+const RANDOM_FILES: u64 = 1000;
+const LONG_FILES: u64 = 40;
+
+/// A group of vectors: the name of its two files, and the proof files in order.
+pub struct Group {
+    pub name: &'static str,
+    pub examples: Vec<Example>,
+}
+
+/// All groups that are stored.
+pub fn groups() -> Vec<Group> {
+    vec![
+        Group { name: "cases", examples: cases::examples() },
+        Group { name: "published", examples: published() },
+        Group { name: "edges", examples: edges::examples() },
+        Group { name: "refused", examples: refusals::examples() },
+        Group { name: "deep", examples: deep::examples() },
+        Group { name: "random", examples: (0..RANDOM_FILES).map(random_example).collect() },
+        Group { name: "long", examples: long_examples() },
+    ]
+}
+
+/// Where a group's pack is stored: in the folder that the program `cases` is run in.
+pub fn pack_path(group: &str) -> PathBuf {
+    repository().join("crates/cases/data").join(format!("{group}.bin"))
+}
+
+/// Where the results of a group are stored.
+pub fn results_path(group: &str) -> PathBuf {
+    repository().join("rust/vectors").join(format!("{group}.txt"))
+}
+
+/// Where the text is stored that the program `cases` must print.
+pub fn listing_path() -> PathBuf {
+    repository().join("crates/cases/stdout")
+}
+
+/// The repository's root: this package is the folder `rust/vectors` of it.
+fn repository() -> &'static Path {
+    let package = Path::new(env!("CARGO_MANIFEST_DIR"));
+    package.ancestors().nth(2).unwrap_or(package)
+}
+
+/// The random file of a seed; each fourth one is damaged with the same seed.
+pub fn random_example(seed: u64) -> Example {
+    match seed % 4 {
+        3 => Example::new(&format!("damaged-{seed}"), damage(&random_file(seed), seed)),
+        _ => Example::new(&format!("random-{seed}"), random_file(seed)),
+    }
+}
+
+/// Random files of 200 to 590 records.
+fn long_examples() -> Vec<Example> {
+    let example = |seed: u64| {
+        let records = 200 + 10 * seed as usize;
+        Example::new(&format!("long-{records}-{seed}"), random_file_of(seed, records))
+    };
+    (0..LONG_FILES).map(example).collect()
+}
+
+/// A pack of files: for each four bytes of length, low byte first, and its bytes.
+pub fn pack(examples: &[Example]) -> Vec<u8> {
+    let mut bytes = Vec::new();
+    for example in examples {
+        let length = u32::try_from(example.file.len()).unwrap_or(u32::MAX);
+        bytes.extend_from_slice(&length.to_le_bytes());
+        bytes.extend_from_slice(&example.file);
+    }
+    bytes
+}
+
+/// The files of a pack, or none if it is cut short.
+pub fn unpack(mut bytes: &[u8]) -> Option<Vec<&[u8]>> {
+    let mut files = Vec::new();
+    while !bytes.is_empty() {
+        let (length, rest) = bytes.split_first_chunk::<4>()?;
+        let length = usize::try_from(u32::from_le_bytes(*length)).ok()?;
+        files.push(rest.get(..length)?);
+        bytes = rest.get(length..)?;
+    }
+    Some(files)
+}
+
+/// What every file of a group gives, as text.
+pub fn expected(group: &Group) -> String {
+    let mut text = String::new();
+    for example in &group.examples {
+        describe(&mut text, &example.name, &outcome(&example.file));
+    }
+    text
+}
+
+/// One vector's part of the text.
+pub fn describe(text: &mut String, name: &str, outcome: &Outcome) {
+    line(text, "vector", &name);
+    line(text, "answer", &joined(outcome.answer.numbers()));
+    for (table, used) in ["symbols", "rows", "clauses", "bindings"].iter().zip(outcome.used()) {
+        if used.len() <= CELLS_IN_FULL {
+            line(text, table, &joined(used.iter().copied()));
+        }
+    }
+    line(text, "hashes", &hashes(outcome));
+    let works: Vec<String> =
+        outcome.works.iter().map(|step| format!("{}:{}", step.record, step.work)).collect();
+    if works.len() <= WORKS_IN_FULL {
+        line(text, "works", &works.join(" "));
+    }
+    let total: u64 = outcome.works.iter().map(|step| u64::from(step.work)).sum();
+    line(text, "total", &format!("{} {total}", works.len()));
+    line(text, "readout", &readout_hash(outcome));
+    if outcome.readout.len() <= READOUT_IN_FULL {
+        for part in String::from_utf8_lossy(&outcome.readout).lines() {
+            line(text, "|", &part);
+        }
+    }
+}
+
+/// What the program `cases` prints for all groups.
+pub fn listing(groups: &[Group]) -> String {
+    let mut text = String::new();
+    for group in groups {
+        line(&mut text, group.name, &group.examples.len());
+        for (place, example) in group.examples.iter().enumerate() {
+            let outcome = outcome(&example.file);
+            let answer = joined(outcome.answer.numbers());
+            let rest = format!("{answer} {} {}", hashes(&outcome), readout_hash(&outcome));
+            line(&mut text, &place.to_string(), &rest);
+        }
+    }
+    text
+}
+
+/// The hash of each table, in hexadecimal digits.
+fn hashes(outcome: &Outcome) -> String {
+    let hashes = outcome.tables().map(|cells| hash(cells.iter().flat_map(|cell| cell.to_le_bytes())));
+    hashes.map(|hash| format!("{hash:016x}")).join(" ")
+}
+
+/// The length of the readout in bytes, and its hash in hexadecimal digits.
+fn readout_hash(outcome: &Outcome) -> String {
+    format!("{} {:016x}", outcome.readout.len(), hash(outcome.readout.iter().copied()))
+}
+
+/// A line: a word, and what follows it if anything does.
+fn line(text: &mut String, word: &str, rest: &dyn std::fmt::Display) {
+    let whole = format!("{word} {rest}");
+    // Writing to a string does not fail.
+    let _ = writeln!(text, "{}", whole.trim_end());
+}
+
+/// Numbers with blanks between them.
+fn joined(numbers: impl IntoIterator<Item = u16>) -> String {
+    let written: Vec<String> = numbers.into_iter().map(|number| number.to_string()).collect();
+    written.join(" ")
+}
+
+/// FNV-1a with 64 bits.
+pub fn hash(bytes: impl Iterator<Item = u8>) -> u64 {
+    bytes.fold(0xcbf2_9ce4_8422_2325, |hash, byte| {
+        (hash ^ u64::from(byte)).wrapping_mul(0x0000_0100_0000_01b3)
+    })
+}

@@ -1,0 +1,74 @@
+//! The stored vectors are what the generator writes, and the packs can be read back.
+
+use std::fs;
+use std::path::PathBuf;
+
+use yestrwyn_vectors::stored::{
+    expected, groups, listing, listing_path, pack, pack_path, results_path, unpack,
+};
+
+const ADVICE: &str = "write them anew with `cargo run --release --bin vectors`";
+
+/// A stored file of the vectors.
+fn stored(path: PathBuf) -> Vec<u8> {
+    fs::read(&path).unwrap_or_else(|error| panic!("{}: {error}", path.display()))
+}
+
+/// A stored text is ours; otherwise the first line that differs is shown.
+fn same_text(path: PathBuf, ours: &str) {
+    let name = path.display().to_string();
+    let text = String::from_utf8(stored(path)).expect("text");
+    let differs = text.lines().zip(ours.lines()).find(|(stored, ours)| stored != ours);
+    assert_eq!(differs, None, "{name}: {ADVICE}");
+    assert_eq!(text.len(), ours.len(), "{name}: {ADVICE}");
+}
+
+#[test]
+fn stored_vectors_are_up_to_date() {
+    for group in groups() {
+        let same = stored(pack_path(group.name)) == pack(&group.examples);
+        assert!(same, "{}.bin differs: {ADVICE}", group.name);
+        same_text(results_path(group.name), &expected(&group));
+    }
+}
+
+#[test]
+fn stored_listing_is_up_to_date() {
+    same_text(listing_path(), &listing(&groups()));
+}
+
+#[test]
+fn packs_can_be_read_back() {
+    for group in groups() {
+        let bytes = stored(pack_path(group.name));
+        let files = unpack(&bytes).expect("a whole pack");
+        assert!(files.iter().eq(group.examples.iter().map(|example| &example.file)), "{}", group.name);
+        assert_eq!(unpack(&bytes[..bytes.len() - 1]), None);
+    }
+}
+
+#[test]
+fn the_vectors_are_small() {
+    let paths = |name| [pack_path(name), results_path(name)];
+    let total: usize =
+        groups().iter().flat_map(|group| paths(group.name)).map(|path| stored(path).len()).sum();
+    assert!(total < 3_000_000, "{total} bytes");
+}
+
+#[test]
+fn every_reason_but_2_has_vectors() {
+    // Reason 2 depends on the caller's tables, not on the file.
+    let text: String = groups().iter().map(expected).collect();
+    let answers: Vec<Vec<&str>> = text
+        .lines()
+        .filter(|line| line.starts_with("answer"))
+        .map(|line| line.split(' ').collect())
+        .collect();
+    for reason in (1..=13).filter(|&reason| reason != 2) {
+        let number = reason.to_string();
+        let count = answers.iter().filter(|answer| answer[1] == "2" && answer[2] == number).count();
+        assert!(count >= 3, "{count} vectors are refused with {reason}");
+    }
+    assert!(answers.iter().filter(|answer| answer[1] == "1").count() > 200);
+    assert!(answers.iter().filter(|answer| answer[1] == "0").count() > 200);
+}

@@ -1,0 +1,31 @@
+//! The proved check and readout of resolution proof files.
+//!
+//! ```no_run
+//! let file = std::fs::read("trip.proof")?;
+//! let answer = yestrwyn::check(&file)?;
+//! println!("{}", answer.verdict); // accepted N, open, or refused R at K
+//! # std::io::Result::Ok(())
+//! ```
+//!
+//! The functions behind these are written in Rattle and proved: they come to an end on every file,
+//! stay inside what they are lent, and give the verdict that the format's description says. This
+//! package hands slices to them and turns numbers into values; it is not proved, and it is the only
+//! one of this folder that calls them.
+//!
+//! [`check()`] and [`readout()`] take care of the stack themselves. Functions that end in `_here` run on
+//! the caller's, and say how much of it they need.
+
+#![warn(missing_docs)]
+
+pub mod exported;
+
+mod check;
+mod readout;
+mod stack;
+
+pub use check::{check, check_here, check_into};
+pub use readout::{
+    readout, readout_piece, readout_piece_here, write_readout, write_readout_here, Piece, Rest, ENOUGH,
+};
+pub use stack::{with_stack, STACK};
+pub use yestrwyn_types::{limits, Answer, Cells, Reason, Tables, Verdict, LENGTHS};
