@@ -1,6 +1,5 @@
 // A factor: the bindings of its parent are loaded once, two of its atoms are unified, and the clause is entered.
 use clauses::index_cell;
-use clauses::literal::NamedLiteral;
 use clauses::literals_cell;
 use entry::entry::Counts;
 use entry::entry::Entered;
@@ -9,12 +8,11 @@ use following::nodes::Nodes;
 use following::nodes::Origins;
 use following::values::ValueCells;
 use inference::Atom;
-use inference::atom_of;
+use inference::NamedPair;
 use inference::finish_step;
-use inference::named_literal;
+use inference::named_pair;
 use inference::same_sign;
 use loading::load;
-use record::field;
 use record::fields;
 use record::record_part;
 use unify::Unified;
@@ -117,26 +115,27 @@ pub fn factor_record(
     if !step_in_range(part, 3) {
         return Entered::Refused(4);
     }
-    let a = field(part, 0);
-    let b = field(part, 1);
-    let c = field(part, 2);
-    let left = named_literal(origins, clauses, counts.clauses, a, b);
-    let right = named_literal(origins, clauses, counts.clauses, a, c);
-    let NamedLiteral::Found(s, r, i) = left else {
-        return Entered::Refused(5);
-    };
-    let NamedLiteral::Found(t, q, j) = right else {
-        return Entered::Refused(5);
-    };
-    if !same_sign(s, t) {
-        return Entered::Refused(8);
-    }
-    if b == c {
-        return Entered::Refused(8);
-    }
-    let x = atom_of(a, r, i);
-    let y = atom_of(a, q, j);
     let numbers = fields(part);
+    let pair = named_pair(
+        origins,
+        clauses,
+        counts.clauses,
+        numbers[0],
+        numbers[1],
+        numbers[0],
+        numbers[2],
+    );
+    let NamedPair::Both(x, y) = pair else {
+        return Entered::Refused(5);
+    };
+    if !same_sign(x.positive, y.positive) {
+        return Entered::Refused(8);
+    }
+    if numbers[1] == numbers[2] {
+        return Entered::Refused(8);
+    }
+    let first = x.atom;
+    let second = y.atom;
     factor_atoms(
         &numbers,
         k,
@@ -146,7 +145,7 @@ pub fn factor_record(
         nodes,
         origins,
         values,
-        x,
-        y,
+        first,
+        second,
     )
 }

@@ -6,7 +6,7 @@ use mathlib.Core.List.{List, [], _∷_}
 use Prim.Native.Nat.{ℕ, _≤_, _<_}
 use native.Mathlib.Omega.{arith}
 use lib.Dec.{eqb}
-use lib.ListN.{length, length-map}
+use lib.ListN.{length, getD, length-map}
 use borrow.Author.Tests.{eq-eqb, ne-eqb}
 use Rattle.record.specs.Record.{pick, Record, recordPart, kindOf, fieldOf, fieldsOf, decoded, Kind, resolveKind, factorKind, kindNumbered, fieldA, fieldB, fieldC, fieldD}
 use Rattle.unification.proofs.Tests.{true-not-false}
@@ -17,7 +17,7 @@ use Rattle.fields.specs.Fields.{stepInRange}
 use Rattle.verdict.specs.Refusal.{Reason, outOfRange, notThere, wrongSigns, tooLarge, reasonNumber, mostLiterals, mostIndex, kindOfRecord, inRange, literalIn, literalNamed, leftOf, rightOf, deletedOf, isThere, equalSigns, onBoth, fittingSigns, bothThere, resolventFits, factorFits}
 use Rattle.verdict.specs.State.{State, entry, derivations, clauseOf}
 use Rattle.verdict.specs.Step.{refused, require, step, enter}
-use Rattle.inference.specs.Stepping.{BeforeStep, AtomOf, ClausesStored, namedAnswer, ResolveNamed, FactorNamed, StepRead}
+use Rattle.inference.specs.Stepping.{BeforeStep, AtomOf, ClausesStored, namedAnswer, signedAtom, pairAnswer, ResolveNamed, FactorNamed, StepRead}
 use Rattle.entry.proofs.Entering.{and-false}
 use Rattle.verdict.proofs.Inversions.{literal-named, not-equal, entry-none}
 use Rattle.verdict.proofs.Resolution.{at-kind}
@@ -28,6 +28,9 @@ use Rattle.entry.specs.declared.entry.Counts.{Counts}
 use Rattle.entry.specs.declared.entry.Entered.{Entered}
 use Rattle.entry.specs.declared.entry.Entered.the-variants.{Refused}
 use Rattle.inference.specs.declared.Atom.{Atom}
+use Rattle.inference.specs.declared.SignedAtom.{SignedAtom}
+use Rattle.inference.specs.declared.NamedPair.{NamedPair}
+use Rattle.inference.specs.declared.NamedPair.the-variants as pair
 
 -- A clause below the number of clauses exists.
 entry-some : {A : Type 0} (xs : List A) (n : ℕ) → n < length xs → (a : A) × (entry xs n ≡ some a)
@@ -62,20 +65,50 @@ module _ {O C : List ℕ} {count : ℕ} where
   pub named-missing : (c n : ℕ) → count ≤ c → (R : ClausesStored O C count) → Absent ≡ namedAnswer (literalNamed (R .state) c n)
   named-missing c n l R = sym (ap (λ (o : Option Derivation). namedAnswer (literalIn n o)) (entry-none (derivations (R .state)) c (omega (arith, R .size, length-map (R .state .clauses) (λ (x : ℕ × Derivation). x .1)))))
 
-absent-none : (o : Option (Derivation × Literal)) → namedAnswer o ≡ Absent → o ≡ none
-absent-none none q = refl
-absent-none (some x) q = absurd (let z : _≡_ {A = ℕ} 0 1 = cc in omega arith)
+-- The two literals that a step names, taken apart.
+module _ (a c : ℕ) (o p : Option (Derivation × Literal)) where
+  absent-none : (q : Option (Derivation × Literal)) → namedAnswer q ≡ Absent → q ≡ none
+  absent-none none e = refl
+  absent-none (some x) e = absurd (let z : _≡_ {A = ℕ} 0 1 = cc in omega arith)
 
-record FoundLiteral (o : Option (Derivation × Literal)) (s : Bool) (r i : ℕ) : Type 0 where
+  pub left-absent : namedAnswer o ≡ Absent → pair.Absent ≡ pairAnswer a c o p
+  left-absent q = sym (ap (λ (x : Option (Derivation × Literal)). pairAnswer a c x p) (absent-none o q))
+
+  pub right-absent : namedAnswer p ≡ Absent → pair.Absent ≡ pairAnswer a c o p
+  right-absent q = try o ∙ sym (ap (λ (x : Option (Derivation × Literal)). pairAnswer a c o x) (absent-none p q))
+    where
+      try : (o : Option (Derivation × Literal)) → pair.Absent ≡ pairAnswer a c o none
+      try none = refl
+      try (some x) = refl
+
+pub both-there : (a c : ℕ) (o p : Option (Derivation × Literal)) (s t : Bool) (r i q j : ℕ) → namedAnswer o ≡ Found s r i → namedAnswer p ≡ Found t q j
+    → pair.Both (record { positive = s; atom = record { clause = a; row = r; index = i } }) (record { positive = t; atom = record { clause = c; row = q; index = j } }) ≡ pairAnswer a c o p
+both-there a c none p s t r i q j e f = absurd (let z : _≡_ {A = ℕ} 0 1 = cc in omega arith)
+both-there a c (some x) none s t r i q j e f = absurd (let z : _≡_ {A = ℕ} 0 1 = cc in omega arith)
+both-there a c (some x) (some y) s t r i q j e f =
+    let es : s ≡ x .1 .0 = cc in
+    let er : r ≡ x .1 .1 .0 = cc in
+    let ei : i ≡ x .1 .1 .1 = cc in
+    let ft : t ≡ y .1 .0 = cc in
+    let fq : q ≡ y .1 .1 .0 = cc in
+    let fj : j ≡ y .1 .1 .1 = cc in
+    λ k. pair.Both (record { positive = es k; atom = record { clause = a; row = er k; index = ei k } }) (record { positive = ft k; atom = record { clause = c; row = fq k; index = fj k } })
+
+-- A literal that exists is the one answered, of clause a.
+record FoundLiteral (o : Option (Derivation × Literal)) (a : ℕ) (x : SignedAtom) : Type 0 where
   named : Derivation × Literal
   isNamed : o ≡ some named
-  isSign : named .1 .0 ≡ s
-  isRow : named .1 .1 .0 ≡ r
-  isIndex : named .1 .1 .1 ≡ i
+  isSigned : x ≡ signedAtom a (named .1)
 
-found-some : (o : Option (Derivation × Literal)) (s : Bool) (r i : ℕ) → namedAnswer o ≡ Found s r i → FoundLiteral o s r i
-found-some none s r i q = absurd (let z : _≡_ {A = ℕ} 0 1 = cc in omega arith)
-found-some (some x) s r i q = record { named = x; isNamed = refl; isSign = cc; isRow = cc; isIndex = cc }
+one-absent : (a c : ℕ) (o p : Option (Derivation × Literal)) → pairAnswer a c o p ≡ pair.Absent → bothThere o p ≡ false
+one-absent a c none p q = refl
+one-absent a c (some x) none q = refl
+one-absent a c (some x) (some y) q = absurd (let z : _≡_ {A = ℕ} 0 1 = cc in omega arith)
+
+both-found : (a c : ℕ) (o p : Option (Derivation × Literal)) (x y : SignedAtom) → pairAnswer a c o p ≡ pair.Both x y → FoundLiteral o a x × FoundLiteral p c y
+both-found a c none p x y q = absurd (let z : _≡_ {A = ℕ} 0 1 = cc in omega arith)
+both-found a c (some m) none x y q = absurd (let z : _≡_ {A = ℕ} 0 1 = cc in omega arith)
+both-found a c (some m) (some l) x y q = (record { named = m; isNamed = refl; isSigned = cc }, record { named = l; isNamed = refl; isSigned = cc })
 
 pub not-false : (b : Bool) → not b ≡ false → b ≡ true
 not-false true q = refl
@@ -125,30 +158,23 @@ module _ {F : List ℕ} {k : ℕ} {n : Counts} {C B N O A : List ℕ} (E : Befor
       → fittingSigns (E .state) factorKind (decoded (recordPart F k)) ≡ c → factorFits (E .state) (decoded (recordPart F k)) ≡ d → Step factorKind a b c d
   factor-tests e a b c d p q r s = at-kind S k rec factorKind e ∙ (λ i. require (p i) outOfRange (require (q i) notThere (require (r i) wrongSigns (require (s i) tooLarge (enter S k factorKind rec)))))
 
-  -- The literals that a step names.
-  pub left-is : (P : List ℕ) → P ≡ recordPart F k → (c m : ℕ) → c ≡ fieldOf P 0 → m ≡ fieldOf P 1 → (r : NamedLiteral) → ((R : ClausesStored O C (n .clauses)) → r ≡ namedAnswer (literalNamed (R .state) c m)) → r ≡ namedAnswer (leftOf (E .state) (decoded (recordPart F k)))
+  -- The two literals that a step names, by its fields.
+  pub pair-is : (a b c d a′ b′ c′ d′ : ℕ) → a ≡ a′ → b ≡ b′ → c ≡ c′ → d ≡ d′ → (r : NamedPair) → ((R : ClausesStored O C (n .clauses)) → r ≡ pairAnswer a c (literalNamed (R .state) a b) (literalNamed (R .state) c d))
+      → r ≡ pairAnswer a′ c′ (literalNamed (E .state) a′ b′) (literalNamed (E .state) c′ d′)
   unfolding clauses-stored
-  left-is P e c m p q r f = f clauses-stored ∙ ap₂ (λ (x y : ℕ). namedAnswer (literalNamed S x y)) (p ∙ ap (λ (l : List ℕ). fieldOf l 0) e) (q ∙ ap (λ (l : List ℕ). fieldOf l 1) e)
+  pair-is a b c d a′ b′ c′ d′ ea eb ec ed r f = f clauses-stored ∙ (λ i. pairAnswer (ea i) (ec i) (literalNamed S (ea i) (eb i)) (literalNamed S (ec i) (ed i)))
 
-  pub right-is : (P : List ℕ) → P ≡ recordPart F k → (c m : ℕ) → c ≡ fieldOf P 2 → m ≡ fieldOf P 3 → (r : NamedLiteral) → ((R : ClausesStored O C (n .clauses)) → r ≡ namedAnswer (literalNamed (R .state) c m)) → r ≡ namedAnswer (rightOf (E .state) (decoded (recordPart F k)))
-  unfolding clauses-stored
-  right-is P e c m p q r f = f clauses-stored ∙ ap₂ (λ (x y : ℕ). namedAnswer (literalNamed S x y)) (p ∙ ap (λ (l : List ℕ). fieldOf l 2) e) (q ∙ ap (λ (l : List ℕ). fieldOf l 3) e)
-
-  pub deleted-is : (P : List ℕ) → P ≡ recordPart F k → (c m : ℕ) → c ≡ fieldOf P 0 → m ≡ fieldOf P 2 → (r : NamedLiteral) → ((R : ClausesStored O C (n .clauses)) → r ≡ namedAnswer (literalNamed (R .state) c m)) → r ≡ namedAnswer (deletedOf (E .state) (decoded (recordPart F k)))
-  unfolding clauses-stored
-  deleted-is P e c m p q r f = f clauses-stored ∙ ap₂ (λ (x y : ℕ). namedAnswer (literalNamed S x y)) (p ∙ ap (λ (l : List ℕ). fieldOf l 0) e) (q ∙ ap (λ (l : List ℕ). fieldOf l 2) e)
-
-  atom-found : (c m : ℕ) (s : Bool) (r i : ℕ) → FoundLiteral (literalNamed (E .state) c m) s r i → (c′ : ℕ) → c′ ≡ c → (x : Atom) → x ≡ record { clause = c′; row = r; index = i } → AtomOf (E .state) (x .clause) (x .row) (x .index)
-  atom-found c m s r i f c′ e x q =
+  atom-found : (c m : ℕ) (x : SignedAtom) → FoundLiteral (literalNamed (E .state) c m) c x → AtomOf (E .state) (x .atom .clause) (x .atom .row) (x .atom .index)
+  atom-found c m x f =
       let l = literal-named S c m (f .named) (f .isNamed) in
       record {
         clause = f .named .0;
         literal = f .named .1;
         number = m;
-        isClause = ap (clauseOf S) (ap (λ (z : Atom). z .clause) q ∙ e) ∙ l .0;
+        isClause = ap (clauseOf S) (ap (λ (z : SignedAtom). z .atom .clause) (f .isSigned)) ∙ l .0;
         isLiteral = l .1;
-        isRow = f .isRow ∙ sym (ap (λ (z : Atom). z .row) q);
-        isIndex = f .isIndex ∙ sym (ap (λ (z : Atom). z .index) q);
+        isRow = sym (ap (λ (z : SignedAtom). z .atom .row) (f .isSigned));
+        isIndex = sym (ap (λ (z : SignedAtom). z .atom .index) (f .isSigned));
       }
 
   -- Resolve, test by test.
@@ -160,55 +186,56 @@ module _ {F : List ℕ} {k : ℕ} {n : Counts} {C B N O A : List ℕ} (E : Befor
     unfolding require
     resolve-out q = refuse outOfRange (resolve-tests (resolve-kind kd) false (bothThere (leftOf S rec) (rightOf S rec)) (fittingSigns S resolveKind rec) (resolventFits S rec) (ap (λ (l : List ℕ). stepInRange 4 (decoded l)) (sym e) ∙ sym range ∙ not-true b q) refl refl refl)
 
-    module _ (ok : not b ≡ false) (left right : NamedLiteral) (isLeft : left ≡ namedAnswer (leftOf (E .state) (decoded (recordPart F k)))) (isRight : right ≡ namedAnswer (rightOf (E .state) (decoded (recordPart F k)))) where
-      pub resolve-left-absent : left ≡ Absent → StepRead F k n C B N O A E C B O A (Refused 5)
+    module _ (ok : not b ≡ false) (ns : List ℕ) (fields : ns ≡ fieldsOf P) (r : NamedPair)
+        (named : (R : ClausesStored O C (n .clauses)) → r ≡ pairAnswer (getD ns 0 0) (getD ns 2 0) (literalNamed (R .state) (getD ns 0 0) (getD ns 1 0)) (literalNamed (R .state) (getD ns 2 0) (getD ns 3 0))) where
+      field-is : (i : ℕ) → getD ns i 0 ≡ getD (fieldsOf (recordPart F k)) i 0
+      field-is i = ap (λ (l : List ℕ). getD l i 0) (fields ∙ ap fieldsOf e)
+
+      isPair : r ≡ pairAnswer (fieldA (decoded (recordPart F k))) (fieldC (decoded (recordPart F k))) (leftOf (E .state) (decoded (recordPart F k))) (rightOf (E .state) (decoded (recordPart F k)))
+      isPair = pair-is (getD ns 0 0) (getD ns 1 0) (getD ns 2 0) (getD ns 3 0) (fieldA rec) (fieldB rec) (fieldC rec) (fieldD rec) (field-is 0) (field-is 1) (field-is 2) (field-is 3) r named
+
+      pub resolve-absent : r ≡ pair.Absent → StepRead F k n C B N O A E C B O A (Refused 5)
       unfolding require
-      resolve-left-absent q =
-          refuse notThere (resolve-tests (resolve-kind kd) true false (fittingSigns S resolveKind rec) (resolventFits S rec) (ranged ok) (ap (λ (o : Option (Derivation × Literal)). isThere o && isThere (rightOf S rec)) (absent-none (leftOf S rec) (sym isLeft ∙ q))) refl refl)
+      resolve-absent q = refuse notThere (resolve-tests (resolve-kind kd) true false (fittingSigns S resolveKind rec) (resolventFits S rec) (ranged ok) (one-absent (fieldA rec) (fieldC rec) (leftOf S rec) (rightOf S rec) (sym isPair ∙ q)) refl refl)
 
-      pub resolve-right-absent : right ≡ Absent → StepRead F k n C B N O A E C B O A (Refused 5)
-      unfolding require
-      resolve-right-absent q =
-          refuse notThere (resolve-tests (resolve-kind kd) true false (fittingSigns S resolveKind rec) (resolventFits S rec) (ranged ok) (ap (λ (o : Option (Derivation × Literal)). isThere (leftOf S rec) && isThere o) (absent-none (rightOf S rec) (sym isRight ∙ q)) ∙ and-false (isThere (leftOf S rec))) refl refl)
+      module _ (x y : SignedAtom) (q : r ≡ pair.Both x y) where
+        X : FoundLiteral (leftOf (E .state) (decoded (recordPart F k))) (fieldA (decoded (recordPart F k))) x
+        X = both-found (fieldA rec) (fieldC rec) (leftOf S rec) (rightOf S rec) x y (sym isPair ∙ q) .0
 
-      module _ (s t : Bool) (r i q j : ℕ) (l : left ≡ Found s r i) (m : right ≡ Found t q j) where
-        X : FoundLiteral (leftOf (E .state) (decoded (recordPart F k))) s r i
-        X = found-some (leftOf S rec) s r i (sym isLeft ∙ l)
+        Y : FoundLiteral (rightOf (E .state) (decoded (recordPart F k))) (fieldC (decoded (recordPart F k))) y
+        Y = both-found (fieldA rec) (fieldC rec) (leftOf S rec) (rightOf S rec) x y (sym isPair ∙ q) .1
 
-        Y : FoundLiteral (rightOf (E .state) (decoded (recordPart F k))) t q j
-        Y = found-some (rightOf S rec) t q j (sym isRight ∙ m)
+        both-named : bothThere (leftOf (E .state) (decoded (recordPart F k))) (rightOf (E .state) (decoded (recordPart F k))) ≡ true
+        both-named = ap₂ (λ (o p : Option (Derivation × Literal)). isThere o && isThere p) (X .isNamed) (Y .isNamed)
 
-        both-there : bothThere (leftOf (E .state) (decoded (recordPart F k))) (rightOf (E .state) (decoded (recordPart F k))) ≡ true
-        both-there = ap₂ (λ (o p : Option (Derivation × Literal)). isThere o && isThere p) (X .isNamed) (Y .isNamed)
-
-        sign-test : fittingSigns (E .state) resolveKind (decoded (recordPart F k)) ≡ not (equalSigns s t)
+        sign-test : fittingSigns (E .state) resolveKind (decoded (recordPart F k)) ≡ not (equalSigns (x .positive) (y .positive))
         sign-test =
-            ap₂ (λ (o p : Option (Derivation × Literal)). onBoth (λ x y. not (equalSigns (x .1 .0) (y .1 .0))) o p) (X .isNamed) (Y .isNamed)
-            ∙ ap₂ (λ (a b : Bool). not (equalSigns a b)) (X .isSign) (Y .isSign)
+            ap₂ (λ (o p : Option (Derivation × Literal)). onBoth (λ v w. not (equalSigns (v .1 .0) (w .1 .0))) o p) (X .isNamed) (Y .isNamed)
+            ∙ sym (ap₂ (λ (v w : SignedAtom). not (equalSigns (v .positive) (w .positive))) (X .isSigned) (Y .isSigned))
 
-        pub resolve-equal-signs : (z : Bool) → z ≡ equalSigns s t → z ≡ true → StepRead F k n C B N O A E C B O A (Refused 8)
+        pub resolve-equal-signs : (z : Bool) → z ≡ equalSigns (x .positive) (y .positive) → z ≡ true → StepRead F k n C B N O A E C B O A (Refused 8)
         unfolding require
-        resolve-equal-signs z p h = refuse wrongSigns (resolve-tests (resolve-kind kd) true true false (resolventFits S rec) (ranged ok) both-there (sign-test ∙ ap not (sym p ∙ h)) refl)
+        resolve-equal-signs z p h = refuse wrongSigns (resolve-tests (resolve-kind kd) true true false (resolventFits S rec) (ranged ok) both-named (sign-test ∙ ap not (sym p ∙ h)) refl)
 
-        module _ (z : Bool) (p : z ≡ equalSigns s t) (h : z ≡ false) (a c : ℕ) (pa : a ≡ fieldOf P 0) (pc : c ≡ fieldOf P 2) (x y : Atom) (isX : x ≡ record { clause = a; row = r; index = i }) (isY : y ≡ record { clause = c; row = q; index = j }) where
-          pub resolve-checked : {ns : List ℕ} → ns ≡ fieldsOf P → ResolveNamed ns k n C B N O A x y
+        module _ (z : Bool) (p : z ≡ equalSigns (x .positive) (y .positive)) (h : z ≡ false) where
+          pub resolve-checked : ResolveNamed ns k n C B N O A (x .atom) (y .atom)
           unfolding atom-found
-          resolve-checked v = record {
+          resolve-checked = record {
             file = F;
-            numbers = v ∙ ap fieldsOf e;
+            numbers = fields ∙ ap fieldsOf e;
             step = E;
             isResolve = kd;
             ranged = ranged ok;
-            left = atom-found (fieldA rec) (fieldB rec) s r i X a (pa ∙ ap (λ (l : List ℕ). fieldOf l 0) e) x isX;
-            right = atom-found (fieldC rec) (fieldD rec) t q j Y c (pc ∙ ap (λ (l : List ℕ). fieldOf l 2) e) y isY;
+            left = atom-found (fieldA rec) (fieldB rec) x X;
+            right = atom-found (fieldC rec) (fieldD rec) y Y;
             isLeft = X .isNamed;
             isRight = Y .isNamed;
             signs = sign-test ∙ ap not (sym p ∙ h);
           }
 
-          pub resolve-read : {ns : List ℕ} → ns ≡ fieldsOf P → (C′ B′ O′ A′ : List ℕ) (g : Entered) → ((R : ResolveNamed ns k n C B N O A x y) → StepRead (R .file) k n C B N O A (R .step) C′ B′ O′ A′ g) → StepRead F k n C B N O A E C′ B′ O′ A′ g
+          pub resolve-read : (C′ B′ O′ A′ : List ℕ) (g : Entered) → ((R : ResolveNamed ns k n C B N O A (x .atom) (y .atom)) → StepRead (R .file) k n C B N O A (R .step) C′ B′ O′ A′ g) → StepRead F k n C B N O A E C′ B′ O′ A′ g
           unfolding resolve-checked
-          resolve-read v C′ B′ O′ A′ g f = f (resolve-checked v)
+          resolve-read C′ B′ O′ A′ g f = f resolve-checked
 
   -- Factor, test by test.
   module _ (kd : kindOf (recordPart F k) ≡ 6) (P : List ℕ) (e : P ≡ recordPart F k) (b : Bool) (range : b ≡ stepInRange 3 (decoded P)) where
@@ -219,61 +246,63 @@ module _ {F : List ℕ} {k : ℕ} {n : Counts} {C B N O A : List ℕ} (E : Befor
     unfolding require
     factor-out q = refuse outOfRange (factor-tests (factor-kind kd) false (bothThere (leftOf S rec) (deletedOf S rec)) (fittingSigns S factorKind rec) (factorFits S rec) (ap (λ (l : List ℕ). stepInRange 3 (decoded l)) (sym e) ∙ sym range ∙ not-true b q) refl refl refl)
 
-    module _ (ok : not b ≡ false) (left right : NamedLiteral) (isLeft : left ≡ namedAnswer (leftOf (E .state) (decoded (recordPart F k)))) (isRight : right ≡ namedAnswer (deletedOf (E .state) (decoded (recordPart F k)))) where
-      pub factor-kept-absent : left ≡ Absent → StepRead F k n C B N O A E C B O A (Refused 5)
+    module _ (ok : not b ≡ false) (ns : List ℕ) (fields : ns ≡ fieldsOf P) (r : NamedPair)
+        (named : (R : ClausesStored O C (n .clauses)) → r ≡ pairAnswer (getD ns 0 0) (getD ns 0 0) (literalNamed (R .state) (getD ns 0 0) (getD ns 1 0)) (literalNamed (R .state) (getD ns 0 0) (getD ns 2 0))) where
+      factor-field : (i : ℕ) → getD ns i 0 ≡ getD (fieldsOf (recordPart F k)) i 0
+      factor-field i = ap (λ (l : List ℕ). getD l i 0) (fields ∙ ap fieldsOf e)
+
+      factor-pair : r ≡ pairAnswer (fieldA (decoded (recordPart F k))) (fieldA (decoded (recordPart F k))) (leftOf (E .state) (decoded (recordPart F k))) (deletedOf (E .state) (decoded (recordPart F k)))
+      factor-pair = pair-is (getD ns 0 0) (getD ns 1 0) (getD ns 0 0) (getD ns 2 0) (fieldA rec) (fieldB rec) (fieldA rec) (fieldC rec) (factor-field 0) (factor-field 1) (factor-field 0) (factor-field 2) r named
+
+      pub factor-absent : r ≡ pair.Absent → StepRead F k n C B N O A E C B O A (Refused 5)
       unfolding require
-      factor-kept-absent q =
-          refuse notThere (factor-tests (factor-kind kd) true false (fittingSigns S factorKind rec) (factorFits S rec) (factor-ranged ok) (ap (λ (o : Option (Derivation × Literal)). isThere o && isThere (deletedOf S rec)) (absent-none (leftOf S rec) (sym isLeft ∙ q))) refl refl)
+      factor-absent q = refuse notThere (factor-tests (factor-kind kd) true false (fittingSigns S factorKind rec) (factorFits S rec) (factor-ranged ok) (one-absent (fieldA rec) (fieldA rec) (leftOf S rec) (deletedOf S rec) (sym factor-pair ∙ q)) refl refl)
 
-      pub factor-deleted-absent : right ≡ Absent → StepRead F k n C B N O A E C B O A (Refused 5)
-      unfolding require
-      factor-deleted-absent q =
-          refuse notThere (factor-tests (factor-kind kd) true false (fittingSigns S factorKind rec) (factorFits S rec) (factor-ranged ok) (ap (λ (o : Option (Derivation × Literal)). isThere (leftOf S rec) && isThere o) (absent-none (deletedOf S rec) (sym isRight ∙ q)) ∙ and-false (isThere (leftOf S rec))) refl refl)
+      module _ (x y : SignedAtom) (q : r ≡ pair.Both x y) where
+        K : FoundLiteral (leftOf (E .state) (decoded (recordPart F k))) (fieldA (decoded (recordPart F k))) x
+        K = both-found (fieldA rec) (fieldA rec) (leftOf S rec) (deletedOf S rec) x y (sym factor-pair ∙ q) .0
 
-      module _ (s t : Bool) (r i q j : ℕ) (l : left ≡ Found s r i) (m : right ≡ Found t q j) where
-        K : FoundLiteral (leftOf (E .state) (decoded (recordPart F k))) s r i
-        K = found-some (leftOf S rec) s r i (sym isLeft ∙ l)
+        D : FoundLiteral (deletedOf (E .state) (decoded (recordPart F k))) (fieldA (decoded (recordPart F k))) y
+        D = both-found (fieldA rec) (fieldA rec) (leftOf S rec) (deletedOf S rec) x y (sym factor-pair ∙ q) .1
 
-        D : FoundLiteral (deletedOf (E .state) (decoded (recordPart F k))) t q j
-        D = found-some (deletedOf S rec) t q j (sym isRight ∙ m)
+        two-named : bothThere (leftOf (E .state) (decoded (recordPart F k))) (deletedOf (E .state) (decoded (recordPart F k))) ≡ true
+        two-named = ap₂ (λ (o p : Option (Derivation × Literal)). isThere o && isThere p) (K .isNamed) (D .isNamed)
 
-        two-there : bothThere (leftOf (E .state) (decoded (recordPart F k))) (deletedOf (E .state) (decoded (recordPart F k))) ≡ true
-        two-there = ap₂ (λ (o p : Option (Derivation × Literal)). isThere o && isThere p) (K .isNamed) (D .isNamed)
-
-        sign-of-both : fittingSigns (E .state) factorKind (decoded (recordPart F k)) ≡ (equalSigns s t && not (eqb (fieldB (decoded (recordPart F k))) (fieldC (decoded (recordPart F k)))))
+        sign-of-both : fittingSigns (E .state) factorKind (decoded (recordPart F k)) ≡ (equalSigns (x .positive) (y .positive) && not (eqb (getD ns 1 0) (getD ns 2 0)))
         sign-of-both =
-            ap₂ (λ (o p : Option (Derivation × Literal)). onBoth (λ x y. equalSigns (x .1 .0) (y .1 .0)) o p && not (eqb (fieldB rec) (fieldC rec))) (K .isNamed) (D .isNamed)
-            ∙ ap₂ (λ (a b : Bool). equalSigns a b && not (eqb (fieldB rec) (fieldC rec))) (K .isSign) (D .isSign)
+            ap₂ (λ (o p : Option (Derivation × Literal)). onBoth (λ v w. equalSigns (v .1 .0) (w .1 .0)) o p && not (eqb (fieldB rec) (fieldC rec))) (K .isNamed) (D .isNamed)
+            ∙ sym (ap₂ (λ (v w : SignedAtom). equalSigns (v .positive) (w .positive) && not (eqb (fieldB rec) (fieldC rec))) (K .isSigned) (D .isSigned))
+            ∙ sym (ap₂ (λ (i j : ℕ). equalSigns (x .positive) (y .positive) && not (eqb i j)) (factor-field 1) (factor-field 2))
 
-        pub factor-other-signs : (z : Bool) → z ≡ equalSigns s t → not z ≡ true → StepRead F k n C B N O A E C B O A (Refused 8)
+        pub factor-other-signs : (z : Bool) → z ≡ equalSigns (x .positive) (y .positive) → not z ≡ true → StepRead F k n C B N O A E C B O A (Refused 8)
         unfolding require
-        factor-other-signs z p h = refuse wrongSigns (factor-tests (factor-kind kd) true true false (factorFits S rec) (factor-ranged ok) two-there (sign-of-both ∙ ap (λ (x : Bool). x && not (eqb (fieldB rec) (fieldC rec))) (sym p ∙ not-true z h)) refl)
+        factor-other-signs z p h = refuse wrongSigns (factor-tests (factor-kind kd) true true false (factorFits S rec) (factor-ranged ok) two-named (sign-of-both ∙ ap (λ (v : Bool). v && not (eqb (getD ns 1 0) (getD ns 2 0))) (sym p ∙ not-true z h)) refl)
 
-        module _ (z : Bool) (p : z ≡ equalSigns s t) (h : not z ≡ false) (a d c : ℕ) (pa : a ≡ fieldOf P 0) (pd : d ≡ fieldOf P 1) (pc : c ≡ fieldOf P 2) where
-          different : fittingSigns (E .state) factorKind (decoded (recordPart F k)) ≡ not (eqb d c)
-          different = sign-of-both ∙ ap₂ (λ (x y : Bool). x && not y) (sym p ∙ not-false z h) (ap₂ eqb (sym (pd ∙ ap (λ (l : List ℕ). fieldOf l 1) e)) (sym (pc ∙ ap (λ (l : List ℕ). fieldOf l 2) e)))
+        module _ (z : Bool) (p : z ≡ equalSigns (x .positive) (y .positive)) (h : not z ≡ false) where
+          different : fittingSigns (E .state) factorKind (decoded (recordPart F k)) ≡ not (eqb (getD ns 1 0) (getD ns 2 0))
+          different = sign-of-both ∙ ap (λ (v : Bool). v && not (eqb (getD ns 1 0) (getD ns 2 0))) (sym p ∙ not-false z h)
 
-          pub factor-same : d ≡ c → StepRead F k n C B N O A E C B O A (Refused 8)
+          pub factor-same : getD ns 1 0 ≡ getD ns 2 0 → StepRead F k n C B N O A E C B O A (Refused 8)
           unfolding require
-          factor-same u = refuse wrongSigns (factor-tests (factor-kind kd) true true false (factorFits S rec) (factor-ranged ok) two-there (different ∙ ap not (eq-eqb d c u)) refl)
+          factor-same u = refuse wrongSigns (factor-tests (factor-kind kd) true true false (factorFits S rec) (factor-ranged ok) two-named (different ∙ ap not (eq-eqb (getD ns 1 0) (getD ns 2 0) u)) refl)
 
-          module _ (u : ¬ (d ≡ c)) (x y : Atom) (isX : x ≡ record { clause = a; row = r; index = i }) (isY : y ≡ record { clause = a; row = q; index = j }) where
-            pub factor-checked : {ns : List ℕ} → ns ≡ fieldsOf P → FactorNamed ns k n C B N O A x y
+          module _ (u : ¬ (getD ns 1 0 ≡ getD ns 2 0)) where
+            pub factor-checked : FactorNamed ns k n C B N O A (x .atom) (y .atom)
             unfolding atom-found
-            factor-checked w = record {
+            factor-checked = record {
               file = F;
-              numbers = w ∙ ap fieldsOf e;
+              numbers = fields ∙ ap fieldsOf e;
               step = E;
               isFactor = kd;
               ranged = factor-ranged ok;
-              sameClause = ap (λ (v : Atom). v .clause) isY ∙ sym (ap (λ (v : Atom). v .clause) isX);
-              kept = atom-found (fieldA rec) (fieldB rec) s r i K a (pa ∙ ap (λ (l : List ℕ). fieldOf l 0) e) x isX;
-              deleted = atom-found (fieldA rec) (fieldC rec) t q j D a (pa ∙ ap (λ (l : List ℕ). fieldOf l 0) e) y isY;
+              sameClause = ap (λ (v : SignedAtom). v .atom .clause) (D .isSigned) ∙ sym (ap (λ (v : SignedAtom). v .atom .clause) (K .isSigned));
+              kept = atom-found (fieldA rec) (fieldB rec) x K;
+              deleted = atom-found (fieldA rec) (fieldC rec) y D;
               isKept = K .isNamed;
               isDeleted = D .isNamed;
-              signs = different ∙ ap not (ne-eqb d c u);
+              signs = different ∙ ap not (ne-eqb (getD ns 1 0) (getD ns 2 0) u);
             }
 
-            pub factor-read : {ns : List ℕ} → ns ≡ fieldsOf P → (C′ B′ O′ A′ : List ℕ) (g : Entered) → ((R : FactorNamed ns k n C B N O A x y) → StepRead (R .file) k n C B N O A (R .step) C′ B′ O′ A′ g) → StepRead F k n C B N O A E C′ B′ O′ A′ g
+            pub factor-read : (C′ B′ O′ A′ : List ℕ) (g : Entered) → ((R : FactorNamed ns k n C B N O A (x .atom) (y .atom)) → StepRead (R .file) k n C B N O A (R .step) C′ B′ O′ A′ g) → StepRead F k n C B N O A E C′ B′ O′ A′ g
             unfolding factor-checked
-            factor-read v C′ B′ O′ A′ g f = f (factor-checked v)
+            factor-read C′ B′ O′ A′ g f = f factor-checked

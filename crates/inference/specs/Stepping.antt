@@ -24,6 +24,9 @@ use Rattle.entry.specs.declared.entry.Entered.the-variants as entered
 use Rattle.clauses.specs.declared.literal.NamedLiteral.{NamedLiteral}
 use Rattle.clauses.specs.declared.literal.NamedLiteral.the-variants.{Found, Absent}
 use Rattle.inference.specs.declared.Atom.{Atom}
+use Rattle.inference.specs.declared.SignedAtom.{SignedAtom}
+use Rattle.inference.specs.declared.NamedPair.{NamedPair}
+use Rattle.inference.specs.declared.NamedPair.the-variants as pair
 
 -- What a function on a step asks: what the program keeps before record k, for some tables of symbols and rows.
 pub record BeforeStep (F : List ℕ) (k : ℕ) (n : Counts) (C B N O A : List ℕ) : Type 0 where
@@ -114,6 +117,15 @@ pub record ClausesStored (O C : List ℕ) (count : ℕ) : Type 0 where
 abbrev pub namedAnswer : Option (Derivation × Literal) → NamedLiteral
 namedAnswer none = Absent
 namedAnswer (some x) = Found (x .1 .0) (x .1 .1 .0) (x .1 .1 .1)
+
+-- The two literals that a step names, of clauses a and c, as the program answers them.
+abbrev pub signedAtom : ℕ → Literal → SignedAtom
+signedAtom a l = record { positive = l .0; atom = record { clause = a; row = l .1 .0; index = l .1 .1 } }
+
+abbrev pub pairAnswer : ℕ → ℕ → Option (Derivation × Literal) → Option (Derivation × Literal) → NamedPair
+pairAnswer a c none y = pair.Absent
+pairAnswer a c (some x) none = pair.Absent
+pairAnswer a c (some x) (some y) = pair.Both (signedAtom a (x .1)) (signedAtom c (y .1))
 
 -- A resolve or a factor whose tests up to 8 have passed, with the seven fields of its record.
 pub record ResolveNamed (ns : List ℕ) (k : ℕ) (n : Counts) (C B N O A : List ℕ) (x y : Atom) : Type 0 where

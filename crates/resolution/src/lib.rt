@@ -1,6 +1,5 @@
 // A resolve: the bindings of both parents are loaded once, the two atoms are unified, and the clause is entered.
 use clauses::index_cell;
-use clauses::literal::NamedLiteral;
 use clauses::literals_cell;
 use entry::entry::Counts;
 use entry::entry::Entered;
@@ -9,12 +8,11 @@ use following::nodes::Nodes;
 use following::nodes::Origins;
 use following::values::ValueCells;
 use inference::Atom;
-use inference::atom_of;
+use inference::NamedPair;
 use inference::finish_step;
-use inference::named_literal;
+use inference::named_pair;
 use inference::same_sign;
 use loading::load;
-use record::field;
 use record::fields;
 use record::record_part;
 use unify::Unified;
@@ -134,22 +132,24 @@ pub fn resolve_record(
     if !step_in_range(part, 4) {
         return Entered::Refused(4);
     }
-    let a = field(part, 0);
-    let c = field(part, 2);
-    let left = named_literal(origins, clauses, counts.clauses, a, field(part, 1));
-    let right = named_literal(origins, clauses, counts.clauses, c, field(part, 3));
-    let NamedLiteral::Found(s, r, i) = left else {
+    let numbers = fields(part);
+    let pair = named_pair(
+        origins,
+        clauses,
+        counts.clauses,
+        numbers[0],
+        numbers[1],
+        numbers[2],
+        numbers[3],
+    );
+    let NamedPair::Both(x, y) = pair else {
         return Entered::Refused(5);
     };
-    let NamedLiteral::Found(t, q, j) = right else {
-        return Entered::Refused(5);
-    };
-    if same_sign(s, t) {
+    if same_sign(x.positive, y.positive) {
         return Entered::Refused(8);
     }
-    let x = atom_of(a, r, i);
-    let y = atom_of(c, q, j);
-    let numbers = fields(part);
+    let first = x.atom;
+    let second = y.atom;
     resolve_atoms(
         &numbers,
         k,
@@ -159,7 +159,7 @@ pub fn resolve_record(
         nodes,
         origins,
         values,
-        x,
-        y,
+        first,
+        second,
     )
 }

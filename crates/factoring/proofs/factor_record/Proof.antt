@@ -1,4 +1,5 @@
-use Rattle.inference.proofs.StepTests.{clauses-stored, left-is, deleted-is, factor-out, factor-kept-absent, factor-deleted-absent, factor-other-signs, factor-same, factor-checked, factor-read}
+-- Each way out is one law of `StepTests`.
+use Rattle.inference.proofs.StepTests.{clauses-stored, factor-out, factor-absent, factor-other-signs, factor-same, factor-checked, factor-read}
 use borrow.Author.Needs.{needs}
 use Rattle.factoring.proofs.factor_record.Statement.{statement}
 use Rattle.factoring.proofs.factor_record.Tie as tie
@@ -6,10 +7,8 @@ use Rattle.factoring.proofs.factor_record.Reads as reads
 use Rattle.factoring.proofs.factor_record.Lts as lts
 use Rattle.factoring.proofs.factor_atoms.Reads as factor-atoms-reads
 use Rattle.fields.proofs.step_in_range.Reads as step-in-range-reads
-use Rattle.inference.proofs.atom_of.Reads as atom-of-reads
-use Rattle.inference.proofs.named_literal.Reads as named-literal-reads
+use Rattle.inference.proofs.named_pair.Reads as named-pair-reads
 use Rattle.inference.proofs.same_sign.Reads as same-sign-reads
-use Rattle.record.proofs.field.Reads as field-reads
 use Rattle.record.proofs.fields.Reads as fields-reads
 use Rattle.record.proofs.record_part.Reads as record-part-reads
 
@@ -23,25 +22,27 @@ returns : tie.Need-returns
 returns c =
     λ E. factor-out E (c .before .before .before .before .before .before .pre .1) _ (c .before .before .record-part .ensures) _ (c .before .step-in-range .ensures) (c .if1 .taken)
 
-field-requires : tie.Need-field-requires
-field-requires c κs = search needs
+fields-requires : tie.Need-fields-requires
+fields-requires c κs = search needs
 
-field-requires-2 : tie.Need-field-requires-2
-field-requires-2 c κs = search needs
+array-read-named-pair : tie.Need-array-read-named-pair
+array-read-named-pair c = search needs
 
-field-requires-3 : tie.Need-field-requires-3
-field-requires-3 c κs = search needs
+array-read-named-pair-2 : tie.Need-array-read-named-pair-2
+array-read-named-pair-2 c = search needs
 
-named-literal-requires : tie.Need-named-literal-requires
-named-literal-requires c κs =
-    clauses-stored (c .before .before .before .before .before .before .before .before .before .before .before .pre .0)
+array-read-named-pair-3 : tie.Need-array-read-named-pair-3
+array-read-named-pair-3 c = search needs
 
-named-literal-requires-2 : tie.Need-named-literal-requires-2
-named-literal-requires-2 c κs =
-    clauses-stored (c .before .before .before .before .before .before .before .before .before .before .before .before .before .before .pre .0)
+array-read-named-pair-4 : tie.Need-array-read-named-pair-4
+array-read-named-pair-4 c = search needs
 
-enum-known-left : tie.Need-enum-known-left
-enum-known-left c = search needs
+named-pair-requires : tie.Need-named-pair-requires
+named-pair-requires c κs =
+    clauses-stored (c .before .before .before .before .before .before .before .before .before .pre .0)
+
+enum-known-pair : tie.Need-enum-known-pair
+enum-known-pair c = search needs
 
 enum-told : tie.Need-enum-told
 enum-told c = search needs
@@ -51,61 +52,44 @@ same-length c = search needs
 
 returns-2 : tie.Need-returns-2
 returns-2 c =
-    λ E. factor-kept-absent E (c .before .before .before .before .before .before .before .before .before .before .before .before .before .before .before .before .before .pre .1) _ (c .before .before .before .before .before .before .before .before .before .before .before .before .before .record-part .ensures) _ (c .before .before .before .before .before .before .before .before .before .before .before .before .step-in-range .ensures) (c .before .before .before .before .before .before .before .before .before .before .before .if1 .left) _ _ (left-is E _ (c .before .before .before .before .before .before .before .before .before .before .before .before .before .record-part .ensures) _ _ (c .before .before .before .before .before .before .before .before .before .before .field .ensures) (c .before .before .before .before .before .before .before .before .before .field2 .ensures) _ (c .before .before .before .before .before .named-literal .ensures)) (deleted-is E _ (c .before .before .before .before .before .before .before .before .before .before .before .before .before .record-part .ensures) _ _ (c .before .before .before .before .before .before .before .before .before .before .field .ensures) (c .before .before .before .before .before .before .before .before .field3 .ensures) _ (c .before .before .named-literal2 .ensures)) (c .enum-told .given .1)
+    λ E. factor-absent E (c .before .before .before .before .before .before .before .before .before .before .before .before .pre .1) _ (c .before .before .before .before .before .before .before .before .record-part .ensures) _ (c .before .before .before .before .before .before .before .step-in-range .ensures) (c .before .before .before .before .before .before .if1 .left) _ (c .before .before .before .before .before .fields .ensures) _ (c .before .before .named-pair .ensures) (c .enum-told .given .1)
 
-enum-known-right : tie.Need-enum-known-right
-enum-known-right c = search needs
-
-enum-told-2 : tie.Need-enum-told-2
-enum-told-2 c = search needs
+same-sign-requires : tie.Need-same-sign-requires
+same-sign-requires c κs = search needs
 
 same-length-2 : tie.Need-same-length-2
 same-length-2 c = search needs
 
 returns-3 : tie.Need-returns-3
 returns-3 c =
-    λ E. factor-deleted-absent E (c .before .before .before .before .before .before .before .before .before .before .before .before .before .before .before .before .before .before .before .before .pre .1) _ (c .before .before .before .before .before .before .before .before .before .before .before .before .before .before .before .before .record-part .ensures) _ (c .before .before .before .before .before .before .before .before .before .before .before .before .before .before .before .step-in-range .ensures) (c .before .before .before .before .before .before .before .before .before .before .before .before .before .before .if1 .left) _ _ (left-is E _ (c .before .before .before .before .before .before .before .before .before .before .before .before .before .before .before .before .record-part .ensures) _ _ (c .before .before .before .before .before .before .before .before .before .before .before .before .before .field .ensures) (c .before .before .before .before .before .before .before .before .before .before .before .before .field2 .ensures) _ (c .before .before .before .before .before .before .before .before .named-literal .ensures)) (deleted-is E _ (c .before .before .before .before .before .before .before .before .before .before .before .before .before .before .before .before .record-part .ensures) _ _ (c .before .before .before .before .before .before .before .before .before .before .before .before .before .field .ensures) (c .before .before .before .before .before .before .before .before .before .before .before .field3 .ensures) _ (c .before .before .before .before .before .named-literal2 .ensures)) (c .enum-told2 .given .1)
+    λ E. factor-other-signs E (c .before .before .before .before .before .before .before .before .before .before .before .before .before .before .before .pre .1) _ (c .before .before .before .before .before .before .before .before .before .before .before .record-part .ensures) _ (c .before .before .before .before .before .before .before .before .before .before .step-in-range .ensures) (c .before .before .before .before .before .before .before .before .before .if1 .left) _ (c .before .before .before .before .before .before .before .before .fields .ensures) _ (c .before .before .before .before .before .named-pair .ensures) _ _ (c .before .before .before .pair .given .1) _ (c .before .same-sign .ensures) (c .if2 .taken)
 
-same-sign-requires : tie.Need-same-sign-requires
-same-sign-requires c κs = search needs
+array-read-if3 : tie.Need-array-read-if3
+array-read-if3 c = search needs
+
+array-read-if3-2 : tie.Need-array-read-if3-2
+array-read-if3-2 c = search needs
 
 same-length-3 : tie.Need-same-length-3
 same-length-3 c = search needs
 
 returns-4 : tie.Need-returns-4
 returns-4 c =
-    λ E. factor-other-signs E (c .before .before .before .before .before .before .before .before .before .before .before .before .before .before .before .before .before .before .before .before .before .before .before .pre .1) _ (c .before .before .before .before .before .before .before .before .before .before .before .before .before .before .before .before .before .before .before .record-part .ensures) _ (c .before .before .before .before .before .before .before .before .before .before .before .before .before .before .before .before .before .before .step-in-range .ensures) (c .before .before .before .before .before .before .before .before .before .before .before .before .before .before .before .before .before .if1 .left) _ _ (left-is E _ (c .before .before .before .before .before .before .before .before .before .before .before .before .before .before .before .before .before .before .before .record-part .ensures) _ _ (c .before .before .before .before .before .before .before .before .before .before .before .before .before .before .before .before .field .ensures) (c .before .before .before .before .before .before .before .before .before .before .before .before .before .before .before .field2 .ensures) _ (c .before .before .before .before .before .before .before .before .before .before .before .named-literal .ensures)) (deleted-is E _ (c .before .before .before .before .before .before .before .before .before .before .before .before .before .before .before .before .before .before .before .record-part .ensures) _ _ (c .before .before .before .before .before .before .before .before .before .before .before .before .before .before .before .before .field .ensures) (c .before .before .before .before .before .before .before .before .before .before .before .before .before .before .field3 .ensures) _ (c .before .before .before .before .before .before .before .before .named-literal2 .ensures)) _ _ _ _ _ _ (c .before .before .before .before .before .before .left .given .1) (c .before .before .before .right .given .1) _ (c .before .same-sign .ensures) (c .if2 .taken)
+    λ E. factor-same E (c .before .before .before .before .before .before .before .before .before .before .before .before .before .before .before .before .pre .1) _ (c .before .before .before .before .before .before .before .before .before .before .before .before .record-part .ensures) _ (c .before .before .before .before .before .before .before .before .before .before .before .step-in-range .ensures) (c .before .before .before .before .before .before .before .before .before .before .if1 .left) _ (c .before .before .before .before .before .before .before .before .before .fields .ensures) _ (c .before .before .before .before .before .before .named-pair .ensures) _ _ (c .before .before .before .before .pair .given .1) _ (c .before .before .same-sign .ensures) (c .before .if2 .left) (c .if3 .taken)
+
+factor-atoms-requires : tie.Need-factor-atoms-requires
+factor-atoms-requires c κs =
+    factor-checked (c .before .before .before .before .before .before .before .before .before .before .before .before .before .before .before .before .before .before .before .before .before .before .before .pre .0) (c .before .before .before .before .before .before .before .before .before .before .before .before .before .before .before .before .before .before .before .before .before .before .before .pre .1) _ (c .before .before .before .before .before .before .before .before .before .before .before .before .before .before .before .before .before .before .before .record-part .ensures) _ (c .before .before .before .before .before .before .before .before .before .before .before .before .before .before .before .before .before .before .step-in-range .ensures) (c .before .before .before .before .before .before .before .before .before .before .before .before .before .before .before .before .before .if1 .left) _ (c .before .before .before .before .before .before .before .before .before .before .before .before .before .before .before .before .fields .ensures) _ (c .before .before .before .before .before .before .before .before .before .before .before .before .before .named-pair .ensures) _ _ (c .before .before .before .before .before .before .before .before .before .before .before .pair .given .1) _ (c .before .before .before .before .before .before .before .before .before .same-sign .ensures) (c .before .before .before .before .before .before .before .before .if2 .left) (c .before .before .before .before .before .before .before .if3 .left)
 
 same-length-4 : tie.Need-same-length-4
 same-length-4 c = search needs
 
-returns-5 : tie.Need-returns-5
-returns-5 c =
-    λ E. factor-same E (c .before .before .before .before .before .before .before .before .before .before .before .before .before .before .before .before .before .before .before .before .before .before .before .before .pre .1) _ (c .before .before .before .before .before .before .before .before .before .before .before .before .before .before .before .before .before .before .before .before .record-part .ensures) _ (c .before .before .before .before .before .before .before .before .before .before .before .before .before .before .before .before .before .before .before .step-in-range .ensures) (c .before .before .before .before .before .before .before .before .before .before .before .before .before .before .before .before .before .before .if1 .left) _ _ (left-is E _ (c .before .before .before .before .before .before .before .before .before .before .before .before .before .before .before .before .before .before .before .before .record-part .ensures) _ _ (c .before .before .before .before .before .before .before .before .before .before .before .before .before .before .before .before .before .field .ensures) (c .before .before .before .before .before .before .before .before .before .before .before .before .before .before .before .before .field2 .ensures) _ (c .before .before .before .before .before .before .before .before .before .before .before .before .named-literal .ensures)) (deleted-is E _ (c .before .before .before .before .before .before .before .before .before .before .before .before .before .before .before .before .before .before .before .before .record-part .ensures) _ _ (c .before .before .before .before .before .before .before .before .before .before .before .before .before .before .before .before .before .field .ensures) (c .before .before .before .before .before .before .before .before .before .before .before .before .before .before .before .field3 .ensures) _ (c .before .before .before .before .before .before .before .before .before .named-literal2 .ensures)) _ _ _ _ _ _ (c .before .before .before .before .before .before .before .left .given .1) (c .before .before .before .before .right .given .1) _ (c .before .before .same-sign .ensures) (c .before .if2 .left) _ _ _ (c .before .before .before .before .before .before .before .before .before .before .before .before .before .before .before .before .before .field .ensures) (c .before .before .before .before .before .before .before .before .before .before .before .before .before .before .before .before .field2 .ensures) (c .before .before .before .before .before .before .before .before .before .before .before .before .before .before .before .field3 .ensures) (c .if3 .taken)
-
-atom-of-requires : tie.Need-atom-of-requires
-atom-of-requires c κs = search needs
-
-atom-of-requires-2 : tie.Need-atom-of-requires-2
-atom-of-requires-2 c κs = search needs
-
-fields-requires : tie.Need-fields-requires
-fields-requires c κs = search needs
-
-factor-atoms-requires : tie.Need-factor-atoms-requires
-factor-atoms-requires c κs =
-    let E = c .before .before .before .before .before .before .before .before .before .before .before .before .before .before .before .before .before .before .before .before .before .before .before .before .before .before .before .before .before .before .before .before .pre .0 in
-    factor-checked E (c .before .before .before .before .before .before .before .before .before .before .before .before .before .before .before .before .before .before .before .before .before .before .before .before .before .before .before .before .before .before .before .before .pre .1) _ (c .before .before .before .before .before .before .before .before .before .before .before .before .before .before .before .before .before .before .before .before .before .before .before .before .before .before .before .before .record-part .ensures) _ (c .before .before .before .before .before .before .before .before .before .before .before .before .before .before .before .before .before .before .before .before .before .before .before .before .before .before .before .step-in-range .ensures) (c .before .before .before .before .before .before .before .before .before .before .before .before .before .before .before .before .before .before .before .before .before .before .before .before .before .before .if1 .left) _ _ (left-is E _ (c .before .before .before .before .before .before .before .before .before .before .before .before .before .before .before .before .before .before .before .before .before .before .before .before .before .before .before .before .record-part .ensures) _ _ (c .before .before .before .before .before .before .before .before .before .before .before .before .before .before .before .before .before .before .before .before .before .before .before .before .before .field .ensures) (c .before .before .before .before .before .before .before .before .before .before .before .before .before .before .before .before .before .before .before .before .before .before .before .before .field2 .ensures) _ (c .before .before .before .before .before .before .before .before .before .before .before .before .before .before .before .before .before .before .before .before .named-literal .ensures)) (deleted-is E _ (c .before .before .before .before .before .before .before .before .before .before .before .before .before .before .before .before .before .before .before .before .before .before .before .before .before .before .before .before .record-part .ensures) _ _ (c .before .before .before .before .before .before .before .before .before .before .before .before .before .before .before .before .before .before .before .before .before .before .before .before .before .field .ensures) (c .before .before .before .before .before .before .before .before .before .before .before .before .before .before .before .before .before .before .before .before .before .before .before .field3 .ensures) _ (c .before .before .before .before .before .before .before .before .before .before .before .before .before .before .before .before .before .named-literal2 .ensures)) _ _ _ _ _ _ (c .before .before .before .before .before .before .before .before .before .before .before .before .before .before .before .left .given .1) (c .before .before .before .before .before .before .before .before .before .before .before .before .right .given .1) _ (c .before .before .before .before .before .before .before .before .before .before .same-sign .ensures) (c .before .before .before .before .before .before .before .before .before .if2 .left) _ _ _ (c .before .before .before .before .before .before .before .before .before .before .before .before .before .before .before .before .before .before .before .before .before .before .before .before .before .field .ensures) (c .before .before .before .before .before .before .before .before .before .before .before .before .before .before .before .before .before .before .before .before .before .before .before .before .field2 .ensures) (c .before .before .before .before .before .before .before .before .before .before .before .before .before .before .before .before .before .before .before .before .before .before .before .field3 .ensures) (c .before .before .before .before .before .before .before .before .if3 .left) _ _ (c .before .before .before .before .before .before .before .atom-of .ensures) (c .before .before .before .before .before .before .atom-of2 .ensures) (c .before .before .before .before .before .fields .ensures)
-
 same-length-5 : tie.Need-same-length-5
 same-length-5 c = search needs
 
-same-length-6 : tie.Need-same-length-6
-same-length-6 c = search needs
-
-returns-6 : tie.Need-returns-6
-returns-6 c =
-    λ E. factor-read E (c .before .before .before .before .before .before .before .before .before .before .before .before .before .before .before .before .before .before .before .before .before .before .before .before .before .before .before .before .before .before .before .before .before .before .before .before .before .pre .1) _ (c .before .before .before .before .before .before .before .before .before .before .before .before .before .before .before .before .before .before .before .before .before .before .before .before .before .before .before .before .before .before .before .before .before .record-part .ensures) _ (c .before .before .before .before .before .before .before .before .before .before .before .before .before .before .before .before .before .before .before .before .before .before .before .before .before .before .before .before .before .before .before .before .step-in-range .ensures) (c .before .before .before .before .before .before .before .before .before .before .before .before .before .before .before .before .before .before .before .before .before .before .before .before .before .before .before .before .before .before .before .if1 .left) _ _ (left-is E _ (c .before .before .before .before .before .before .before .before .before .before .before .before .before .before .before .before .before .before .before .before .before .before .before .before .before .before .before .before .before .before .before .before .before .record-part .ensures) _ _ (c .before .before .before .before .before .before .before .before .before .before .before .before .before .before .before .before .before .before .before .before .before .before .before .before .before .before .before .before .before .before .field .ensures) (c .before .before .before .before .before .before .before .before .before .before .before .before .before .before .before .before .before .before .before .before .before .before .before .before .before .before .before .before .before .field2 .ensures) _ (c .before .before .before .before .before .before .before .before .before .before .before .before .before .before .before .before .before .before .before .before .before .before .before .before .before .named-literal .ensures)) (deleted-is E _ (c .before .before .before .before .before .before .before .before .before .before .before .before .before .before .before .before .before .before .before .before .before .before .before .before .before .before .before .before .before .before .before .before .before .record-part .ensures) _ _ (c .before .before .before .before .before .before .before .before .before .before .before .before .before .before .before .before .before .before .before .before .before .before .before .before .before .before .before .before .before .before .field .ensures) (c .before .before .before .before .before .before .before .before .before .before .before .before .before .before .before .before .before .before .before .before .before .before .before .before .before .before .before .before .field3 .ensures) _ (c .before .before .before .before .before .before .before .before .before .before .before .before .before .before .before .before .before .before .before .before .before .before .named-literal2 .ensures)) _ _ _ _ _ _ (c .before .before .before .before .before .before .before .before .before .before .before .before .before .before .before .before .before .before .before .before .left .given .1) (c .before .before .before .before .before .before .before .before .before .before .before .before .before .before .before .before .before .right .given .1) _ (c .before .before .before .before .before .before .before .before .before .before .before .before .before .before .before .same-sign .ensures) (c .before .before .before .before .before .before .before .before .before .before .before .before .before .before .if2 .left) _ _ _ (c .before .before .before .before .before .before .before .before .before .before .before .before .before .before .before .before .before .before .before .before .before .before .before .before .before .before .before .before .before .before .field .ensures) (c .before .before .before .before .before .before .before .before .before .before .before .before .before .before .before .before .before .before .before .before .before .before .before .before .before .before .before .before .before .field2 .ensures) (c .before .before .before .before .before .before .before .before .before .before .before .before .before .before .before .before .before .before .before .before .before .before .before .before .before .before .before .before .field3 .ensures) (c .before .before .before .before .before .before .before .before .before .before .before .before .before .if3 .left) _ _ (c .before .before .before .before .before .before .before .before .before .before .before .before .atom-of .ensures) (c .before .before .before .before .before .before .before .before .before .before .before .atom-of2 .ensures) (c .before .before .before .before .before .before .before .before .before .before .fields .ensures) _ _ _ _ _ (c .before .before .before .before .factor-atoms .ensures)
+returns-5 : tie.Need-returns-5
+returns-5 c =
+    λ E. factor-read E (c .before .before .before .before .before .before .before .before .before .before .before .before .before .before .before .before .before .before .before .before .before .before .before .before .before .before .before .before .pre .1) _ (c .before .before .before .before .before .before .before .before .before .before .before .before .before .before .before .before .before .before .before .before .before .before .before .before .record-part .ensures) _ (c .before .before .before .before .before .before .before .before .before .before .before .before .before .before .before .before .before .before .before .before .before .before .before .step-in-range .ensures) (c .before .before .before .before .before .before .before .before .before .before .before .before .before .before .before .before .before .before .before .before .before .before .if1 .left) _ (c .before .before .before .before .before .before .before .before .before .before .before .before .before .before .before .before .before .before .before .before .before .fields .ensures) _ (c .before .before .before .before .before .before .before .before .before .before .before .before .before .before .before .before .before .before .named-pair .ensures) _ _ (c .before .before .before .before .before .before .before .before .before .before .before .before .before .before .before .before .pair .given .1) _ (c .before .before .before .before .before .before .before .before .before .before .before .before .before .before .same-sign .ensures) (c .before .before .before .before .before .before .before .before .before .before .before .before .before .if2 .left) (c .before .before .before .before .before .before .before .before .before .before .before .before .if3 .left) _ _ _ _ _ (c .before .before .before .before .factor-atoms .ensures)
 
 pub factor-record-spec : {M : Type 1} → statement M
 factor-record-spec =
@@ -114,28 +98,24 @@ factor-record-spec =
     record-part-requires
     step-in-range-requires
     returns
-    field-requires
-    field-requires-2
-    field-requires-3
-    named-literal-requires
-    named-literal-requires-2
-    enum-known-left
+    fields-requires
+    array-read-named-pair
+    array-read-named-pair-2
+    array-read-named-pair-3
+    array-read-named-pair-4
+    named-pair-requires
+    enum-known-pair
     enum-told
     same-length
     returns-2
-    enum-known-right
-    enum-told-2
+    same-sign-requires
     same-length-2
     returns-3
-    same-sign-requires
+    array-read-if3
+    array-read-if3-2
     same-length-3
     returns-4
-    same-length-4
-    returns-5
-    atom-of-requires
-    atom-of-requires-2
-    fields-requires
     factor-atoms-requires
+    same-length-4
     same-length-5
-    same-length-6
-    returns-6)
+    returns-5)
