@@ -41,7 +41,15 @@ untouched-requires-2 c κs = search needs
 
 returns-2 : tie.Need-returns-2
 returns-2 c =
-    checked-tables-with _ _ _ _ _ (c .before .before .before .before .fitting-length .ensures) (c .before .before .before .before .before .before .before .before .before .whole-table .ensures) (c .before .before .before .before .before .before .before .whole-table2 .ensures) (c .before .before .before .before .before .whole-values .ensures) (c .before .before .before .if1 .left) _ (c .before .before .long-enough .ensures) (c .before .if2 .taken) (c .untouched2 .ensures)
+    let fitting-length-says = c .before .before .before .before .fitting-length .ensures in
+    let whole-table2-says = c .before .before .before .before .before .before .before .whole-table2 .ensures in
+    let whole-values-says = c .before .before .before .before .before .whole-values .ensures in
+    let whole-table-says = c .before .before .before .before .before .before .before .before .before .whole-table .ensures in
+    let long-enough-says = c .before .before .long-enough .ensures in
+    let untouched2-says = c .untouched2 .ensures in
+    let if2-taken = c .before .if2 .taken in
+    let if1-left = c .before .before .before .if1 .left in
+    checked-tables-with _ _ _ _ _ fitting-length-says whole-table-says whole-table2-says whole-values-says if1-left _ long-enough-says if2-taken untouched2-says
 
 clear-table-requires : tie.Need-clear-table-requires
 clear-table-requires c κs = search needs
@@ -51,7 +59,14 @@ clear-table-requires-2 c κs = search needs
 
 read-tables-requires : tie.Need-read-tables-requires
 read-tables-requires c κs =
-    record { readable = readable _ _ _ (c .before .before .before .before .before .before .before .before .before .before .before .before .before .before .fitting-length .ensures) (c .before .before .before .before .before .before .before .before .before .before .before .before .before .if1 .left) _ (c .before .before .before .before .before .before .before .before .before .before .before .before .long-enough .ensures) (c .before .before .before .before .before .before .before .before .before .before .before .if2 .left); empty = record { nodes = c .before .before .before .before .before .before .before .before .before .clear-table .ensures ∙ cleared-nodes; origins = c .before .before .before .before .before .before .before .clear-table2 .ensures ∙ cleared-origins; values = c .before .before .before .before .before .before .before .before .before .before .before .before .before .before .before .whole-values .ensures } }
+    let fitting-length-says = c .before .before .before .before .before .before .before .before .before .before .before .before .before .before .fitting-length .ensures in
+    let clear-table2-says = c .before .before .before .before .before .before .before .clear-table2 .ensures in
+    let whole-values-says = c .before .before .before .before .before .before .before .before .before .before .before .before .before .before .before .whole-values .ensures in
+    let long-enough-says = c .before .before .before .before .before .before .before .before .before .before .before .before .long-enough .ensures in
+    let clear-table-says = c .before .before .before .before .before .before .before .before .before .clear-table .ensures in
+    let if1-left = c .before .before .before .before .before .before .before .before .before .before .before .before .before .if1 .left in
+    let if2-left = c .before .before .before .before .before .before .before .before .before .before .before .if2 .left in
+    record { readable = readable _ _ _ fitting-length-says if1-left _ long-enough-says if2-left; empty = record { nodes = clear-table-says ∙ cleared-nodes; origins = clear-table2-says ∙ cleared-origins; values = whole-values-says } }
 
 same-length : tie.Need-same-length
 same-length c = search needs
@@ -67,7 +82,15 @@ same-length-4 c = search needs
 
 returns-3 : tie.Need-returns-3
 returns-3 c =
-    checked-read-with _ _ _ _ _ (c .before .before .before .before .before .before .before .before .before .before .before .before .before .before .before .before .before .before .before .before .before .before .before .fitting-length .ensures) (c .before .before .before .before .before .before .before .before .before .before .before .before .before .before .before .before .before .before .before .before .before .before .before .before .before .before .before .before .whole-table .ensures) (c .before .before .before .before .before .before .before .before .before .before .before .before .before .before .before .before .before .before .before .before .before .before .before .before .before .before .whole-table2 .ensures) (c .before .before .before .before .before .before .before .before .before .before .before .before .before .before .before .before .before .before .before .before .before .before .before .before .whole-values .ensures) (c .before .before .before .before .before .before .before .before .before .before .before .before .before .before .before .before .before .before .before .before .before .before .if1 .left) _ (c .before .before .before .before .before .before .before .before .before .before .before .before .before .before .before .before .before .before .before .before .before .long-enough .ensures) (c .before .before .before .before .before .before .before .before .before .before .before .before .before .before .before .before .before .before .before .before .if2 .left) _ _ _ _ (c .before .before .before .before .before .before .before .before .read-tables .ensures)
+    let fitting-length-says = c .before .before .before .before .before .before .before .before .before .before .before .before .before .before .before .before .before .before .before .before .before .before .before .fitting-length .ensures in
+    let whole-table2-says = c .before .before .before .before .before .before .before .before .before .before .before .before .before .before .before .before .before .before .before .before .before .before .before .before .before .before .whole-table2 .ensures in
+    let whole-values-says = c .before .before .before .before .before .before .before .before .before .before .before .before .before .before .before .before .before .before .before .before .before .before .before .before .whole-values .ensures in
+    let whole-table-says = c .before .before .before .before .before .before .before .before .before .before .before .before .before .before .before .before .before .before .before .before .before .before .before .before .before .before .before .before .whole-table .ensures in
+    let long-enough-says = c .before .before .before .before .before .before .before .before .before .before .before .before .before .before .before .before .before .before .before .before .before .long-enough .ensures in
+    let read-tables-says = c .before .before .before .before .before .before .before .before .read-tables .ensures in
+    let if1-left = c .before .before .before .before .before .before .before .before .before .before .before .before .before .before .before .before .before .before .before .before .before .before .if1 .left in
+    let if2-left = c .before .before .before .before .before .before .before .before .before .before .before .before .before .before .before .before .before .before .before .before .if2 .left in
+    checked-read-with _ _ _ _ _ fitting-length-says whole-table-says whole-table2-says whole-values-says if1-left _ long-enough-says if2-left _ _ _ _ read-tables-says
 
 pub check-with-spec : {M : Type 1} → statement M
 check-with-spec =

@@ -28,7 +28,15 @@ clear-requires-4 c κs =
 
 read-records-requires : tie.Need-read-records-requires
 read-records-requires c κs =
-    begun (c .before .before .before .before .before .before .before .before .before .before .before .before .before .before .before .before .before .before .before .before .before .before .before .before .before .before .before .before .pre .readable) (c .before .before .before .before .before .before .before .before .before .before .before .before .before .before .before .before .before .before .before .before .before .clear .ensures) (c .before .before .before .before .before .before .before .before .before .before .before .before .before .before .before .before .before .clear2 .ensures) (c .before .before .before .before .before .before .before .before .before .before .before .before .before .clear3 .ensures) (c .before .before .before .before .before .before .before .before .before .clear4 .ensures) (c .before .before .before .before .before .before .before .before .before .before .before .before .before .before .before .before .before .before .before .before .before .before .before .before .before .before .before .before .pre .empty .values) _ _ (c .before .before .before .before .before .before .before .before .before .before .before .before .before .before .before .before .before .before .before .before .before .before .before .before .before .before .before .before .pre .empty .nodes) (c .before .before .before .before .before .before .before .before .before .before .before .before .before .before .before .before .before .before .before .before .before .before .before .before .before .before .before .before .pre .empty .origins)
+    let at-start-asked-empty-origins = c .before .before .before .before .before .before .before .before .before .before .before .before .before .before .before .before .before .before .before .before .before .before .before .before .before .before .before .before .pre .empty .origins in
+    let at-start-asked-empty-values = c .before .before .before .before .before .before .before .before .before .before .before .before .before .before .before .before .before .before .before .before .before .before .before .before .before .before .before .before .pre .empty .values in
+    let at-start-asked-empty-nodes = c .before .before .before .before .before .before .before .before .before .before .before .before .before .before .before .before .before .before .before .before .before .before .before .before .before .before .before .before .pre .empty .nodes in
+    let at-start-asked-readable = c .before .before .before .before .before .before .before .before .before .before .before .before .before .before .before .before .before .before .before .before .before .before .before .before .before .before .before .before .pre .readable in
+    let clear2-says = c .before .before .before .before .before .before .before .before .before .before .before .before .before .before .before .before .before .clear2 .ensures in
+    let clear3-says = c .before .before .before .before .before .before .before .before .before .before .before .before .before .clear3 .ensures in
+    let clear4-says = c .before .before .before .before .before .before .before .before .before .clear4 .ensures in
+    let clear-says = c .before .before .before .before .before .before .before .before .before .before .before .before .before .before .before .before .before .before .before .before .before .clear .ensures in
+    begun at-start-asked-readable clear-says clear2-says clear3-says clear4-says at-start-asked-empty-values _ _ at-start-asked-empty-nodes at-start-asked-empty-origins
 
 ended-answer-requires : tie.Need-ended-answer-requires
 ended-answer-requires c κs = search needs

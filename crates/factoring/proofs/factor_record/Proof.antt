@@ -52,7 +52,14 @@ same-length c = search needs
 
 returns-2 : tie.Need-returns-2
 returns-2 c =
-    λ E. factor-absent E (c .before .before .before .before .before .before .before .before .before .before .before .before .pre .1) _ (c .before .before .before .before .before .before .before .before .record-part .ensures) _ (c .before .before .before .before .before .before .before .step-in-range .ensures) (c .before .before .before .before .before .before .if1 .left) _ (c .before .before .before .before .before .fields .ensures) _ (c .before .before .named-pair .ensures) (c .enum-told .given .1)
+    let step-in-range-says = c .before .before .before .before .before .before .before .step-in-range .ensures in
+    let record-part-says = c .before .before .before .before .before .before .before .before .record-part .ensures in
+    let named-pair-says = c .before .before .named-pair .ensures in
+    let enum-told-given-1 = c .enum-told .given .1 in
+    let fields-says = c .before .before .before .before .before .fields .ensures in
+    let at-start-asked-1 = c .before .before .before .before .before .before .before .before .before .before .before .before .pre .1 in
+    let if1-left = c .before .before .before .before .before .before .if1 .left in
+    λ E. factor-absent E at-start-asked-1 _ record-part-says _ step-in-range-says if1-left _ fields-says _ named-pair-says enum-told-given-1
 
 same-sign-requires : tie.Need-same-sign-requires
 same-sign-requires c κs = search needs
@@ -62,7 +69,16 @@ same-length-2 c = search needs
 
 returns-3 : tie.Need-returns-3
 returns-3 c =
-    λ E. factor-other-signs E (c .before .before .before .before .before .before .before .before .before .before .before .before .before .before .before .pre .1) _ (c .before .before .before .before .before .before .before .before .before .before .before .record-part .ensures) _ (c .before .before .before .before .before .before .before .before .before .before .step-in-range .ensures) (c .before .before .before .before .before .before .before .before .before .if1 .left) _ (c .before .before .before .before .before .before .before .before .fields .ensures) _ (c .before .before .before .before .before .named-pair .ensures) _ _ (c .before .before .before .pair .given .1) _ (c .before .same-sign .ensures) (c .if2 .taken)
+    let step-in-range-says = c .before .before .before .before .before .before .before .before .before .before .step-in-range .ensures in
+    let record-part-says = c .before .before .before .before .before .before .before .before .before .before .before .record-part .ensures in
+    let named-pair-says = c .before .before .before .before .before .named-pair .ensures in
+    let same-sign-says = c .before .same-sign .ensures in
+    let fields-says = c .before .before .before .before .before .before .before .before .fields .ensures in
+    let pair-given-1 = c .before .before .before .pair .given .1 in
+    let at-start-asked-1 = c .before .before .before .before .before .before .before .before .before .before .before .before .before .before .before .pre .1 in
+    let if2-taken = c .if2 .taken in
+    let if1-left = c .before .before .before .before .before .before .before .before .before .if1 .left in
+    λ E. factor-other-signs E at-start-asked-1 _ record-part-says _ step-in-range-says if1-left _ fields-says _ named-pair-says _ _ pair-given-1 _ same-sign-says if2-taken
 
 array-read-if3 : tie.Need-array-read-if3
 array-read-if3 c = search needs
@@ -75,11 +91,32 @@ same-length-3 c = search needs
 
 returns-4 : tie.Need-returns-4
 returns-4 c =
-    λ E. factor-same E (c .before .before .before .before .before .before .before .before .before .before .before .before .before .before .before .before .pre .1) _ (c .before .before .before .before .before .before .before .before .before .before .before .before .record-part .ensures) _ (c .before .before .before .before .before .before .before .before .before .before .before .step-in-range .ensures) (c .before .before .before .before .before .before .before .before .before .before .if1 .left) _ (c .before .before .before .before .before .before .before .before .before .fields .ensures) _ (c .before .before .before .before .before .before .named-pair .ensures) _ _ (c .before .before .before .before .pair .given .1) _ (c .before .before .same-sign .ensures) (c .before .if2 .left) (c .if3 .taken)
+    let step-in-range-says = c .before .before .before .before .before .before .before .before .before .before .before .step-in-range .ensures in
+    let record-part-says = c .before .before .before .before .before .before .before .before .before .before .before .before .record-part .ensures in
+    let named-pair-says = c .before .before .before .before .before .before .named-pair .ensures in
+    let same-sign-says = c .before .before .same-sign .ensures in
+    let fields-says = c .before .before .before .before .before .before .before .before .before .fields .ensures in
+    let pair-given-1 = c .before .before .before .before .pair .given .1 in
+    let at-start-asked-1 = c .before .before .before .before .before .before .before .before .before .before .before .before .before .before .before .before .pre .1 in
+    let if3-taken = c .if3 .taken in
+    let if1-left = c .before .before .before .before .before .before .before .before .before .before .if1 .left in
+    let if2-left = c .before .if2 .left in
+    λ E. factor-same E at-start-asked-1 _ record-part-says _ step-in-range-says if1-left _ fields-says _ named-pair-says _ _ pair-given-1 _ same-sign-says if2-left if3-taken
 
 factor-atoms-requires : tie.Need-factor-atoms-requires
 factor-atoms-requires c κs =
-    factor-checked (c .before .before .before .before .before .before .before .before .before .before .before .before .before .before .before .before .before .before .before .before .before .before .before .pre .0) (c .before .before .before .before .before .before .before .before .before .before .before .before .before .before .before .before .before .before .before .before .before .before .before .pre .1) _ (c .before .before .before .before .before .before .before .before .before .before .before .before .before .before .before .before .before .before .before .record-part .ensures) _ (c .before .before .before .before .before .before .before .before .before .before .before .before .before .before .before .before .before .before .step-in-range .ensures) (c .before .before .before .before .before .before .before .before .before .before .before .before .before .before .before .before .before .if1 .left) _ (c .before .before .before .before .before .before .before .before .before .before .before .before .before .before .before .before .fields .ensures) _ (c .before .before .before .before .before .before .before .before .before .before .before .before .before .named-pair .ensures) _ _ (c .before .before .before .before .before .before .before .before .before .before .before .pair .given .1) _ (c .before .before .before .before .before .before .before .before .before .same-sign .ensures) (c .before .before .before .before .before .before .before .before .if2 .left) (c .before .before .before .before .before .before .before .if3 .left)
+    let step-in-range-says = c .before .before .before .before .before .before .before .before .before .before .before .before .before .before .before .before .before .before .step-in-range .ensures in
+    let record-part-says = c .before .before .before .before .before .before .before .before .before .before .before .before .before .before .before .before .before .before .before .record-part .ensures in
+    let named-pair-says = c .before .before .before .before .before .before .before .before .before .before .before .before .before .named-pair .ensures in
+    let same-sign-says = c .before .before .before .before .before .before .before .before .before .same-sign .ensures in
+    let fields-says = c .before .before .before .before .before .before .before .before .before .before .before .before .before .before .before .before .fields .ensures in
+    let pair-given-1 = c .before .before .before .before .before .before .before .before .before .before .before .pair .given .1 in
+    let at-start-asked-0 = c .before .before .before .before .before .before .before .before .before .before .before .before .before .before .before .before .before .before .before .before .before .before .before .pre .0 in
+    let at-start-asked-1 = c .before .before .before .before .before .before .before .before .before .before .before .before .before .before .before .before .before .before .before .before .before .before .before .pre .1 in
+    let if1-left = c .before .before .before .before .before .before .before .before .before .before .before .before .before .before .before .before .before .if1 .left in
+    let if2-left = c .before .before .before .before .before .before .before .before .if2 .left in
+    let if3-left = c .before .before .before .before .before .before .before .if3 .left in
+    factor-checked at-start-asked-0 at-start-asked-1 _ record-part-says _ step-in-range-says if1-left _ fields-says _ named-pair-says _ _ pair-given-1 _ same-sign-says if2-left if3-left
 
 same-length-4 : tie.Need-same-length-4
 same-length-4 c = search needs
@@ -89,7 +126,18 @@ same-length-5 c = search needs
 
 returns-5 : tie.Need-returns-5
 returns-5 c =
-    λ E. factor-read E (c .before .before .before .before .before .before .before .before .before .before .before .before .before .before .before .before .before .before .before .before .before .before .before .before .before .before .before .before .pre .1) _ (c .before .before .before .before .before .before .before .before .before .before .before .before .before .before .before .before .before .before .before .before .before .before .before .before .record-part .ensures) _ (c .before .before .before .before .before .before .before .before .before .before .before .before .before .before .before .before .before .before .before .before .before .before .before .step-in-range .ensures) (c .before .before .before .before .before .before .before .before .before .before .before .before .before .before .before .before .before .before .before .before .before .before .if1 .left) _ (c .before .before .before .before .before .before .before .before .before .before .before .before .before .before .before .before .before .before .before .before .before .fields .ensures) _ (c .before .before .before .before .before .before .before .before .before .before .before .before .before .before .before .before .before .before .named-pair .ensures) _ _ (c .before .before .before .before .before .before .before .before .before .before .before .before .before .before .before .before .pair .given .1) _ (c .before .before .before .before .before .before .before .before .before .before .before .before .before .before .same-sign .ensures) (c .before .before .before .before .before .before .before .before .before .before .before .before .before .if2 .left) (c .before .before .before .before .before .before .before .before .before .before .before .before .if3 .left) _ _ _ _ _ (c .before .before .before .before .factor-atoms .ensures)
+    let step-in-range-says = c .before .before .before .before .before .before .before .before .before .before .before .before .before .before .before .before .before .before .before .before .before .before .before .step-in-range .ensures in
+    let factor-atoms-says = c .before .before .before .before .factor-atoms .ensures in
+    let record-part-says = c .before .before .before .before .before .before .before .before .before .before .before .before .before .before .before .before .before .before .before .before .before .before .before .before .record-part .ensures in
+    let named-pair-says = c .before .before .before .before .before .before .before .before .before .before .before .before .before .before .before .before .before .before .named-pair .ensures in
+    let same-sign-says = c .before .before .before .before .before .before .before .before .before .before .before .before .before .before .same-sign .ensures in
+    let fields-says = c .before .before .before .before .before .before .before .before .before .before .before .before .before .before .before .before .before .before .before .before .before .fields .ensures in
+    let pair-given-1 = c .before .before .before .before .before .before .before .before .before .before .before .before .before .before .before .before .pair .given .1 in
+    let at-start-asked-1 = c .before .before .before .before .before .before .before .before .before .before .before .before .before .before .before .before .before .before .before .before .before .before .before .before .before .before .before .before .pre .1 in
+    let if1-left = c .before .before .before .before .before .before .before .before .before .before .before .before .before .before .before .before .before .before .before .before .before .before .if1 .left in
+    let if2-left = c .before .before .before .before .before .before .before .before .before .before .before .before .before .if2 .left in
+    let if3-left = c .before .before .before .before .before .before .before .before .before .before .before .before .if3 .left in
+    λ E. factor-read E at-start-asked-1 _ record-part-says _ step-in-range-says if1-left _ fields-says _ named-pair-says _ _ pair-given-1 _ same-sign-says if2-left if3-left _ _ _ _ _ factor-atoms-says
 
 pub factor-record-spec : {M : Type 1} → statement M
 factor-record-spec =

@@ -67,7 +67,16 @@ same-length-4 c = search needs
 
 returns-3 : tie.Need-returns-3
 returns-3 c =
-    λ R. resolve-ended R _ _ _ _ (c .before .before .before .before .before .before .before .before .before .before .before .before .before .before .before .before .before .before .before .before .before .before .before .literals-cell .ensures) (c .before .before .before .before .before .before .before .before .before .before .before .before .before .before .before .before .before .before .before .before .before .literals-cell2 .ensures) (c .before .before .before .before .before .before .before .before .before .before .before .before .before .before .before .before .before .before .index-cell .ensures) (c .before .before .before .before .before .before .before .before .before .before .before .before .before .before .before .before .index-cell2 .ensures) (c .before .before .before .before .before .before .before .before .before .before .before .before .before .before .before .before .before .before .before .before .if1 .left) (c .before .before .before .before .before .before .before .before .before .before .before .before .before .before .before .if2 .left) _ _ _ (c .before .before .before .before .before .before .before .before .before .before .unify-resolve .ensures .0) (c .before .before .before .before .before .before .before .before .before .before .unify-resolve .ensures .1) _ _ _ _ (c .before .before .before .before .finish-step .ensures)
+    let unify-resolve-says-0 = c .before .before .before .before .before .before .before .before .before .before .unify-resolve .ensures .0 in
+    let unify-resolve-says-1 = c .before .before .before .before .before .before .before .before .before .before .unify-resolve .ensures .1 in
+    let literals-cell2-says = c .before .before .before .before .before .before .before .before .before .before .before .before .before .before .before .before .before .before .before .before .before .literals-cell2 .ensures in
+    let literals-cell-says = c .before .before .before .before .before .before .before .before .before .before .before .before .before .before .before .before .before .before .before .before .before .before .before .literals-cell .ensures in
+    let index-cell2-says = c .before .before .before .before .before .before .before .before .before .before .before .before .before .before .before .before .index-cell2 .ensures in
+    let finish-step-says = c .before .before .before .before .finish-step .ensures in
+    let index-cell-says = c .before .before .before .before .before .before .before .before .before .before .before .before .before .before .before .before .before .before .index-cell .ensures in
+    let if1-left = c .before .before .before .before .before .before .before .before .before .before .before .before .before .before .before .before .before .before .before .before .if1 .left in
+    let if2-left = c .before .before .before .before .before .before .before .before .before .before .before .before .before .before .before .if2 .left in
+    λ R. resolve-ended R _ _ _ _ literals-cell-says literals-cell2-says index-cell-says index-cell2-says if1-left if2-left _ _ _ unify-resolve-says-0 unify-resolve-says-1 _ _ _ _ finish-step-says
 
 pub resolve-atoms-spec : {M : Type 1} → statement M
 resolve-atoms-spec =

@@ -52,7 +52,14 @@ same-length c = search needs
 
 returns-2 : tie.Need-returns-2
 returns-2 c =
-    λ E. resolve-absent E (c .before .before .before .before .before .before .before .before .before .before .before .before .pre .1) _ (c .before .before .before .before .before .before .before .before .record-part .ensures) _ (c .before .before .before .before .before .before .before .step-in-range .ensures) (c .before .before .before .before .before .before .if1 .left) _ (c .before .before .before .before .before .fields .ensures) _ (c .before .before .named-pair .ensures) (c .enum-told .given .1)
+    let step-in-range-says = c .before .before .before .before .before .before .before .step-in-range .ensures in
+    let record-part-says = c .before .before .before .before .before .before .before .before .record-part .ensures in
+    let named-pair-says = c .before .before .named-pair .ensures in
+    let enum-told-given-1 = c .enum-told .given .1 in
+    let fields-says = c .before .before .before .before .before .fields .ensures in
+    let at-start-asked-1 = c .before .before .before .before .before .before .before .before .before .before .before .before .pre .1 in
+    let if1-left = c .before .before .before .before .before .before .if1 .left in
+    λ E. resolve-absent E at-start-asked-1 _ record-part-says _ step-in-range-says if1-left _ fields-says _ named-pair-says enum-told-given-1
 
 same-sign-requires : tie.Need-same-sign-requires
 same-sign-requires c κs = search needs
@@ -62,11 +69,30 @@ same-length-2 c = search needs
 
 returns-3 : tie.Need-returns-3
 returns-3 c =
-    λ E. resolve-equal-signs E (c .before .before .before .before .before .before .before .before .before .before .before .before .before .before .before .pre .1) _ (c .before .before .before .before .before .before .before .before .before .before .before .record-part .ensures) _ (c .before .before .before .before .before .before .before .before .before .before .step-in-range .ensures) (c .before .before .before .before .before .before .before .before .before .if1 .left) _ (c .before .before .before .before .before .before .before .before .fields .ensures) _ (c .before .before .before .before .before .named-pair .ensures) _ _ (c .before .before .before .pair .given .1) _ (c .before .same-sign .ensures) (c .if2 .taken)
+    let step-in-range-says = c .before .before .before .before .before .before .before .before .before .before .step-in-range .ensures in
+    let record-part-says = c .before .before .before .before .before .before .before .before .before .before .before .record-part .ensures in
+    let named-pair-says = c .before .before .before .before .before .named-pair .ensures in
+    let same-sign-says = c .before .same-sign .ensures in
+    let fields-says = c .before .before .before .before .before .before .before .before .fields .ensures in
+    let pair-given-1 = c .before .before .before .pair .given .1 in
+    let at-start-asked-1 = c .before .before .before .before .before .before .before .before .before .before .before .before .before .before .before .pre .1 in
+    let if2-taken = c .if2 .taken in
+    let if1-left = c .before .before .before .before .before .before .before .before .before .if1 .left in
+    λ E. resolve-equal-signs E at-start-asked-1 _ record-part-says _ step-in-range-says if1-left _ fields-says _ named-pair-says _ _ pair-given-1 _ same-sign-says if2-taken
 
 resolve-atoms-requires : tie.Need-resolve-atoms-requires
 resolve-atoms-requires c κs =
-    resolve-checked (c .before .before .before .before .before .before .before .before .before .before .before .before .before .before .before .before .before .before .before .before .before .before .pre .0) (c .before .before .before .before .before .before .before .before .before .before .before .before .before .before .before .before .before .before .before .before .before .before .pre .1) _ (c .before .before .before .before .before .before .before .before .before .before .before .before .before .before .before .before .before .before .record-part .ensures) _ (c .before .before .before .before .before .before .before .before .before .before .before .before .before .before .before .before .before .step-in-range .ensures) (c .before .before .before .before .before .before .before .before .before .before .before .before .before .before .before .before .if1 .left) _ (c .before .before .before .before .before .before .before .before .before .before .before .before .before .before .before .fields .ensures) _ (c .before .before .before .before .before .before .before .before .before .before .before .before .named-pair .ensures) _ _ (c .before .before .before .before .before .before .before .before .before .before .pair .given .1) _ (c .before .before .before .before .before .before .before .before .same-sign .ensures) (c .before .before .before .before .before .before .before .if2 .left)
+    let step-in-range-says = c .before .before .before .before .before .before .before .before .before .before .before .before .before .before .before .before .before .step-in-range .ensures in
+    let record-part-says = c .before .before .before .before .before .before .before .before .before .before .before .before .before .before .before .before .before .before .record-part .ensures in
+    let named-pair-says = c .before .before .before .before .before .before .before .before .before .before .before .before .named-pair .ensures in
+    let same-sign-says = c .before .before .before .before .before .before .before .before .same-sign .ensures in
+    let fields-says = c .before .before .before .before .before .before .before .before .before .before .before .before .before .before .before .fields .ensures in
+    let pair-given-1 = c .before .before .before .before .before .before .before .before .before .before .pair .given .1 in
+    let at-start-asked-0 = c .before .before .before .before .before .before .before .before .before .before .before .before .before .before .before .before .before .before .before .before .before .before .pre .0 in
+    let at-start-asked-1 = c .before .before .before .before .before .before .before .before .before .before .before .before .before .before .before .before .before .before .before .before .before .before .pre .1 in
+    let if1-left = c .before .before .before .before .before .before .before .before .before .before .before .before .before .before .before .before .if1 .left in
+    let if2-left = c .before .before .before .before .before .before .before .if2 .left in
+    resolve-checked at-start-asked-0 at-start-asked-1 _ record-part-says _ step-in-range-says if1-left _ fields-says _ named-pair-says _ _ pair-given-1 _ same-sign-says if2-left
 
 same-length-3 : tie.Need-same-length-3
 same-length-3 c = search needs
@@ -76,7 +102,17 @@ same-length-4 c = search needs
 
 returns-4 : tie.Need-returns-4
 returns-4 c =
-    λ E. resolve-read E (c .before .before .before .before .before .before .before .before .before .before .before .before .before .before .before .before .before .before .before .before .before .before .before .before .before .before .before .pre .1) _ (c .before .before .before .before .before .before .before .before .before .before .before .before .before .before .before .before .before .before .before .before .before .before .before .record-part .ensures) _ (c .before .before .before .before .before .before .before .before .before .before .before .before .before .before .before .before .before .before .before .before .before .before .step-in-range .ensures) (c .before .before .before .before .before .before .before .before .before .before .before .before .before .before .before .before .before .before .before .before .before .if1 .left) _ (c .before .before .before .before .before .before .before .before .before .before .before .before .before .before .before .before .before .before .before .before .fields .ensures) _ (c .before .before .before .before .before .before .before .before .before .before .before .before .before .before .before .before .before .named-pair .ensures) _ _ (c .before .before .before .before .before .before .before .before .before .before .before .before .before .before .before .pair .given .1) _ (c .before .before .before .before .before .before .before .before .before .before .before .before .before .same-sign .ensures) (c .before .before .before .before .before .before .before .before .before .before .before .before .if2 .left) _ _ _ _ _ (c .before .before .before .before .resolve-atoms .ensures)
+    let step-in-range-says = c .before .before .before .before .before .before .before .before .before .before .before .before .before .before .before .before .before .before .before .before .before .before .step-in-range .ensures in
+    let resolve-atoms-says = c .before .before .before .before .resolve-atoms .ensures in
+    let record-part-says = c .before .before .before .before .before .before .before .before .before .before .before .before .before .before .before .before .before .before .before .before .before .before .before .record-part .ensures in
+    let named-pair-says = c .before .before .before .before .before .before .before .before .before .before .before .before .before .before .before .before .before .named-pair .ensures in
+    let same-sign-says = c .before .before .before .before .before .before .before .before .before .before .before .before .before .same-sign .ensures in
+    let fields-says = c .before .before .before .before .before .before .before .before .before .before .before .before .before .before .before .before .before .before .before .before .fields .ensures in
+    let pair-given-1 = c .before .before .before .before .before .before .before .before .before .before .before .before .before .before .before .pair .given .1 in
+    let at-start-asked-1 = c .before .before .before .before .before .before .before .before .before .before .before .before .before .before .before .before .before .before .before .before .before .before .before .before .before .before .before .pre .1 in
+    let if1-left = c .before .before .before .before .before .before .before .before .before .before .before .before .before .before .before .before .before .before .before .before .before .if1 .left in
+    let if2-left = c .before .before .before .before .before .before .before .before .before .before .before .before .if2 .left in
+    λ E. resolve-read E at-start-asked-1 _ record-part-says _ step-in-range-says if1-left _ fields-says _ named-pair-says _ _ pair-given-1 _ same-sign-says if2-left _ _ _ _ _ resolve-atoms-says
 
 pub resolve-record-spec : {M : Type 1} → statement M
 resolve-record-spec =

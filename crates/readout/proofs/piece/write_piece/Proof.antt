@@ -64,7 +64,20 @@ loop-less c = search needs
 
 loop-again : tie.Need-loop-again Inv-loop μ-loop
 loop-again c =
-    (c .before .before .before .before .before .before .write-unit .ensures .sized .values, c .before .before .before .before .before .before .write-unit .ensures .sized .text, c .before .output .given ∙ c .before .before .before .before .before .before .before .before .before .before .loop .inv .2, written-more (c .before .before .before .before .before .before .before .before .before .before .loop .inv .3) (c .before .before .before .before .before .before .before .before .before .before .loop .inv .0) (c .before .before .before .before .before .before .before .before .before .before .loop .inv .1) (subst (λ (k : ℕ). c .before .before .before .before .before .before .before .before .before .before .loop .n < k) (c .before .before .before .before .before .before .before .before .before .before .before .unit-count .ensures) (c .before .before .before .before .before .before .before .before .before .loop-test .taken)) (c .before .before .before .before .before .before .write-unit .ensures) (omega (arith, c .before .before .before .before .before .if1 .left, c .before .before .before .before .before .before .before .before .before .before .loop .inv .2)) (c .before .before .copy-text .ensures))
+    let write-unit-says-sized-values = c .before .before .before .before .before .before .write-unit .ensures .sized .values in
+    let write-unit-says-sized-text = c .before .before .before .before .before .before .write-unit .ensures .sized .text in
+    let unit-count-says = c .before .before .before .before .before .before .before .before .before .before .before .unit-count .ensures in
+    let write-unit-says = c .before .before .before .before .before .before .write-unit .ensures in
+    let copy-text-says = c .before .before .copy-text .ensures in
+    let loop-test-taken = c .before .before .before .before .before .before .before .before .before .loop-test .taken in
+    let output-given = c .before .output .given in
+    let loop-inv-2 = c .before .before .before .before .before .before .before .before .before .before .loop .inv .2 in
+    let loop-inv-3 = c .before .before .before .before .before .before .before .before .before .before .loop .inv .3 in
+    let loop-inv-0 = c .before .before .before .before .before .before .before .before .before .before .loop .inv .0 in
+    let loop-inv-1 = c .before .before .before .before .before .before .before .before .before .before .loop .inv .1 in
+    let if1-left = c .before .before .before .before .before .if1 .left in
+    let loop-n = c .before .before .before .before .before .before .before .before .before .before .loop .n in
+    (write-unit-says-sized-values, write-unit-says-sized-text, output-given ∙ loop-inv-2, written-more loop-inv-3 loop-inv-0 loop-inv-1 (subst (λ (k : ℕ). loop-n < k) unit-count-says loop-test-taken) write-unit-says (omega (arith, if1-left, loop-inv-2)) copy-text-says)
 
 same-length-2 : tie.Need-same-length-2 Inv-loop μ-loop
 same-length-2 c = search needs
