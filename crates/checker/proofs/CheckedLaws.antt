@@ -1,33 +1,26 @@
 -- The contract of the check, from the three ways that a check can go.
 use mathlib.Core.Path.{_≡_, refl, sym, ap, ap₂, _∙_}
 use mathlib.Core.Bool.{Bool, true, false, not}
-use mathlib.Core.Option.{some}
-use mathlib.Core.List.{List, [], _∷_, _++_, append-nil}
-use Prim.Native.Nat.{ℕ, _+_, _-_, _*_, _≤_, _<_}
+use mathlib.Core.List.{List, [], _++_, append-nil}
+use Prim.Native.Nat.{ℕ, _+_, _-_, _≤_}
 use native.Mathlib.Omega.{arith}
-use lib.ListN.{length, getD, take, drop, replicate, length-map, drop-of-length-le, List·getD-append}
+use lib.ListN.{length, take, drop, replicate, drop-of-length-le}
 use Rattle.unification.specs.Row.{Variable}
-use Rattle.unification.proofs.Tests.{true-not-false, some-injective}
-use Rattle.derivation.specs.Derivation.{Derivation, maximumIndex}
+use Rattle.unification.proofs.Tests.{true-not-false}
 use Rattle.checker.specs.Contract.{Checked, Workspace, workspaceWith, CheckedWith}
-use Rattle.answer.specs.Given.{verdictGiven, answerGiven, untouchedNumbers}
+use Rattle.answer.specs.Given.{answerGiven, untouchedNumbers}
 use Rattle.checker.specs.Reader.{Readable, FileRead, FileReadWith, clearTable}
 use Rattle.tables.specs.Cells.{clearedPart}
 use Rattle.derivation.specs.Stored.{originTableOf}
 use Rattle.entry.specs.Progress.{nodeTableOf}
 use Rattle.inference.proofs.KeptClauses.{nodes-room, origins-room}
-use Rattle.verdict.specs.Refusal.{Reason, badLength, shortTable}
-use Rattle.verdict.specs.State.{State, derivations, clauseOf, held}
-use Rattle.verdict.specs.Step.{stateOf}
-use Rattle.verdict.specs.Tables.{Tables, lengthsOf, clauseCells, tablesAfter}
-use Rattle.verdict.specs.Verdict.{refusal, check, accepted, open′, verdictNumbers, answerNumbers, longEnough, fittingLength, ending}
+use Rattle.verdict.specs.State.{held}
+use Rattle.verdict.specs.Tables.{Tables, lengthsOf, tablesAfter}
+use Rattle.verdict.specs.Verdict.{check, answerNumbers, longEnough, fittingLength}
 use Rattle.verdict.specs.Verdict as verdicts
-use Rattle.verdict.proofs.Acceptance.{cells-length}
 use Rattle.verdict.proofs.Demanded.{check-length, check-tables, check-reads, tables-length, tables-short, tables-read, demand1, demand2, demand3}
-use Rattle.verdict.proofs.Inversions.{entry-below}
 use Rattle.inference.proofs.StepTests.{not-false, not-true}
 use Rattle.answer.specs.declared.Answer.{Answer}
-use Rattle.answer.specs.declared.Verdict.{Verdict}
 use Rattle.answer.specs.declared.Verdict.the-variants as verdict
 
 module _ (F : List ℕ) (t : Tables) (a : Answer) (here : Tables) (isAnswer : answerGiven a ≡ answerNumbers (check F (lengthsOf t))) (isTables : here ≡ tablesAfter F t) where

@@ -1,7 +1,7 @@
 // The check of a proof file. The definitions are in the crate verdict: `Verdict` and `Tables` have what the check answers, `Demands`
 // what is demanded of it. In specs/, `Contract` has what `check` promises, and `Reader` says how this program goes about it. Single
 // records are read by the crates entry, resolution and factoring.
-pub mod reader;
+mod reader;
 mod workspace;
 
 use answer::Answer;

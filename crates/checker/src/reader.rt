@@ -17,7 +17,7 @@ ghost use Rattle.entry.specs.Progress.{Reading, RecordRead, tablesWith};
 ghost use Rattle.checker.specs.Reader.{Begun, RecordsRead};
 
 // Record k, by its kind. A kind that no record has is refused before anything else.
-pub fn read_record(
+fn read_record(
     file: &[u8],
     k: u16,
     counts: Counts,

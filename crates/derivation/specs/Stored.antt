@@ -1,7 +1,6 @@
 -- Clauses as the program keeps them: the table of origins, decoded when a clause is entered, eight cells a clause; five cells a clause in the
 -- table of clauses and four a binding in the table of bindings (document 01, "Verdict, tables and refusals").
 use mathlib.Core.Path.{_≡_}
-use mathlib.Core.Bool.{true, false}
 use mathlib.Core.List.{List, [], _∷_, _++_, map}
 use Prim.Native.Nat.{ℕ, _+_, _-_, _*_, _<_}
 use lib.ListN.{length, getD, take, replicate}

@@ -52,7 +52,7 @@ fn same_node(nodes: &Nodes, r: u16, code: u16, numbers: &[u16; 7]) -> bool
 }
 
 // Reason 6: whether one of the first n rows has the same cells. The newest row is compared first.
-pub fn is_repeated(nodes: &Nodes, n: u16, code: u16, numbers: &[u16; 7]) -> bool
+pub(crate) fn is_repeated(nodes: &Nodes, n: u16, code: u16, numbers: &[u16; 7]) -> bool
     requires { ⌜ length (now nodes) ≡ 32768 ⌝ }
     requires { ⌜ length (now numbers) ≡ 7 ⌝ }
     requires { ⌜ n ≤ 4096 ⌝ }
@@ -69,7 +69,7 @@ pub fn is_repeated(nodes: &Nodes, n: u16, code: u16, numbers: &[u16; 7]) -> bool
 }
 
 // Reason 7: whether no literal of an input clause is on a variable row.
-pub fn no_variable(nodes: &Nodes, part: &[u8]) -> bool
+pub(crate) fn no_variable(nodes: &Nodes, part: &[u8]) -> bool
     requires { ⌜ length (now nodes) ≡ 32768 ⌝ }
     requires { ⌜ countOf (now part) ≤ 7 ⌝ }
     ensures { λ b. ⌜ b ≡ noVariable (now (nodes .entry)) (inputLiterals (decoded (now (part .entry)))) ⌝ }

@@ -20,7 +20,7 @@ pub enum Arity {
 }
 
 // Whether the fields from number `from` on are all zero.
-pub fn zeros_from(part: &[u8], from: u8) -> bool
+fn zeros_from(part: &[u8], from: u8) -> bool
     ensures { λ b. ⌜ b ≡ zeros (drop from (fieldsOf (now (part .entry)))) ⌝ }
 {
     let mut i = from;

@@ -8,7 +8,7 @@ use native.Mathlib.Omega.{arith}
 use lib.Dec.{eqb, leb}
 use lib.ListN.{length, drop, length-append, length-map}
 use borrow.Author.Tests.{le-leb, lt-leb}
-use Rattle.record.specs.Record.{Record, recordPart, fieldsOf, decoded, resolveKind, factorKind, fieldA, fieldB, fieldC, fieldD}
+use Rattle.record.specs.Record.{Record, recordPart, decoded, resolveKind, fieldA, fieldB, fieldC, fieldD}
 use Rattle.unification.specs.Environment.{Binding}
 use Rattle.unify.specs.Unifying.{outcomeOf}
 use Rattle.unification.proofs.Tests.{both-true, some-not-none, some-injective}

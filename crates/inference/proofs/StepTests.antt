@@ -8,7 +8,7 @@ use native.Mathlib.Omega.{arith}
 use lib.Dec.{eqb}
 use lib.ListN.{length, getD, length-map}
 use borrow.Author.Tests.{eq-eqb, ne-eqb}
-use Rattle.record.specs.Record.{pick, Record, recordPart, kindOf, fieldOf, fieldsOf, decoded, Kind, resolveKind, factorKind, kindNumbered, fieldA, fieldB, fieldC, fieldD}
+use Rattle.record.specs.Record.{pick, Record, recordPart, kindOf, fieldsOf, decoded, Kind, resolveKind, factorKind, kindNumbered, fieldA, fieldB, fieldC, fieldD}
 use Rattle.unification.proofs.Tests.{true-not-false}
 use Rattle.derivation.specs.Derivation.{literals, Literal, Derivation, numbered, maximumIndex}
 use Rattle.clauses.specs.Named.{namedLiteral, StoredClause}
@@ -18,7 +18,6 @@ use Rattle.verdict.specs.Refusal.{Reason, outOfRange, notThere, wrongSigns, too
 use Rattle.verdict.specs.State.{State, entry, derivations, clauseOf}
 use Rattle.verdict.specs.Step.{refused, require, step, enter}
 use Rattle.inference.specs.Stepping.{BeforeStep, AtomOf, ClausesStored, namedAnswer, signedAtom, pairAnswer, ResolveNamed, FactorNamed, StepRead}
-use Rattle.entry.proofs.Entering.{and-false}
 use Rattle.verdict.proofs.Inversions.{literal-named, not-equal, entry-none}
 use Rattle.verdict.proofs.Resolution.{at-kind}
 use Rattle.inference.proofs.StepLaws.{clause-count, stored-of, order-in, origins-room}
@@ -27,7 +26,6 @@ use Rattle.clauses.specs.declared.literal.NamedLiteral.the-variants.{Found, Abs
 use Rattle.entry.specs.declared.entry.Counts.{Counts}
 use Rattle.entry.specs.declared.entry.Entered.{Entered}
 use Rattle.entry.specs.declared.entry.Entered.the-variants.{Refused}
-use Rattle.inference.specs.declared.Atom.{Atom}
 use Rattle.inference.specs.declared.SignedAtom.{SignedAtom}
 use Rattle.inference.specs.declared.NamedPair.{NamedPair}
 use Rattle.inference.specs.declared.NamedPair.the-variants as pair

@@ -13,7 +13,7 @@ use Rattle.unification.specs.Nodes.{isVariable, HasRow, nodeRow, NodesOk}
 use Rattle.unification.specs.Row.{Expression, Variable}
 use Rattle.unification.specs.Unification.{mostLinks, full}
 use Rattle.unification.specs.ValueArray.{slot, indexOf, InStep, oneLink, Models}
-use Rattle.derivation.specs.Derivation.{input, Derivation, resolve, factor, raise, maximumIndex, raiseAnswer, joined, lookup}
+use Rattle.derivation.specs.Derivation.{input, Derivation, resolve, factor, maximumIndex, raiseAnswer, joined, lookup}
 use Rattle.loading.specs.Loaded.{heldValue, readCell, orElse, within, BindingsIn, Loaded}
 use Rattle.derivation.specs.Stored.{Stored, storedInput, storedResolve, storedFactor}
 use Rattle.loading.proofs.Loading.{within-joined}

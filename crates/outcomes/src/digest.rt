@@ -17,7 +17,7 @@ pub struct Digest {
 
 // Goes through the readout piece by piece, by what the check left. The output has room for the longest line, so that no piece ends as
 // too short.
-pub fn digest_of(
+pub(crate) fn digest_of(
     clauses: &[u16],
     bindings: &[u16],
     nodes: &Nodes,

@@ -7,7 +7,6 @@ use Prim.Native.Nat.{ℕ, zero, suc, _+_, _-_, _≤_, _<_}
 use native.Mathlib.Omega.{arith}
 use lib.ListN.{length, getD, take, length-append}
 use lib.Seq.{paste}
-use Rattle.record.specs.Record.{pick}
 use Rattle.derivation.specs.Derivation.{Derivation}
 use Rattle.verdict.specs.Refusal.{reasonNumber}
 use Rattle.verdict.specs.State.{State, emptyState, derivations, entry, clauseOf}

@@ -11,7 +11,7 @@ use borrow.Author.Tests.{eqb-true, eqb-false, eq-eqb, ne-eqb}
 use Rattle.record.specs.Record.{pick}
 use Rattle.verdict.specs.State.{State, clauseOf}
 use Rattle.verdict.specs.Step.{stateOf}
-use Rattle.verdict.specs.Tables.{Tables, lengthsOf}
+use Rattle.verdict.specs.Tables.{lengthsOf}
 use Rattle.verdict.specs.Verdict.{check, longEnough, fittingLength, ending}
 use Rattle.entry.specs.Progress.{ReadTo, tablesWith}
 use Rattle.answer.specs.declared.Answer.{Answer}

@@ -1,6 +1,6 @@
 // The readout of a proof file. What it is, `Text` and `Readout` have in the crate verdict. In specs/, `Pieces` has what a piece of it is,
 // and `Contract` what this crate promises; `Units` says how the parts of this program go about it.
-pub mod heading;
+mod heading;
 pub mod piece;
 pub mod unit;
 

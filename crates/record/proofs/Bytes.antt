@@ -3,9 +3,9 @@ use mathlib.Core.Path.{_≡_, refl, sym, ap, ap₂, _∙_}
 use mathlib.Core.List.{List, [], _∷_, _++_, map, append-assoc}
 use Prim.Native.Nat.{ℕ, zero, suc, _+_, _*_, _/_, _%_, _<_}
 use native.Mathlib.Omega.{arith}
-use lib.ListN.{length, getD, take, drop, take-append-drop, length-append, length-drop, drop-of-length-le, List·getD-eq-default}
+use lib.ListN.{length, getD, take, drop, take-append-drop, length-append, length-drop, drop-of-length-le}
 use lib.Seq.{length-take-le, drop-cons, getD-drop, take-at, drop-at}
-use Rattle.record.specs.Bytes.{lowThenHigh, fieldBytes, recordBytes, fileBytes, Fits, AllFit, Bytes}
+use Rattle.record.specs.Bytes.{lowThenHigh, recordBytes, fileBytes, Fits, AllFit, Bytes}
 use Rattle.record.specs.Record.{Record, recordCount, decoded, parts, records}
 use Rattle.record.proofs.Records.{Shaped}
 

@@ -1,5 +1,4 @@
 use Rattle.inference.proofs.StepTests.{named-clause, named-there, named-missing}
-use borrow.Author.Needs.{needs}
 use Rattle.inference.proofs.named_literal.Statement.{statement}
 use Rattle.inference.proofs.named_literal.Tie as tie
 use Rattle.inference.proofs.named_literal.Reads as reads

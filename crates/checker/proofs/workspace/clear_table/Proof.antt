@@ -1,5 +1,4 @@
 -- All of it is cleared, since it is as long as its type says.
-use native.Mathlib.Omega.{arith}
 use Rattle.checker.proofs.CheckedLaws.{table-cleared}
 use borrow.Author.Needs.{needs}
 use Rattle.checker.proofs.workspace.clear_table.Statement.{statement}

@@ -7,7 +7,6 @@ use Rattle.derivation.specs.Derivation.{Derivation}
 use Rattle.derivation.specs.Stored.{Stored}
 use Rattle.clauses.specs.Named.{ComesFrom}
 use Rattle.clauses.proofs.Origins.{from-itself, walked, walk-there, walk-small}
-use borrow.Author.Needs.{needs}
 use Rattle.clauses.proofs.literal.input_place.Statement.{statement}
 use Rattle.clauses.proofs.literal.input_place.Tie as tie
 use Rattle.clauses.proofs.literal.input_place.Reads as reads

@@ -1,7 +1,6 @@
 -- A number outside the clause names nothing; else the literal is a field of the input clause's record, raised on the way.
 use mathlib.Core.Path.{sym, ap, _∙_}
-use mathlib.Core.List.{List}
-use Prim.Native.Nat.{ℕ, _-_}
+use Prim.Native.Nat.{_-_}
 use native.Mathlib.Omega.{arith}
 use Rattle.derivation.specs.Derivation.{literals, numbered}
 use Rattle.clauses.specs.Named.{namedLiteral}

@@ -1,6 +1,5 @@
 -- Each return is a case of the definition; a record in range has few enough literals to be read.
 use mathlib.Core.Path.{ap, sym, _∙_, subst}
-use mathlib.Core.Bool.{Bool}
 use mathlib.Core.List.{List, map}
 use Prim.Native.Nat.{ℕ, _≤_}
 use lib.ListN.{length}

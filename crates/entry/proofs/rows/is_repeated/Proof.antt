@@ -1,9 +1,8 @@
 -- What is left of the rows has the same answer as all of them.
-use mathlib.Core.Path.{_≡_, refl, sym, ap, _∙_}
+use mathlib.Core.Path.{_≡_, refl, sym, _∙_}
 use mathlib.Core.List.{_∷_}
 use Prim.Native.Nat.{_≤_}
 use native.Mathlib.Omega.{arith}
-use lib.ListN.{length}
 use Rattle.entry.specs.Program.{isRepeated}
 use Rattle.entry.proofs.NodeLaws.{repeated-found, repeated-on, repeated-end}
 use borrow.Author.Needs.{needs}

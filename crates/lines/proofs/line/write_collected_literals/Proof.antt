@@ -4,7 +4,6 @@ use native.Mathlib.Omega.{arith}
 use lib.ListN.{length-replicate}
 use Rattle.terms.specs.Writing.{Sized}
 use Rattle.lines.proofs.LineTexts.{WritesSoFar, literals-start, literals-end, literals-next, collected-few, numbered-listed, collected-literals, listed-ready, numbered-ready}
-use borrow.Author.Needs.{needs}
 use Rattle.lines.proofs.line.write_collected_literals.Statement.{statement}
 use Rattle.lines.proofs.line.write_collected_literals.Tie as tie
 use Rattle.lines.proofs.line.write_collected_literals.Reads as reads

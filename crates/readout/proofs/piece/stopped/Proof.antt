@@ -4,7 +4,6 @@ use mathlib.Core.Bool.{Bool}
 use borrow.Author.Tests.{eq-eqb, ne-eqb}
 use Rattle.record.specs.Record.{pick}
 use Rattle.readout.specs.Pieces.{tooShortFor, goOnWith}
-use borrow.Author.Needs.{needs}
 use Rattle.readout.proofs.piece.stopped.Statement.{statement}
 use Rattle.readout.proofs.piece.stopped.Tie as tie
 use Rattle.readout.proofs.piece.stopped.Reads as reads

@@ -1,6 +1,5 @@
 -- The test is the one that the definition takes.
 use Rattle.readout.proofs.UnitWriting.{units-none, units-some}
-use borrow.Author.Needs.{needs}
 use Rattle.readout.proofs.unit.unit_count.Statement.{statement}
 use Rattle.readout.proofs.unit.unit_count.Tie as tie
 use Rattle.readout.proofs.unit.unit_count.Reads as reads

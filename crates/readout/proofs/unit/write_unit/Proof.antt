@@ -1,6 +1,5 @@
 -- Each way out is one law of `UnitWriting`.
 use Rattle.readout.proofs.UnitWriting.{line-ready, other-inside, first-inside, unit-line, unit-heading, unit-both}
-use borrow.Author.Needs.{needs}
 use Rattle.readout.proofs.unit.write_unit.Statement.{statement}
 use Rattle.readout.proofs.unit.write_unit.Tie as tie
 use Rattle.readout.proofs.unit.write_unit.Reads as reads
