@@ -1,5 +1,5 @@
 // The array of values: two cells for each variable number and index, a row plus 1 and an index. Reads outside give 0, and
-// writes outside do nothing, so that no walk over the array has to be told that its rows and indices are in range.
+// writes outside do nothing, so that none of them asks for rows and indices in range.
 use super::nodes::Nodes;
 use super::nodes::part_of;
 ghost use mathlib.Core.Path.{_≡_};
