@@ -1,4 +1,4 @@
-//! The proved check and readout compared with the second implementation: every answer, every cell and
+//! The proved check, plain and for services, and the readout compared with the second implementation: every answer, every cell and
 //! every byte; and the time that both take.
 
 pub mod clock;
@@ -6,5 +6,6 @@ pub mod compare;
 pub mod files;
 pub mod pieces;
 pub mod rounds;
+pub mod services;
 
 pub use compare::{compare, Difference, Lengths};
