@@ -1,5 +1,5 @@
-//! The proved check, plain and for services, and the readout compared with the second implementation: every answer, every cell and
-//! every byte; and the time that both take.
+//! The proved check, plain and for services, and the proved readout compared with the second implementation:
+//! every answer, every cell and every byte; and the time that they take.
 
 pub mod clock;
 pub mod compare;

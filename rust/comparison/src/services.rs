@@ -11,7 +11,7 @@ use crate::compare::{differ, Difference, Lengths, Lent};
 /// Cells of a row in the node table, and of a clause in the table of origins.
 const PART: usize = 8;
 
-/// What every cell of a workspace holds before the first file.
+/// What every cell of a dirty workspace holds.
 pub const DIRT: u16 = 0xffff;
 
 /// The names of the parts where a difference is shown.
@@ -23,6 +23,16 @@ const NAMES: [&str; 5] = [
     "bindings for services",
 ];
 
+/// A workspace that has never been cleared.
+pub fn dirty() -> Workspace {
+    let mut workspace = Workspace::new();
+    let Arrays { nodes, origins, values } = workspace.lend();
+    nodes.fill(DIRT);
+    origins.fill(DIRT);
+    values.fill(DIRT);
+    workspace
+}
+
 /// A workspace and the cells that are lent with it, kept between files.
 pub struct Services {
     workspace: Workspace,
@@ -31,12 +41,7 @@ pub struct Services {
 
 impl Default for Services {
     fn default() -> Services {
-        let mut workspace = Workspace::new();
-        let Arrays { nodes, origins, values } = workspace.lend();
-        nodes.fill(DIRT);
-        origins.fill(DIRT);
-        values.fill(DIRT);
-        Services { workspace, lent: Lent::default() }
+        Services { workspace: dirty(), lent: Lent::default() }
     }
 }
 
