@@ -77,7 +77,8 @@ fn expected(file: &[u8], second: &Lent, before: [Vec<u16>; 2]) -> [Vec<u16>; 2] 
             let rows = rows.iter().take(row_count);
             let clauses = clauses.iter().step_by(5).take(clause_count);
             let cells = |record: &u16| cells_of(file, usize::from(*record));
-            let mut parts: [Vec<u16>; 2] = [rows.flat_map(cells).collect(), clauses.flat_map(cells).collect()];
+            let mut parts: [Vec<u16>; 2] =
+                [rows.flat_map(cells).collect(), clauses.flat_map(cells).collect()];
             parts.iter_mut().zip(&before).for_each(|(part, before)| part.resize(before.len(), 0));
             parts
         }
