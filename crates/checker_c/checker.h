@@ -1,14 +1,15 @@
-/* The check of a resolution-proof file, and its readout.
+/* The check of a resolution-proof file, the same for services, and the readout.
  *
- * Link with libchecker_c.a. Both functions are proved to meet their contracts,
+ * Link with libchecker_c.a. All functions are proved to meet their contracts,
  * for every file and whatever else they are lent (specs/Exported.antt,
- * specs/ExportedReadout.antt). They never fail, never block, ask for no memory
- * and keep nothing between calls.
+ * specs/ExportedWith.antt, specs/ExportedReadout.antt). They never fail, never
+ * block, ask for no memory and keep nothing between calls.
  *
  * That they come to an end asks for a stack of 8 MiB: call them on a thread
  * that has that much left. An ordinary file takes less than 1.5 MiB of it, and
  * the deepest files known up to 4 MiB, but no proof says how much a call
- * takes. */
+ * takes. With a workspace (checker_check_with) it is some KiB, and up to
+ * 2.7 MiB; the rule is the same. */
 #ifndef CHECKER_H
 #define CHECKER_H
 
@@ -27,6 +28,11 @@ extern "C" {
 #define CHECKER_BINDINGS 32768
 #define CHECKER_ANSWER 7
 #define CHECKER_PROGRESS 3
+
+/* The lengths of the three parts of a workspace, in cells. */
+#define CHECKER_NODES 32768
+#define CHECKER_ORIGINS 32768
+#define CHECKER_VALUES 524416
 
 /* Bytes of output that have room for every line of a readout. */
 #define CHECKER_OUTPUT 131072
@@ -67,6 +73,44 @@ void checker_check(const uint8_t *file, size_t file_len,
                    uint16_t *bindings, size_t bindings_len,
                    uint16_t *answer, size_t answer_len);
 
+/* The same check for services: checker_check has arrays of 1.2 MB on its stack
+ * and fills them for each file, this one takes a workspace that the caller
+ * lends and keeps between files. A small file is checked several times as fast.
+ *
+ *   file, symbols, rows, clauses, bindings, answer
+ *             as for checker_check, which writes the same to them
+ *   nodes     CHECKER_NODES cells
+ *   origins   CHECKER_ORIGINS cells
+ *   values    CHECKER_VALUES cells
+ *
+ * The three parts of the workspace have exactly these lengths, which are not
+ * passed: the caller must see to it that there are so many cells. They must be
+ * aligned and not null, and none of the nine parts may overlap another.
+ *
+ * What the workspace holds before a call does not matter: it needs no clearing,
+ * neither before the first file nor between files. It may be lent again for any
+ * file and with any tables. One workspace serves one call at a time; threads
+ * that check at the same time have one each.
+ *
+ * Afterwards:
+ *   nodes     eight cells for each row: 1 and the number of a variable; or 2
+ *             plus the number of arguments, the symbol and the arguments; then
+ *             zeros
+ *   origins   eight cells for each clause: 1 and the literals of an input
+ *             clause; 2 and the numbers of a factoring step, or 3 and those of
+ *             a resolution step, as its record has them; then zeros
+ *   values    is left to the library: it may hold anything
+ *
+ * With reasons 1 and 2 nodes and origins are left alone. If answer has fewer
+ * than 7 cells, nothing at all is touched. */
+void checker_check_with(const uint8_t *file, size_t file_len,
+                        uint16_t *symbols, size_t symbols_len,
+                        uint16_t *rows, size_t rows_len,
+                        uint16_t *clauses, size_t clauses_len,
+                        uint16_t *bindings, size_t bindings_len,
+                        uint16_t *nodes, uint16_t *origins, uint16_t *values,
+                        uint16_t *answer, size_t answer_len);
+
 /* Checks a proof file and writes as many whole lines of its readout as fit,
  * from a clause on.
  *
@@ -80,8 +124,8 @@ void checker_check(const uint8_t *file, size_t file_len,
  *   output    bytes for the text, of any length
  *   progress  three numbers; at least 3 cells
  *
- * What is said above of lengths and pointers holds here too, and none of the
- * seven parts may overlap another.
+ * What checker_check says of lengths and pointers holds here too, and none of
+ * the seven parts may overlap another.
  *
  * The numbers of the progress:
  *   progress[0]  0 all is written, 1 there is more, 2 the output is too short

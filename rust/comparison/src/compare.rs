@@ -1,4 +1,5 @@
-//! The proved check beside the second implementation: every number of the answer and every cell.
+//! The proved check, plain and for services, beside the second implementation: every number of the answer and
+//! every cell.
 
 use std::fmt;
 
@@ -6,6 +7,11 @@ use yestrwyn::exported::check_numbers;
 use yestrwyn_types::{Tables, ANSWER_CELLS, LENGTHS};
 use yestrwyn_vectors::random::SplitMix64;
 use yestrwyn_vectors::{damage, random_file, random_file_of};
+
+use crate::services::Services;
+
+/// The names of the parts where a difference is shown.
+const NAMES: [&str; 5] = ["answer", "symbols", "rows", "clauses", "bindings"];
 
 /// How many cells each table has, and the answer.
 #[derive(Clone, Copy, PartialEq, Eq, Debug)]
@@ -36,25 +42,34 @@ impl fmt::Display for Difference {
     }
 }
 
-/// The cells that each of the two is lent, kept between files so that none is made anew.
+/// The cells that each of them is lent, kept between files so that none is made anew.
+#[derive(Default)]
 pub struct Lent {
-    tables: [Vec<u16>; 4],
-    answer: Vec<u16>,
+    pub(crate) tables: [Vec<u16>; 4],
+    pub(crate) answer: Vec<u16>,
 }
 
 impl Lent {
     /// The tables, as they are lent.
-    fn tables(&mut self) -> (Tables<'_>, &mut Vec<u16>) {
+    pub(crate) fn tables(&mut self) -> (Tables<'_>, &mut Vec<u16>) {
         let [symbols, rows, clauses, bindings] = &mut self.tables;
         (Tables { symbols, rows, clauses, bindings }, &mut self.answer)
     }
 
     /// Cells that each hold a mark of their own, so that a cell moved or cleared is seen.
-    fn fill(&mut self, lengths: Lengths, mark: u16) {
+    pub(crate) fn fill(&mut self, lengths: Lengths, mark: u16) {
         for (table, length) in self.tables.iter_mut().zip(lengths.tables) {
             marked(table, length, mark);
         }
         marked(&mut self.answer, lengths.answer, mark);
+    }
+
+    /// Where the answer or a table is not the second implementation's, under the names of the parts.
+    pub(crate) fn differ(&self, second: &Lent, names: [&'static str; 5]) -> Result<(), Difference> {
+        let [answer, tables @ ..] = names;
+        differ(answer, &self.answer, &second.answer)?;
+        let mut parts = tables.into_iter().zip(self.tables.iter().zip(&second.tables));
+        parts.try_for_each(|(name, (ours, theirs))| differ(name, ours, theirs))
     }
 }
 
@@ -64,33 +79,25 @@ fn marked(cells: &mut Vec<u16>, length: usize, mark: u16) {
     cells.extend((0..length).map(|cell| mark.wrapping_add(cell as u16)));
 }
 
-/// The cells of both.
+/// The cells of both, and a workspace for the check for services.
+#[derive(Default)]
 pub struct Pair {
     proved: Lent,
     second: Lent,
-}
-
-impl Default for Pair {
-    fn default() -> Pair {
-        let lent = || Lent { tables: Default::default(), answer: Vec::new() };
-        Pair { proved: lent(), second: lent() }
-    }
+    services: Services,
 }
 
 impl Pair {
-    /// Checks a file by both, with tables of some lengths; gives the kind of answer (0 open,
-    /// 1 accepted, 2 refused), nothing if there is no room for one, or where the two differ.
+    /// Checks a file by both, with tables of some lengths, and by the check for services; gives the kind of
+    /// answer (0 open, 1 accepted, 2 refused), nothing if there is no room for one, or where they differ.
     pub fn compare(&mut self, file: &[u8], lengths: Lengths, mark: u16) -> Result<Option<u16>, Difference> {
-        let Pair { proved, second } = self;
+        let Pair { proved, second, services } = self;
         proved.fill(lengths, mark);
         second.fill(lengths, mark);
         run_proved(file, proved);
         run_second(file, second);
-        differ("answer", &proved.answer, &second.answer)?;
-        let names = ["symbols", "rows", "clauses", "bindings"];
-        for ((name, ours), theirs) in names.into_iter().zip(&proved.tables).zip(&second.tables) {
-            differ(name, ours, theirs)?;
-        }
+        proved.differ(second, NAMES)?;
+        services.compare(file, lengths, mark, second)?;
         Ok(proved.answer.first().copied().filter(|_| lengths.answer >= ANSWER_CELLS))
     }
 }
@@ -112,7 +119,8 @@ fn run_second(file: &[u8], lent: &mut Lent) {
     cells.copy_from_slice(&yestrwyn_second::check_into(file, &mut tables).numbers());
 }
 
-fn differ(part: &'static str, proved: &[u16], second: &[u16]) -> Result<(), Difference> {
+/// Where two parts differ.
+pub(crate) fn differ(part: &'static str, proved: &[u16], second: &[u16]) -> Result<(), Difference> {
     if proved == second {
         return Ok(());
     }

@@ -1,6 +1,9 @@
-//! Files of some thousand records that are measured beside the heavy ones.
+//! Files that are measured beside the heavy ones: of some thousand records, and ordinary ones of some dozens.
 
-use yestrwyn_vectors::examples::{deep, edges, Example};
+use std::fs;
+use std::path::Path;
+
+use yestrwyn_vectors::examples::{cases, deep, edges, Example};
 use yestrwyn_vectors::sketch::{app, neg, pos, var, FileBuilder};
 
 /// The files by what they do.
@@ -13,6 +16,18 @@ pub fn measured() -> Vec<Example> {
         Example::new("3,900 steps that unify two terms of 4,096 leaves", leaves()),
         Example::new("4,095 rows", edges::many_rows(4095).finish()),
     ]
+}
+
+/// The stored examples of proofs that a planner writes, and case A.
+pub fn ordinary() -> Vec<Example> {
+    let folder = Path::new(env!("CARGO_MANIFEST_DIR")).join("../../examples");
+    let stored = |name: &str| {
+        let file = fs::read(folder.join(name)).unwrap_or_else(|error| panic!("{name}: {error}"));
+        Example::new(&format!("`{name}`"), file)
+    };
+    let mut files = ["curfew.proof", "duty.proof", "permit.proof"].map(stored).to_vec();
+    files.push(Example::new("case A", cases::case_a()));
+    files
 }
 
 /// A count upward: each step resolves the rule with the last result, as right parent.

@@ -1,10 +1,11 @@
-//! The proved check and readout compared with the second implementation: every answer, every cell and
-//! every byte; and the time that both take.
+//! The proved check, plain and for services, and the proved readout compared with the second implementation:
+//! every answer, every cell and every byte; and the time that they take.
 
 pub mod clock;
 pub mod compare;
 pub mod files;
 pub mod pieces;
 pub mod rounds;
+pub mod services;
 
 pub use compare::{compare, Difference, Lengths};

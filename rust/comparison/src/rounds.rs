@@ -42,6 +42,15 @@ impl Rounds {
         ratios
     }
 
+    /// Three cells of a table: their time, the middle ratio, and the ratios from the least to the largest.
+    pub fn beside(&self) -> String {
+        let [_, theirs] = self.least();
+        let ratios = self.ratios();
+        let (least, most) = (ratios[0], ratios[ratios.len() - 1]);
+        let middle = (ratios[(ratios.len() - 1) / 2] + ratios[ratios.len() / 2]) / 2.0;
+        format!("{} | {middle:.2} | {least:.2} to {most:.2}", shown(theirs))
+    }
+
     /// The rounds of several lines taken together, as one line.
     pub fn sum(lines: &[Rounds]) -> Rounds {
         let total = |times: fn(&Rounds) -> &Vec<Duration>| {
@@ -51,14 +60,11 @@ impl Rounds {
     }
 }
 
-/// Four cells of a table: both times, the middle ratio, and the ratios from the least to the largest.
+/// Four cells of a table: our time and those of [`Rounds::beside`].
 impl fmt::Display for Rounds {
     fn fmt(&self, out: &mut fmt::Formatter<'_>) -> fmt::Result {
-        let [ours, theirs] = self.least();
-        let ratios = self.ratios();
-        let (least, most) = (ratios[0], ratios[ratios.len() - 1]);
-        let middle = (ratios[(ratios.len() - 1) / 2] + ratios[ratios.len() / 2]) / 2.0;
-        write!(out, "{} | {} | {middle:.2} | {least:.2} to {most:.2}", shown(ours), shown(theirs))
+        let [ours, _] = self.least();
+        write!(out, "{} | {}", shown(ours), self.beside())
     }
 }
 

@@ -1,4 +1,4 @@
-//! The proved check and the second implementation give equal answers and equal cells.
+//! The proved check, plain and for services, and the second implementation give equal answers and equal cells.
 //!
 //! Every test runs in a thread with a larger stack than a test's own 2 MiB: see `yestrwyn::with_stack`.
 

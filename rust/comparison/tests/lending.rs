@@ -1,6 +1,9 @@
 //! Everything is lent from the middle of larger buffers, and both sides of every part are watched.
 
-use yestrwyn::exported::{check_numbers, readout_numbers, PROGRESS_CELLS};
+use std::mem::size_of;
+
+use yestrwyn::exported::{check_numbers, check_numbers_with, Arrays, Nodes, Origins, Values};
+use yestrwyn::exported::{readout_numbers, PROGRESS_CELLS};
 use yestrwyn::{Tables, LENGTHS};
 use yestrwyn_comparison::compare::file_of;
 use yestrwyn_types::{Cells, ANSWER_CELLS};
@@ -78,6 +81,49 @@ fn the_check_stays_inside_what_it_was_lent() {
                 &cells.clauses,
                 &cells.bindings
             ]));
+        }
+    };
+    yestrwyn::with_stack(check).expect("a thread");
+}
+
+/// An array from the middle of a larger buffer, with dirt in it.
+struct Watched(Vec<u16>);
+
+impl Watched {
+    fn new(length: usize) -> Watched {
+        Watched((0..length + 2 * MARGIN).map(mark).collect())
+    }
+
+    /// The array between the margins.
+    fn array<const LENGTH: usize>(&mut self) -> &mut [u16; LENGTH] {
+        let between = &mut self.0[MARGIN..MARGIN + LENGTH];
+        between.try_into().expect("an array of this length")
+    }
+
+    /// Are both margins as they were?
+    fn holds(&self) -> bool {
+        let end = self.0.len() - MARGIN;
+        (0..MARGIN).chain(end..end + MARGIN).all(|place| self.0[place] == mark(place))
+    }
+}
+
+#[test]
+fn the_check_for_services_stays_inside_what_it_was_lent() {
+    let check = || {
+        let mut watched = [size_of::<Nodes>(), size_of::<Origins>(), size_of::<Values>()]
+            .map(|bytes| Watched::new(bytes / 2));
+        for file in files() {
+            let lent = in_the_middle(&file);
+            let mut buffer = buffer();
+            let [symbols, rows, clauses, bindings, answer] = parts(&mut buffer);
+            let mut tables = Tables { symbols, rows, clauses, bindings };
+            let [nodes, origins, values] = &mut watched;
+            let mut arrays =
+                Arrays { nodes: nodes.array(), origins: origins.array(), values: values.array() };
+            check_numbers_with(&lent[64..64 + file.len()], &mut tables, &mut arrays, answer);
+            assert!(margins_hold(&buffer) && watched.iter().all(Watched::holds));
+            let [.., answer] = parts(&mut buffer);
+            assert_eq!(answer, yestrwyn_second::check(&file).numbers());
         }
     };
     yestrwyn::with_stack(check).expect("a thread");

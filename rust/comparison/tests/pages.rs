@@ -2,9 +2,12 @@
 //! the process.
 
 use std::ffi::c_void;
+use std::mem::size_of;
 use std::slice;
 
+use yestrwyn::exported::{check_numbers_with, Arrays, Nodes, Origins, Values};
 use yestrwyn::{check_here, readout_piece_here, Cells, Rest, Tables, ENOUGH, LENGTHS};
+use yestrwyn_types::ANSWER_CELLS;
 use yestrwyn_vectors::examples::{cases, deep, edges, published};
 use yestrwyn_vectors::random_file;
 
@@ -82,6 +85,7 @@ fn same(name: &str, file: &[u8], place: Place) {
     let mut second = Cells::new();
     let expected = yestrwyn_second::check_into(file, &mut second.lend());
     assert_eq!(check_here(lent, &mut tables), expected, "{name} {place:?}");
+    assert_eq!(for_services(lent, &mut tables, place), expected.numbers(), "{name} {place:?}");
     let mut output = Guarded::new(ENOUGH);
     let piece = readout_piece_here(lent, &mut tables, 0, output.bytes());
     let text = yestrwyn_second::readout(file);
@@ -90,6 +94,25 @@ fn same(name: &str, file: &[u8], place: Place) {
     let Tables { symbols, rows, clauses, bindings } = tables;
     let cells = [&second.symbols, &second.rows, &second.clauses, &second.bindings];
     assert!([symbols, rows, clauses, bindings].into_iter().eq(cells), "{name} {place:?}");
+}
+
+/// The check for services with a workspace of which each array lies against an unreadable page.
+fn for_services(file: &[u8], tables: &mut Tables<'_>, place: Place) -> [u16; ANSWER_CELLS] {
+    let mut guarded = [size_of::<Nodes>(), size_of::<Origins>(), size_of::<Values>()].map(Guarded::new);
+    let [nodes, origins, values] = guarded.each_mut().map(|array| array.cells());
+    let (nodes, origins, values) = (at(nodes, place), at(origins, place), at(values, place));
+    let mut numbers = [0; ANSWER_CELLS];
+    check_numbers_with(file, tables, &mut Arrays { nodes, origins, values }, &mut numbers);
+    numbers
+}
+
+/// An array at one end of some cells.
+fn at<const LENGTH: usize>(cells: &mut [u16], place: Place) -> &mut [u16; LENGTH] {
+    let array = match place {
+        Place::First => cells.first_chunk_mut(),
+        Place::Last => cells.last_chunk_mut(),
+    };
+    array.expect("so many cells")
 }
 
 #[test]

@@ -9,6 +9,10 @@ use std::sync::OnceLock;
 #[path = "../../yestrwyn/examples/check.rs"]
 mod check;
 
+#[allow(dead_code)]
+#[path = "../../yestrwyn/examples/service.rs"]
+mod service;
+
 /// The stored examples.
 const EXAMPLES: [&str; 5] = ["curfew", "duty", "permit", "refused", "two_steps"];
 
@@ -32,10 +36,21 @@ fn verdict(example: &str) -> String {
     readout(example).split_inclusive('\n').next().unwrap_or("").to_string()
 }
 
+/// The lines that a service prints for all examples, if it prints what is asked of their first lines.
+fn for_all(line: impl Fn(&str) -> String) -> String {
+    EXAMPLES.iter().map(|example| line(&verdict(example))).collect()
+}
+
 /// The programs `check` and `readout`, compiled once.
 fn programs() -> &'static [PathBuf; 2] {
     static PROGRAMS: OnceLock<[PathBuf; 2]> = OnceLock::new();
     PROGRAMS.get_or_init(|| ["check", "readout"].map(compiled))
+}
+
+/// The program `service`, compiled once.
+fn service_program() -> &'static Path {
+    static PROGRAM: OnceLock<PathBuf> = OnceLock::new();
+    PROGRAM.get_or_init(|| compiled("service"))
 }
 
 /// Compiles a program of `snippets` against the library and returns where it lies.
@@ -108,11 +123,52 @@ fn the_check_from_rust() {
 }
 
 #[test]
+fn the_service_from_c() {
+    let program = service_program();
+    let files = EXAMPLES.map(|example| path(&format!("examples/{example}.proof")));
+    let output = Command::new(program).args(&files).args(&files).output().expect("it runs");
+    assert!(output.status.success());
+    let accepted = for_all(|line| {
+        let word = if line.starts_with("accepted ") { "accepted" } else { "not accepted" };
+        format!("{word}\n")
+    });
+    assert_eq!(String::from_utf8_lossy(&output.stdout), accepted.repeat(2));
+}
+
+/// A file that is missing, a folder, and a full device.
+#[test]
+fn failed_reads_and_writes_of_the_service() {
+    let program = service_program();
+    for name in ["examples/missing.proof", "examples"] {
+        let read = Command::new(program).arg(path(name)).output().expect("it runs");
+        assert!(!read.status.success() && read.stdout.is_empty() && !read.stderr.is_empty(), "{name}");
+    }
+    let full = fs::File::options().write(true).open("/dev/full").expect("a full device");
+    let mut service = Command::new(program);
+    service.arg(path("examples/duty.proof")).stdout(Stdio::from(full));
+    let written = service.stderr(Stdio::piped()).spawn().and_then(|child| child.wait_with_output());
+    let written = written.expect("it runs");
+    assert!(!written.status.success());
+    assert!(String::from_utf8_lossy(&written.stderr).starts_with("standard output: "));
+}
+
+#[test]
+fn the_service_from_rust() {
+    let read = |example| fs::read(path(&format!("examples/{example}.proof"))).expect("a stored example");
+    let files = EXAMPLES.map(read);
+    let verdicts = service::verdicts(&files).expect("a thread");
+    let lines: String = verdicts.iter().map(|verdict| format!("{verdict}\n")).collect();
+    assert_eq!(lines, for_all(str::to_string));
+}
+
+#[test]
 fn the_guide_quotes_the_programs() {
     let guide = text("docs/FORMAT.md");
     let quoted = [
         ("c", "comparison/snippets/check.c"),
         ("rust", "yestrwyn/examples/check.rs"),
+        ("c", "comparison/snippets/service.c"),
+        ("rust", "yestrwyn/examples/service.rs"),
         ("c", "comparison/snippets/readout.c"),
     ];
     for (language, program) in quoted {

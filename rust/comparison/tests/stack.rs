@@ -4,7 +4,7 @@ use std::io;
 use std::thread::Builder;
 
 use yestrwyn::{check, check_into, readout, readout_piece, write_readout, write_readout_here};
-use yestrwyn::{Cells, Rest, ENOUGH};
+use yestrwyn::{Cells, Rest, Workspace, ENOUGH};
 use yestrwyn_vectors::examples::deep;
 
 /// Runs something on a thread of 128 KiB. A test's own thread has 2 MiB, and the check alone takes more
@@ -25,6 +25,7 @@ fn the_deepest_files_on_a_small_thread() {
         on_a_small_thread(|| {
             assert_eq!(check(file).expect("an answer"), expected);
             assert_eq!(check_into(file, &mut cells.lend()).expect("an answer"), expected);
+            assert_eq!(Workspace::new().check(file).expect("an answer"), expected);
             assert!(readout(file).expect("a readout") == text);
             let mut output = vec![0; ENOUGH.max(text.len())];
             let piece = readout_piece(file, &mut cells.lend(), 0, &mut output).expect("a piece");

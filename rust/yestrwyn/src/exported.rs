@@ -1,98 +1,11 @@
 //! The functions of the static library as they are exported: answer and progress in numbers.
 //!
-//! Both run on the caller's stack; [`check_here`](crate::check_here) says how much it must have.
+//! All run on the caller's stack; [`check_here`](crate::check_here) says how much it must have.
 
-use yestrwyn_types::Tables;
+mod check;
+mod readout;
+mod services;
 
-/// Cells of the progress that are written.
-pub const PROGRESS_CELLS: usize = 3;
-
-extern "C" {
-    fn checker_check(
-        file: *const u8,
-        file_len: usize,
-        symbols: *mut u16,
-        symbols_len: usize,
-        rows: *mut u16,
-        rows_len: usize,
-        clauses: *mut u16,
-        clauses_len: usize,
-        bindings: *mut u16,
-        bindings_len: usize,
-        answer: *mut u16,
-        answer_len: usize,
-    );
-
-    fn checker_readout(
-        file: *const u8,
-        file_len: usize,
-        symbols: *mut u16,
-        symbols_len: usize,
-        rows: *mut u16,
-        rows_len: usize,
-        clauses: *mut u16,
-        clauses_len: usize,
-        bindings: *mut u16,
-        bindings_len: usize,
-        clause: u16,
-        output: *mut u8,
-        output_len: usize,
-        progress: *mut u64,
-        progress_len: usize,
-    );
-}
-
-/// Checks a file; the answer is seven numbers. With fewer than seven cells for it nothing is touched.
-pub fn check_numbers(file: &[u8], tables: &mut Tables<'_>, answer: &mut [u16]) {
-    let Tables { symbols, rows, clauses, bindings } = tables;
-    // Safety: each pointer comes from a slice and is passed with that slice's length, so it is valid
-    // and aligned; the mutable slices overlap nothing. The function stays within these lengths.
-    unsafe {
-        checker_check(
-            file.as_ptr(),
-            file.len(),
-            symbols.as_mut_ptr(),
-            symbols.len(),
-            rows.as_mut_ptr(),
-            rows.len(),
-            clauses.as_mut_ptr(),
-            clauses.len(),
-            bindings.as_mut_ptr(),
-            bindings.len(),
-            answer.as_mut_ptr(),
-            answer.len(),
-        );
-    }
-}
-
-/// A piece of the readout; the progress is three numbers. With fewer than three cells for it nothing
-/// is touched.
-pub fn readout_numbers(
-    file: &[u8],
-    tables: &mut Tables<'_>,
-    clause: u16,
-    output: &mut [u8],
-    progress: &mut [u64],
-) {
-    let Tables { symbols, rows, clauses, bindings } = tables;
-    // Safety: as for the check; output and progress are slices of their own.
-    unsafe {
-        checker_readout(
-            file.as_ptr(),
-            file.len(),
-            symbols.as_mut_ptr(),
-            symbols.len(),
-            rows.as_mut_ptr(),
-            rows.len(),
-            clauses.as_mut_ptr(),
-            clauses.len(),
-            bindings.as_mut_ptr(),
-            bindings.len(),
-            clause,
-            output.as_mut_ptr(),
-            output.len(),
-            progress.as_mut_ptr(),
-            progress.len(),
-        );
-    }
-}
+pub use check::check_numbers;
+pub use readout::{readout_numbers, PROGRESS_CELLS};
+pub use services::{check_numbers_with, Arrays, Nodes, Origins, Values};

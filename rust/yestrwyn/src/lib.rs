@@ -13,7 +13,7 @@
 //! one of this folder that calls them.
 //!
 //! [`check()`] and [`readout()`] take care of the stack themselves. Functions that end in `_here` run on
-//! the caller's, and say how much of it they need.
+//! the caller's, and say how much of it they need. A service that checks many files keeps a [`Workspace`].
 
 #![warn(missing_docs)]
 
@@ -22,10 +22,12 @@ pub mod exported;
 mod check;
 mod readout;
 mod stack;
+mod workspace;
 
 pub use check::{check, check_here, check_into};
 pub use readout::{
     readout, readout_piece, readout_piece_here, write_readout, write_readout_here, Piece, Rest, ENOUGH,
 };
 pub use stack::{with_stack, STACK};
+pub use workspace::Workspace;
 pub use yestrwyn_types::{limits, Answer, Cells, Reason, Tables, Verdict, LENGTHS};

@@ -1,12 +1,13 @@
-//! Compares the proved check and readout with the second implementation on files from a seed on:
+//! Compares the proved check, plain and for services, and the proved readout with the second implementation on
+//! files from a seed on:
 //!
 //! ```text
 //! differential SEED COUNT
 //! ```
 //!
-//! Of each readout it takes two pieces: the first with room for every line, and one from any clause
-//! with any room. Prints one line; at the first difference it prints the file in hexadecimal and ends
-//! with 1.
+//! All files are checked for services with one workspace. Of each readout it takes two pieces: the first with
+//! room for every line, and one from any clause with any room. Prints one line; at the first difference it
+//! prints the file in hexadecimal and ends with 1.
 
 use std::process::ExitCode;
 
@@ -61,7 +62,7 @@ fn run(seed: u64, count: u64) -> ExitCode {
     ExitCode::SUCCESS
 }
 
-/// The kind of answer if neither the check nor the readout differs.
+/// The kind of answer if neither a check nor the readout differs.
 fn both(pair: &mut Pair, file: &[u8], lengths: Lengths, own: u64) -> Result<Option<u16>, String> {
     let kind = pair.compare(file, lengths, own as u16).map_err(|difference| difference.to_string())?;
     Second::new(file, lengths, own as u16).two(&mut SplitMix64::new(own))?;

@@ -1,14 +1,16 @@
-//! The proved check and the second implementation on the same files in one run: a table in Markdown with the times and
-//! their ratio.
+//! The proved check, plain and for services, and the second implementation on the same files in one run: tables in Markdown
+//! with the times and their ratio.
 
 use std::fmt::Display;
 use std::hint::black_box;
 use std::io;
 use std::time::Duration;
 
+use yestrwyn::Workspace;
 use yestrwyn_comparison::clock::own_time;
-use yestrwyn_comparison::files::measured;
+use yestrwyn_comparison::files::{measured, ordinary};
 use yestrwyn_comparison::rounds::Rounds;
+use yestrwyn_types::limits::RECORD_BYTES;
 use yestrwyn_types::{Answer, Cells};
 use yestrwyn_vectors::examples::{cases, heavy};
 use yestrwyn_vectors::stored::groups;
@@ -20,6 +22,12 @@ fn main() -> io::Result<()> {
     println!("| file | proved | second | ratio | over ten rounds |");
     println!("|---|---|---|---|---|");
     yestrwyn::with_stack(on_lent_tables)?;
+    println!();
+    println!(
+        "| file, workspace kept between files | for services | plain | ratio | over ten rounds | second | ratio | over ten rounds |"
+    );
+    println!("|---|---|---|---|---|---|---|---|");
+    yestrwyn::with_stack(with_a_workspace)?;
     println!();
     println!(
         "| file, one call with tables of its own | `yestrwyn::check` | second | ratio | over ten rounds |"
@@ -46,16 +54,47 @@ fn on_lent_tables() {
     }
 }
 
-/// A line of the table.
+/// The check for services, with one workspace for all files, beside the plain one and beside the second implementation.
+fn with_a_workspace() {
+    let mut workspace = Workspace::new();
+    for example in ordinary() {
+        let name = format!("{}, {} records", example.name, example.file.len() / RECORD_BYTES);
+        services_line(name, &[&example.file], &mut workspace);
+    }
+    for group in groups() {
+        let files: Vec<&[u8]> = group.examples.iter().map(|example| example.file.as_slice()).collect();
+        services_line(format!("stored vectors: `{}`", group.name), &files, &mut workspace);
+    }
+}
+
+/// A line of the first table.
 fn check_line(name: impl Display, files: &[&[u8]]) {
-    let proved = |file: &[u8], cells: &mut Cells| yestrwyn::check_here(file, &mut cells.lend());
-    let second = |file: &[u8], cells: &mut Cells| yestrwyn_second::check_into(file, &mut cells.lend());
-    let rounds = Rounds::take(|| time_all(files, proved), || time_all(files, second));
+    let rounds = Rounds::take(|| time_all(files, plain), || time_all(files, second));
     println!("| {name} | {rounds} |");
 }
 
+/// A line of the second table.
+fn services_line(name: impl Display, files: &[&[u8]], workspace: &mut Workspace) {
+    let mut services = || {
+        time_all(files, |file: &[u8], cells: &mut Cells| workspace.check_into_here(file, &mut cells.lend()))
+    };
+    let to_plain = Rounds::take(&mut services, || time_all(files, plain));
+    let to_second = Rounds::take(&mut services, || time_all(files, second));
+    println!("| {name} | {to_plain} | {} |", to_second.beside());
+}
+
+/// The proved check with an array of its own.
+fn plain(file: &[u8], cells: &mut Cells) -> Answer {
+    yestrwyn::check_here(file, &mut cells.lend())
+}
+
+/// The second implementation.
+fn second(file: &[u8], cells: &mut Cells) -> Answer {
+    yestrwyn_second::check_into(file, &mut cells.lend())
+}
+
 /// How long a check takes for all files.
-fn time_all(files: &[&[u8]], check: impl Fn(&[u8], &mut Cells) -> Answer) -> Duration {
+fn time_all(files: &[&[u8]], mut check: impl FnMut(&[u8], &mut Cells) -> Answer) -> Duration {
     let mut cells = Cells::new();
     time(|| {
         for file in files {

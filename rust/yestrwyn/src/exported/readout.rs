@@ -1,0 +1,58 @@
+//! The readout, piece by piece.
+
+use yestrwyn_types::Tables;
+
+/// Cells of the progress that are written.
+pub const PROGRESS_CELLS: usize = 3;
+
+extern "C" {
+    fn checker_readout(
+        file: *const u8,
+        file_len: usize,
+        symbols: *mut u16,
+        symbols_len: usize,
+        rows: *mut u16,
+        rows_len: usize,
+        clauses: *mut u16,
+        clauses_len: usize,
+        bindings: *mut u16,
+        bindings_len: usize,
+        clause: u16,
+        output: *mut u8,
+        output_len: usize,
+        progress: *mut u64,
+        progress_len: usize,
+    );
+}
+
+/// A piece of the readout; the progress is three numbers. With fewer than three cells for it nothing
+/// is touched.
+pub fn readout_numbers(
+    file: &[u8],
+    tables: &mut Tables<'_>,
+    clause: u16,
+    output: &mut [u8],
+    progress: &mut [u64],
+) {
+    let Tables { symbols, rows, clauses, bindings } = tables;
+    // Safety: as for the check; output and progress are slices of their own.
+    unsafe {
+        checker_readout(
+            file.as_ptr(),
+            file.len(),
+            symbols.as_mut_ptr(),
+            symbols.len(),
+            rows.as_mut_ptr(),
+            rows.len(),
+            clauses.as_mut_ptr(),
+            clauses.len(),
+            bindings.as_mut_ptr(),
+            bindings.len(),
+            clause,
+            output.as_mut_ptr(),
+            output.len(),
+            progress.as_mut_ptr(),
+            progress.len(),
+        );
+    }
+}
