@@ -14,8 +14,8 @@ use Rattle.derivation.specs.Derivation.{literals, input, RowLiteral, lit
 abbrev pub literalNumber : RowLiteral → ℕ
 literalNumber l = 2 * l .1 + pick (l .0) 1 0
 
--- The eight cells of a clause in the table of origins. Cell 0 is 1 for an input clause, 2 for a factor, and 2 more than the number of right
--- literals for a resolve. Then come seven numbers: an input clause's literals; a step's parents and literals as its record names them.
+-- The eight cells of a clause in the table of origins. Cell 0 is 1 for an input clause, 2 for a factor, 3 for a resolve.
+-- Then come seven numbers: an input clause's literals; a step's parents and literals as its record names them.
 abbrev pub cellsOfOrigin : Derivation → List ℕ
 cellsOfOrigin (input number ls) = 1 ∷ (map literalNumber ls ++ replicate (7 - length ls) 0)
 cellsOfOrigin (factor number c a b bs) = 2 ∷ clauseNumber c ∷ a ∷ b ∷ 0 ∷ 0 ∷ 0 ∷ 0 ∷ []
