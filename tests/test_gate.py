@@ -17,7 +17,7 @@ def script(path, text):
     path.chmod(0o755)
 
 
-def gate(rt=f"{PROVED}; echo rt: ok; echo 3 passed, 0 failed", cargo="echo Rust log", proved="exit 0", python="True"):
+def gate(rt=f"{PROVED}; echo rt: ok; echo 3 passed, 0 failed", rust="echo Rust log", comparison="exit 0", python="True"):
     """Runs the gate in a folder where every part is a stand-in."""
     with tempfile.TemporaryDirectory() as folder:
         top = Path(folder)
@@ -29,9 +29,9 @@ def gate(rt=f"{PROVED}; echo rt: ok; echo 3 passed, 0 failed", cargo="echo Rust 
         (top / "tests" / "test_it.py").write_text(
             f"import unittest\nclass It(unittest.TestCase):\n    def test_it(self):\n        self.assertTrue({python})\n"
         )
-        script(top / "rust" / "proved" / "test.sh", proved)
+        script(top / "rust" / "test.sh", rust)
+        script(top / "rust" / "comparison" / "test.sh", comparison)
         script(top / "commands" / "rt", f"echo log of the proofs\n{rt}")
-        script(top / "commands" / "cargo", cargo)
         path = f"{top / 'commands'}:{os.environ['PATH']}"
         return subprocess.run(
             ["bash", top / ".ci" / "run"], env={**os.environ, "PATH": path}, capture_output=True, text=True
@@ -49,8 +49,8 @@ class Gate(unittest.TestCase):
         self.ends(gate(), 0, "3 passed, 0 failed")
 
     def test_a_failed_rust_test(self):
-        self.ends(gate(cargo="echo Rust log; exit 101"), 1, "failed: the Rust tests")
-        self.ends(gate(proved="exit 1"), 1, "failed: the Rust tests")
+        self.ends(gate(rust="echo Rust log; exit 101"), 1, "failed: the Rust tests")
+        self.ends(gate(comparison="exit 1"), 1, "failed: the Rust tests")
 
     def test_a_failed_must_fail_edit_or_program(self):
         self.ends(gate(rt=f"{PROVED}; echo 2 passed, 1 failed; exit 1"), 1, "failed: the proofs")
@@ -65,7 +65,7 @@ class Gate(unittest.TestCase):
         self.assertIn("FAILED (failures=1)", run.stderr)
 
     def test_everything_fails(self):
-        run = gate(rt="exit 1", cargo="echo Rust log; exit 1", python="False")
+        run = gate(rt="exit 1", rust="echo Rust log; exit 1", python="False")
         self.ends(run, 1, "failed: the Rust tests, the proofs, the Python tests")
 
 
