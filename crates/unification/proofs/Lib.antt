@@ -4,6 +4,8 @@ pub mod Terms
 pub mod Rows
 pub mod Meaning
 pub mod Turns
+pub mod Outlines
+pub mod UnifiedOutlines
 pub mod Soundness
 pub mod Generality
 pub mod Ranges

@@ -3,6 +3,7 @@ pub mod Row
 pub mod Environment
 pub mod Substitution
 pub mod Unification
+pub mod Outlines
 pub mod Failing
 pub mod Unifier
 pub mod Nodes

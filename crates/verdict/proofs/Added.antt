@@ -18,7 +18,7 @@ use Rattle.verdict.specs.State.{State, nextClause}
 use Rattle.verdict.specs.Step.{stands, step, unifyResolve, unifyFactor, enter}
 use Rattle.verdict.proofs.RangeTests.{of-kind, range-fits, equal, unequal}
 use Rattle.verdict.proofs.StepTests.{resolves, factors}
-use Rattle.verdict.proofs.Inversions.{tests-passed, stands-same, all-stand, named-stands, clause-added, Passed}
+use Rattle.verdict.proofs.Inversions.{tests-passed, stands-same, step-stands, named-stands, clause-added, Passed}
 
 -- The number of a literal is the field that it is read off.
 number-back : (n : ℕ) → 2 * literalOf n .1 + pick (literalOf n .0) 1 0 ≡ n
@@ -72,5 +72,5 @@ module _ (S : State) (k : ℕ) (r : Record) (T : State) (seven : length (r .fiel
 
   pub step-adds : step S k r ≡ stands T → Adds S k r T
   step-adds q =
-      let a = all-stand (tests S (kindOfRecord r) r) (enter S k (kindOfRecord r) r) T q in
+      let a = step-stands S k r T q in
       adds (kindOfRecord r) refl (tests-passed S (kindOfRecord r) r (a .0)) (a .1)

@@ -18,7 +18,7 @@ use Rattle.verdict.specs.Refusal.{tests, Reason, kindOfRecord, zeros, ar
 use Rattle.verdict.specs.State.{State, emptyState, withRow, withClause, rowsOf, derivations, nextClause}
 use Rattle.verdict.specs.Step.{stands, refused, Result, step, unifyResolve, unifyFactor, enter, read, allStand, refusedAt}
 use Rattle.verdict.specs.Verdict.{ending}
-use Rattle.verdict.proofs.Inversions.{tests-passed, stands-same, all-stand, named-stands, clause-added, Passed}
+use Rattle.verdict.proofs.Inversions.{tests-passed, stands-same, step-stands, named-stands, clause-added, Passed}
 use Rattle.verdict.proofs.Reading.{start-ok, read-on}
 use Rattle.verdict.proofs.Sources.{Sourced, step-sourced}
 use Rattle.verdict.proofs.Standing.{StateOk}
@@ -113,7 +113,7 @@ module _ (F : List ℕ) (k : ℕ) (S : State) (H : Standing F k S) (l : k < reco
 
     pub advance : Standing F (suc k) T
     advance =
-        let a = all-stand (tests S (kindOfRecord rec) rec) (enter S k (kindOfRecord rec) rec) T q in
+        let a = step-stands S k rec T q in
         let o = one-more (kindOfRecord rec) (tests-passed S (kindOfRecord rec) rec (a .0)) (a .1) in
         record { before = before-next; ok = step-ok k S (H .ok) k rec T seven q; sourced = step-sourced S k rec T seven q (H .sourced); tally = o }
 

@@ -6,6 +6,7 @@ use Prim.Native.Nat.{ℕ}
 use lib.ListN.{length}
 use Rattle.record.specs.Bytes.{recordBytes, fileBytes}
 use Rattle.record.specs.Record.{records}
+use Rattle.unification.specs.Outlines.{mostOutlinePairs, clashWithin}
 use Rattle.unification.specs.Unification.{mostWork, mostBindings, mostLinks, run}
 use Rattle.unification.proofs.Tests.{true-not-false}
 use Rattle.verdict.specs.Cases.{CasesHold, refusedForLength, LengthsHold}
@@ -19,11 +20,11 @@ use Rattle.verdict.specs.Verdict.{check, answerNumbers, Lengths, fitting
 use Rattle.verdict.proofs.Demanded.{length-only}
 
 pub cases-hold : CasesHold
-unfolding fileBytes recordBytes records check tablesAfter readoutLines ending held require addClause run mostWork mostBindings mostLinks mostLiterals mostIndex
+unfolding fileBytes recordBytes records check tablesAfter readoutLines ending held require addClause clashWithin mostOutlinePairs run mostWork mostBindings mostLinks mostLiterals mostIndex
 cases-hold = refl
 
 pub edges-hold : EdgesHold
-unfolding fileBytes recordBytes records check ending held require addClause run mostWork mostBindings mostLinks mostLiterals mostIndex
+unfolding fileBytes recordBytes records check ending held require addClause clashWithin mostOutlinePairs run mostWork mostBindings mostLinks mostLiterals mostIndex
 edges-hold = refl
 
 pub short-tables-hold : ShortTablesHold

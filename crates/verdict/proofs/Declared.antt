@@ -13,7 +13,7 @@ use Rattle.verdict.specs.Conditions.{OneOf}
 use Rattle.verdict.specs.Refusal.{tests, Reason, kindOfRecord, inRange, leftOf, rightOf, deletedOf, newRow}
 use Rattle.verdict.specs.State.{State, rowsOf, nextClause}
 use Rattle.verdict.specs.Step.{stands, refused, Result, step, unifyResolve, unifyFactor, enter, read, allStand, refusedAt}
-use Rattle.verdict.proofs.Inversions.{tests-passed, stands-same, all-stand, named-stands, clause-added, Passed}
+use Rattle.verdict.proofs.Inversions.{tests-passed, stands-same, step-stands, named-stands, clause-added, Passed}
 use Rattle.verdict.proofs.Reading.{ending-stands}
 
 -- A record of this kind declares a row.
@@ -43,7 +43,7 @@ rows-entered S k r T otherKind a q = absurd a
 
 rows-after : (S : State) (k : ℕ) (r : Record) (T : State) → step S k r ≡ stands T → RowsAfter S (kindOfRecord r) r T
 rows-after S k r T q =
-    let a = all-stand (tests S (kindOfRecord r) r) (enter S k (kindOfRecord r) r) T q in
+    let a = step-stands S k r T q in
     rows-entered S k r T (kindOfRecord r) (tests-passed S (kindOfRecord r) r (a .0)) (a .1)
 
 -- A row that one of the records declares.

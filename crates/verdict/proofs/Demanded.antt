@@ -22,7 +22,7 @@ use Rattle.derivation.proofs.Forms.{instances-formed}
 use Rattle.derivation.proofs.Known.{known-uses}
 use Rattle.derivation.proofs.Literals.{uses-length, leb-false-lt}
 use Rattle.derivation.proofs.Values.{refutes, writes-out, writes-out-unique, values-exist, values-unique}
-use Rattle.verdict.specs.Conditions.{OneOf, LengthUnfit, lengthOver, notMultiple, TableShort, symbolsShort, rowsShort, clausesShort, bindingsShort, Condition, unknownKind, outsideRange, nothingThere, rowAgain, variableAsLiteral, unfitSigns, largeResult, clashing, occurring, overworking, overfull}
+use Rattle.verdict.specs.Conditions.{OneOf, LengthUnfit, lengthOver, notMultiple, TableShort, symbolsShort, rowsShort, clausesShort, bindingsShort, Condition, unknownKind, outsideRange, nothingThere, rowAgain, variableAsLiteral, unfitSigns, largeResult, clashingOutlines, clashing, occurring, overworking, overfull}
 use Rattle.verdict.specs.Demands.{Reached, ComesTo, Untouched, LeftBefore, Demand1, ConditionAt, ofLength, ofTables, ofRecord, Due, LowestEmpty, NoneEmpty, Demand2, Refutation, Demand3}
 use Rattle.verdict.specs.Refusal.{Reason, badLength, shortTable, reasonNumber}
 use Rattle.verdict.specs.State.{State, emptyState, rowsOf, derivations, arityOf, clauseOf, rowOf, termOf, held}
@@ -295,6 +295,7 @@ module _ (file : List ℕ) (tables : Tables) where
   condition-stated n (variableAsLiteral h) = one-of 7 thirteen refl
   condition-stated n (unfitSigns h) = one-of 8 thirteen refl
   condition-stated n (largeResult h) = one-of 9 thirteen refl
+  condition-stated n (clashingOutlines h) = one-of 10 thirteen refl
   condition-stated n (clashing h) = one-of 10 thirteen refl
   condition-stated n (occurring h) = one-of 11 thirteen refl
   condition-stated n (overworking h) = one-of 12 thirteen refl

@@ -16,9 +16,9 @@ use Rattle.unification.proofs.Rows.{Below, eqb-below}
 use Rattle.unification.proofs.Tests.{to-T, from-T, both-true, true-not-false, some-not-none, some-injective}
 use Rattle.derivation.specs.Derivation.{literals, Literal, RowLiteral, inputLiterals, Derivation, numbered}
 use Rattle.derivation.proofs.Literals.{leb-false-lt}
-use Rattle.verdict.specs.Refusal.{tests, Reason, reasonNumber, unification, inRange, literalIn, literalNamed, leftOf, rightOf, deletedOf, isThere, hasArity, allBelow, argumentsThere, literalRowsThere, bothThere, newRow, differsFromAll, allApplications, equalSigns, fittingSigns, resolventFits, factorFits}
+use Rattle.verdict.specs.Refusal.{tests, outlineTests, Reason, reasonNumber, unification, kindOfRecord, inRange, literalIn, literalNamed, leftOf, rightOf, deletedOf, isThere, hasArity, allBelow, argumentsThere, literalRowsThere, bothThere, newRow, differsFromAll, allApplications, equalSigns, fittingSigns, resolventFits, factorFits}
 use Rattle.verdict.specs.State.{State, withClause, entry, rowsOf, clauseOf, rowOf}
-use Rattle.verdict.specs.Step.{stands, refused, Result, require, requireAll, step, addClause, onNamed}
+use Rattle.verdict.specs.Step.{stands, refused, Result, require, requireAll, enter, step, addClause, onNamed}
 
 pub stands-same : {S T : State} → stands S ≡ stands T → S ≡ T
 stands-same p = cc
@@ -63,6 +63,17 @@ all-refused (t ∷ ts) next q e = try (t .0) refl e (λ z. all-refused ts next q
         → FirstFailing (t ∷ ts) q ⊎ (AllPass (t ∷ ts) × (next ≡ refused q))
     try true p z k = more p (k z)
     try false p z k = inl (subst (FirstFailing (t ∷ ts)) (refused-injective z) (failsHere p))
+
+pub all-passed : (ts : List (Bool × Reason)) (next : Result) → AllPass ts → requireAll ts next ≡ next
+unfolding require
+all-passed [] next a = refl
+all-passed (t ∷ ts) next a = ap (λ (b : Bool). require b (t .1) (requireAll ts next)) (a .0) ∙ all-passed ts next (a .1)
+
+-- A record that stands has passed its tests and is entered.
+pub step-stands : (S : State) (k : ℕ) (r : Record) (T : State) → step S k r ≡ stands T → AllPass (tests S (kindOfRecord r) r) × (enter S k (kindOfRecord r) r ≡ stands T)
+step-stands S k r T q =
+    let a = all-stand (tests S (kindOfRecord r) r) (requireAll (outlineTests S (kindOfRecord r) r) (enter S k (kindOfRecord r) r)) T q in
+    (a .0, all-stand (outlineTests S (kindOfRecord r) r) (enter S k (kindOfRecord r) r) T (a .1) .1)
 
 -- A step that stands, or is refused, on the literals that it names.
 pub named-stands : (step : Derivation × Literal → Derivation × Literal → Result) (o p : Option (Derivation × Literal)) (S : State) → onNamed step o p ≡ stands S

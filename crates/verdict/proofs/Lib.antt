@@ -16,3 +16,4 @@ pub mod CasesProved
 pub mod Sources
 pub mod Tabled
 pub mod Advance
+pub mod OutlinesShown

@@ -1,13 +1,14 @@
 -- A record is refused exactly where the condition stated for a number holds, and with the lowest such number.
-use mathlib.Core.Path.{_≡_, refl, sym, ap, _∙_, subst, subst₂}
+use mathlib.Core.Path.{_≡_, refl, sym, ap, ap₂, _∙_, subst, subst₂}
 use mathlib.Core.Logic.{_⊎_, inl, inr}
 use mathlib.Core.Bool.{Bool, true, false, not}
-use mathlib.Core.Option.{some}
+use mathlib.Core.Option.{Option, some}
 use mathlib.Core.List.{List, [], _∷_}
 use Prim.Native.Nat.{ℕ, _+_, _≤_, _<_}
 use native.Mathlib.Omega.{arith}
 use lib.Dec.{eqb, leb, eqb→eq}
 use lib.ListN.{length, take}
+use borrow.Author.Tests.{not-false}
 use Rattle.record.specs.Record.{pick, Record, records, otherKind, Kind, kindNumbered, symbolKind, variableKind, applicationKind, inputKind, resolveKind, factorKind, fieldB, fieldC, fieldD}
 use Rattle.unification.specs.Environment.{Binding, Environment}
 use Rattle.unification.specs.Failing.{Failing}
@@ -16,12 +17,13 @@ use Rattle.unification.specs.Unification.{mostWork, mostLinks, endless, Failure
 use Rattle.unification.specs.Unifier.{TermPair, NoUnifier}
 use Rattle.unification.proofs.Failures.{fails, failing-fails}
 use Rattle.unification.proofs.Limits.{bindings-8192, work-16384}
+use Rattle.unification.proofs.Outlines.{clash-found, found-clash}
 use Rattle.unification.proofs.Tests.{to-T, true-not-false, some-injective}
 use Rattle.derivation.specs.Derivation.{Literal, Derivation, resolve, factor, raise, maximumIndex, joined, lookup}
 use Rattle.derivation.specs.Written.{renamed}
-use Rattle.verdict.specs.Conditions.{OneOf, RowRepeated, Fails, StepFails, resolveFails, factorFails, Condition, unknownKind, outsideRange, nothingThere, rowAgain, variableAsLiteral, unfitSigns, largeResult, clashing, occurring, overworking, overfull}
+use Rattle.verdict.specs.Conditions.{OneOf, RowRepeated, OutlinesClash, resolveOutlines, factorOutlines, Fails, StepFails, resolveFails, factorFails, Condition, unknownKind, outsideRange, nothingThere, rowAgain, variableAsLiteral, unfitSigns, largeResult, clashingOutlines, clashing, occurring, overworking, overfull}
 use Rattle.verdict.specs.Demands.{Reached, atomOf, StepAtoms, resolveAtoms, factorAtoms}
-use Rattle.verdict.specs.Refusal.{tests, Reason, unification, reasonNumber, kindOfRecord, inRange, leftOf, rightOf, deletedOf, newRow, differsFromAll}
+use Rattle.verdict.specs.Refusal.{tests, outlineTests, outlinesAgree, onBoth, Reason, unification, reasonNumber, kindOfRecord, inRange, leftOf, rightOf, deletedOf, newRow, differsFromAll}
 use Rattle.verdict.specs.State.{State, emptyState, rowsOf, rowOf, held, nextClause}
 use Rattle.verdict.specs.Step.{stands, refused, Result, require, requireAll, step, addClause, unifyResolve, unifyFactor, enter}
 use Rattle.verdict.proofs.RangeTests.{of-kind, other-kind, range-over, out-of-range}
@@ -29,17 +31,17 @@ use Rattle.verdict.proofs.ExistenceTests.{arguments-absent, literal-row
 use Rattle.verdict.proofs.RowTests.{row-repeated, repeated-fails}
 use Rattle.verdict.proofs.StepTests.{literal-on-variable, on-variable-fails, resolves-left, resolves-right, factors-kept, factors-deleted, resolves, factors, both-named, resolve-signs, factor-signs, signs-fail, resolvent-over, factor-over, result-fails}
 use Rattle.verdict.proofs.Declared.{IsRow, variableRow, applicationRow, all-declared, declared-there}
-use Rattle.verdict.proofs.Inversions.{FirstFailing, failsHere, passesHere, AllPass, all-refused, clause-refused, never-both, refused-injective, Passed, tests-passed, testFor}
+use Rattle.verdict.proofs.Inversions.{FirstFailing, failsHere, passesHere, AllPass, all-refused, all-passed, clause-refused, never-both, refused-injective, Passed, tests-passed, testFor}
 use Rattle.verdict.proofs.Reading.{reached-shaped, reached-seven, reached-ok}
-use Rattle.verdict.proofs.Resolution.{at-kind, enter-resolve, enter-factor, resolve-no-unifier, factor-no-unifier, resolve-not-endless, factor-not-endless}
+use Rattle.verdict.proofs.Resolution.{at-kind, enter-resolve, enter-factor, resolve-no-unifier, factor-no-unifier, resolve-outlines-apart, factor-outlines-apart, resolve-not-endless, factor-not-endless}
 use Rattle.verdict.proofs.Steps.{signs-resolve, signs-factor}
 
 -- The numbers of tests rise, from m on, and are below 10.
-abbrev Rising : ℕ → List (Bool × Reason) → Type 0
+abbrev pub Rising : ℕ → List (Bool × Reason) → Type 0
 Rising m [] = Unit {0}
 Rising m (t ∷ ts) = (m ≤ reasonNumber (t .1)) × (reasonNumber (t .1) < 10) × Rising (reasonNumber (t .1)) ts
 
-tests-rising : (S : State) (kind : Kind) (r : Record) → Rising 3 (tests S kind r)
+pub tests-rising : (S : State) (kind : Kind) (r : Record) → Rising 3 (tests S kind r)
 tests-rising S symbolKind r = (omega arith, omega arith, tt)
 tests-rising S variableKind r = (omega arith, omega arith, (omega arith, omega arith, tt))
 tests-rising S applicationKind r = (omega arith, omega arith, (omega arith, omega arith, (omega arith, omega arith, tt)))
@@ -48,7 +50,7 @@ tests-rising S resolveKind r = (omega arith, omega arith, (omega arith, omega ar
 tests-rising S factorKind r = (omega arith, omega arith, (omega arith, omega arith, (omega arith, omega arith, (omega arith, omega arith, tt))))
 tests-rising S otherKind r = (omega arith, omega arith, tt)
 
-rising-first : (m : ℕ) (ts : List (Bool × Reason)) (q : Reason) → Rising m ts → FirstFailing ts q → (m ≤ reasonNumber q) × (reasonNumber q < 10)
+pub rising-first : (m : ℕ) (ts : List (Bool × Reason)) (q : Reason) → Rising m ts → FirstFailing ts q → (m ≤ reasonNumber q) × (reasonNumber q < 10)
 rising-first m ts q h (failsHere p) = (h .0, h .1)
 rising-first m ts q h (passesHere {t} {ts = us} p f) = let z = rising-first (reasonNumber (t .1)) us q (h .2) f in let y = h .0 in (omega arith, z .1)
 
@@ -69,12 +71,12 @@ first-failing m (t ∷ ts) n h e = try (t .0) refl (eqb (reasonNumber (t .1)) n)
     try false p true c z k = (t .1, failsHere p, h .0, let a = at c in omega arith)
     try false p false c z k = let l = k z in (t .1, failsHere p, h .0, let a = l .2 in let b = l .3 in omega arith)
 
-first-refused : (ts : List (Bool × Reason)) (next : Result) (q : Reason) → FirstFailing ts q → requireAll ts next ≡ refused q
+pub first-refused : (ts : List (Bool × Reason)) (next : Result) (q : Reason) → FirstFailing ts q → requireAll ts next ≡ refused q
 unfolding require
 first-refused ts next q (failsHere {t} {ts = us} p) = ap (λ (b : Bool). require b (t .1) (requireAll us next)) p
 first-refused ts next q (passesHere {t} {ts = us} p f) = ap (λ (b : Bool). require b (t .1) (requireAll us next)) p ∙ first-refused us next q f
 
-pass-or-fail : (ts : List (Bool × Reason)) → AllPass ts ⊎ ((q : Reason) × FirstFailing ts q)
+pub pass-or-fail : (ts : List (Bool × Reason)) → AllPass ts ⊎ ((q : Reason) × FirstFailing ts q)
 pass-or-fail [] = inl tt
 pass-or-fail (t ∷ ts) = try (t .0) refl (pass-or-fail ts)
   where
@@ -83,10 +85,22 @@ pass-or-fail (t ∷ ts) = try (t .0) refl (pass-or-fail ts)
     try true p (inr f) = inr (f .0, passesHere p (f .1))
     try false p h = inr (t .1, failsHere p)
 
-all-passed : (ts : List (Bool × Reason)) (next : Result) → AllPass ts → requireAll ts next ≡ next
-unfolding require
-all-passed [] next a = refl
-all-passed (t ∷ ts) next a = ap (λ (b : Bool). require b (t .1) (requireAll ts next)) (a .0) ∙ all-passed ts next (a .1)
+no-test-fails : {q : Reason} → ¬ FirstFailing [] q
+no-test-fails {q} f = try [] q f refl
+  where
+    nothing : {t : Bool × Reason} {us : List (Bool × Reason)} → ¬ (_≡_ {A = List (Bool × Reason)} (t ∷ us) [])
+    nothing e = let z : _≡_ {A = ℕ} 0 1 = cc in omega arith
+
+    try : (ts : List (Bool × Reason)) (q : Reason) → FirstFailing ts q → ¬ (ts ≡ [])
+    try ts q (failsHere p) e = nothing e
+    try ts q (passesHere p g) e = nothing e
+
+named-fails : (test : Derivation × Literal → Derivation × Literal → Bool) (o p : Option (Derivation × Literal)) (x y : Derivation × Literal) → o ≡ some x → p ≡ some y → onBoth test o p ≡ false → test x y ≡ false
+named-fails test o p x y e f z = rw (e, f) at z
+
+only-test-fails : {t : Bool × Reason} {q : Reason} → FirstFailing (t ∷ []) q → (t .0 ≡ false) × (t .1 ≡ q)
+only-test-fails (failsHere p) = (p, refl)
+only-test-fails (passesHere p f) = absurd (no-test-fails f)
 
 stands-refused : {S : State} {q : Reason} → stands S ≡ refused q → ⊥
 stands-refused p = never-both (stands _) refl p
@@ -130,11 +144,11 @@ module _ (file : List ℕ) (k : ℕ) (S : State) (r : Record) (R : Reached file 
   tests-sound otherKind e = (λ p. unknownKind (of-kind r otherKind e), λ p. tt)
 
   -- ── A refusal by unification ──
-  data ByUnification (f : Failure) : Type 0 where
+  pub data ByUnification (f : Failure) : Type 0 where
     resolving : {x y : Derivation × Literal} → kindOfRecord r ≡ resolveKind → leftOf S r ≡ some x → rightOf S r ≡ some y → y .1 .0 ≡ not (x .1 .0) → unifyResolve S x y ≡ failed f → ByUnification f
     factoring : {x y : Derivation × Literal} → kindOfRecord r ≡ factorKind → leftOf S r ≡ some x → deletedOf S r ≡ some y → y .1 .0 ≡ x .1 .0 → unifyFactor S x y ≡ failed f → ByUnification f
 
-  by-unification : (kind : Kind) (q : Reason) → kindOfRecord r ≡ kind → Passed S kind r → enter S k kind r ≡ refused q → (f : Failure) × (unification f ≡ q) × ByUnification f
+  pub by-unification : (kind : Kind) (q : Reason) → kindOfRecord r ≡ kind → Passed S kind r → enter S k kind r ≡ refused q → (f : Failure) × (unification f ≡ q) × ByUnification f
   by-unification symbolKind q e a z = absurd (stands-refused z)
   by-unification variableKind q e a z = absurd (stands-refused z)
   by-unification applicationKind q e a z = absurd (stands-refused z)
@@ -149,7 +163,7 @@ module _ (file : List ℕ) (k : ℕ) (S : State) (r : Record) (R : Reached file 
       (c .0, c .2, factoring e (n .2) (n .3) (signs-factor S r (n .0) (n .1) (n .2) (n .3) (a .signs) .0) (c .1))
   by-unification otherKind q e a z = absurd a
 
-  not-endless : (f : Failure) → ByUnification f → ¬ (f ≡ endless)
+  pub not-endless : (f : Failure) → ByUnification f → ¬ (f ≡ endless)
   not-endless f (resolving {x} {y} e p q s u) z = resolve-not-endless S (reached-ok file k S r R) k r x y p q (u ∙ ap failed z)
   not-endless f (factoring {x} {y} e p q s u) z = factor-not-endless S (reached-ok file k S r R) k r x y p q (u ∙ ap failed z)
 
@@ -168,35 +182,63 @@ module _ (file : List ℕ) (k : ℕ) (S : State) (r : Record) (R : Reached file 
   failure-condition full b = overfull (step-fails full b)
   failure-condition endless b = absurd (not-endless endless b refl)
 
-  -- How a record comes to be refused: by its first failing test, or by unification.
-  data RefusedBy (q : Reason) : Type 0 where
+  -- ── A refusal by outlines ──
+  pub data ByOutlines : Type 0 where
+    resolveApart : {x y : Derivation × Literal} → kindOfRecord r ≡ resolveKind → leftOf S r ≡ some x → rightOf S r ≡ some y → outlinesAgree S x y ≡ false → ByOutlines
+    factorApart : {x y : Derivation × Literal} → kindOfRecord r ≡ factorKind → leftOf S r ≡ some x → deletedOf S r ≡ some y → outlinesAgree S x y ≡ false → ByOutlines
+
+  pub by-outlines : (kind : Kind) (q : Reason) → kindOfRecord r ≡ kind → Passed S kind r → FirstFailing (outlineTests S kind r) q → (unification clash ≡ q) × ByOutlines
+  by-outlines symbolKind q e a f = absurd (no-test-fails f)
+  by-outlines variableKind q e a f = absurd (no-test-fails f)
+  by-outlines applicationKind q e a f = absurd (no-test-fails f)
+  by-outlines inputKind q e a f = absurd (no-test-fails f)
+  by-outlines resolveKind q e a f =
+      let n = both-named S r seven (leftOf S r) (rightOf S r) (a .there) in
+      let o = only-test-fails f in
+      (o .1, resolveApart e (n .2) (n .3) (named-fails (outlinesAgree S) (leftOf S r) (rightOf S r) (n .0) (n .1) (n .2) (n .3) (o .0)))
+  by-outlines factorKind q e a f =
+      let n = both-named S r seven (leftOf S r) (deletedOf S r) (a .there) in
+      let o = only-test-fails f in
+      (o .1, factorApart e (n .2) (n .3) (named-fails (outlinesAgree S) (leftOf S r) (deletedOf S r) (n .0) (n .1) (n .2) (n .3) (o .0)))
+  by-outlines otherKind q e a f = absurd a
+
+  pub outlines-clash : ByOutlines → OutlinesClash S r
+  outlines-clash (resolveApart {x} {y} e p q z) = resolveOutlines (resolves S r seven x y e p q) (clash-found (rowOf S) (x .1 .1 .0) (y .1 .1 .0) (not-false _ z))
+  outlines-clash (factorApart {x} {y} e p q z) = factorOutlines (factors S r seven x y e p q) (clash-found (rowOf S) (x .1 .1 .0) (y .1 .1 .0) (not-false _ z))
+
+  -- How a record comes to be refused: by its first failing test, by its outlines, or by unification.
+  pub data RefusedBy (q : Reason) : Type 0 where
     byTest : FirstFailing (tests S (kindOfRecord r) r) q → RefusedBy q
+    byOutlines : unification clash ≡ q → ByOutlines → RefusedBy q
     byFailure : {f : Failure} → unification f ≡ q → ByUnification f → RefusedBy q
 
-  refused-by : (q : Reason) → step S k r ≡ refused q → RefusedBy q
-  refused-by q z = try (all-refused (tests S (kindOfRecord r) r) (enter S k (kindOfRecord r) r) q z)
+  pub refused-by : (q : Reason) → step S k r ≡ refused q → RefusedBy q
+  refused-by q z = try (all-refused (tests S (kindOfRecord r) r) (requireAll (outlineTests S (kindOfRecord r) r) (enter S k (kindOfRecord r) r)) q z)
     where
-      try : FirstFailing (tests S (kindOfRecord r) r) q ⊎ (AllPass (tests S (kindOfRecord r) r) × (enter S k (kindOfRecord r) r ≡ refused q)) → RefusedBy q
+      passed : Passed S (kindOfRecord r) r → FirstFailing (outlineTests S (kindOfRecord r) r) q ⊎ (AllPass (outlineTests S (kindOfRecord r) r) × (enter S k (kindOfRecord r) r ≡ refused q)) → RefusedBy q
+      passed a (inl f) = let b = by-outlines (kindOfRecord r) q refl a f in byOutlines (b .0) (b .1)
+      passed a (inr e) = let b = by-unification (kindOfRecord r) q refl a (e .1) in byFailure (b .1) (b .2)
+
+      try : FirstFailing (tests S (kindOfRecord r) r) q ⊎ (AllPass (tests S (kindOfRecord r) r) × (requireAll (outlineTests S (kindOfRecord r) r) (enter S k (kindOfRecord r) r) ≡ refused q)) → RefusedBy q
       try (inl f) = byTest f
-      try (inr a) =
-          let b = by-unification (kindOfRecord r) q refl (tests-passed S (kindOfRecord r) r (a .0)) (a .1) in
-          byFailure (b .1) (b .2)
+      try (inr a) = passed (tests-passed S (kindOfRecord r) r (a .0)) (all-refused (outlineTests S (kindOfRecord r) r) (enter S k (kindOfRecord r) r) q (a .1))
 
   pub refused-condition : (q : Reason) → step S k r ≡ refused q → Condition (take k (records file)) S r (reasonNumber q)
   refused-condition q z = try (refused-by q z)
     where
       try : RefusedBy q → Holds (reasonNumber q)
       try (byTest f) = sound-first (tests S (kindOfRecord r) r) q (tests-sound (kindOfRecord r) refl) f
+      try (byOutlines e b) = subst (λ (p : Reason). Holds (reasonNumber p)) e (clashingOutlines (outlines-clash b))
       try (byFailure {f} e b) = subst (λ (p : Reason). Holds (reasonNumber p)) e (failure-condition f b)
 
   -- ── A condition that holds: the record is refused with a number no higher ──
-  abbrev RefusedUpTo : ℕ → Type 0
+  abbrev pub RefusedUpTo : ℕ → Type 0
   RefusedUpTo n = (q : Reason) × (step S k r ≡ refused q) × (reasonNumber q ≤ n)
 
   test-refuses : (n : ℕ) → testFor (tests S (kindOfRecord r) r) n ≡ false → RefusedUpTo n
   test-refuses n e =
       let z = first-failing 3 (tests S (kindOfRecord r) r) n (tests-rising S (kindOfRecord r) r) e in
-      (z .0, first-refused (tests S (kindOfRecord r) r) (enter S k (kindOfRecord r) r) (z .0) (z .1), z .3)
+      (z .0, first-refused (tests S (kindOfRecord r) r) (requireAll (outlineTests S (kindOfRecord r) r) (enter S k (kindOfRecord r) r)) (z .0) (z .1), z .3)
 
   two-refuse : (m n : ℕ) → m ≤ n → (testFor (tests S (kindOfRecord r) r) m ≡ false) ⊎ (testFor (tests S (kindOfRecord r) r) n ≡ false) → RefusedUpTo n
   two-refuse m n l (inl e) = let z = test-refuses m e in (z .0, z .1, let a = z .2 in omega arith)
@@ -206,24 +248,49 @@ module _ (file : List ℕ) (k : ℕ) (S : State) (r : Record) (R : Reached file 
   unfolding addClause
   enter-refused S k clause f = refl
 
-  tests-or : (n : ℕ) → 10 ≤ n → (kind : Kind) → kindOfRecord r ≡ kind → (f : Failure) → failureNumber f ≡ n → enter S k kind r ≡ refused (unification f) → RefusedUpTo n
-  tests-or n l kind e f g z = try (pass-or-fail (tests S kind r))
+  -- Once the tests are passed a record is refused; or a test refuses it before.
+  tests-or : (n : ℕ) → 10 ≤ n → (kind : Kind) → kindOfRecord r ≡ kind → ((q : Reason) × (requireAll (outlineTests S kind r) (enter S k kind r) ≡ refused q) × (reasonNumber q ≤ n)) → RefusedUpTo n
+  tests-or n l kind e z = try (pass-or-fail (tests S kind r))
     where
       try : AllPass (tests S kind r) ⊎ ((q : Reason) × FirstFailing (tests S kind r) q) → RefusedUpTo n
-      try (inl a) = (unification f, at-kind S k r kind e ∙ all-passed (tests S kind r) (enter S k kind r) a ∙ z, omega arith)
+      try (inl a) = (z .0, at-kind S k r kind e ∙ all-passed (tests S kind r) (requireAll (outlineTests S kind r) (enter S k kind r)) a ∙ z .1, z .2)
       try (inr h) =
           let y = rising-first 3 (tests S kind r) (h .0) (tests-rising S kind r) (h .1) .1 in
-          (h .0, at-kind S k r kind e ∙ first-refused (tests S kind r) (enter S k kind r) (h .0) (h .1), omega arith)
+          (h .0, at-kind S k r kind e ∙ first-refused (tests S kind r) (requireAll (outlineTests S kind r) (enter S k kind r)) (h .0) (h .1), omega arith)
+
+  outline-number : (kind : Kind) (q : Reason) → FirstFailing (outlineTests S kind r) q → reasonNumber q ≡ 10
+  outline-number symbolKind q f = absurd (no-test-fails f)
+  outline-number variableKind q f = absurd (no-test-fails f)
+  outline-number applicationKind q f = absurd (no-test-fails f)
+  outline-number inputKind q f = absurd (no-test-fails f)
+  outline-number resolveKind q f = ap reasonNumber (sym (only-test-fails f .1))
+  outline-number factorKind q f = ap reasonNumber (sym (only-test-fails f .1))
+  outline-number otherKind q f = absurd (no-test-fails f)
+
+  outlines-or : (n : ℕ) → 10 ≤ n → (kind : Kind) → kindOfRecord r ≡ kind → (f : Failure) → failureNumber f ≡ n → enter S k kind r ≡ refused (unification f) → RefusedUpTo n
+  outlines-or n l kind e f g z = tests-or n l kind e (try (pass-or-fail (outlineTests S kind r)))
+    where
+      try : AllPass (outlineTests S kind r) ⊎ ((q : Reason) × FirstFailing (outlineTests S kind r) q) → (q : Reason) × (requireAll (outlineTests S kind r) (enter S k kind r) ≡ refused q) × (reasonNumber q ≤ n)
+      try (inl a) = (unification f, all-passed (outlineTests S kind r) (enter S k kind r) a ∙ z, omega arith)
+      try (inr h) = (h .0, first-refused (outlineTests S kind r) (enter S k kind r) (h .0) (h .1), let y = outline-number kind (h .0) (h .1) in omega arith)
+
+  pub outlines-refuse : OutlinesClash S r → RefusedUpTo 10
+  outlines-refuse (resolveOutlines {left} {right} {l = c} {m = d} N f) =
+      let z : onBoth (outlinesAgree S) (leftOf S r) (rightOf S r) ≡ false = rw (resolves-left S r seven N, resolves-right S r seven N) (ap not (found-clash (rowOf S) (c .1 .0) (d .1 .0) f)) in
+      tests-or 10 (omega arith) resolveKind (ap kindNumbered (N .isResolve)) (unification clash, first-refused (outlineTests S resolveKind r) (enter S k resolveKind r) (unification clash) (failsHere z), omega arith)
+  outlines-refuse (factorOutlines {parent} {l = c} {m = d} N f) =
+      let z : onBoth (outlinesAgree S) (leftOf S r) (deletedOf S r) ≡ false = rw (factors-kept S r seven N, factors-deleted S r seven N) (ap not (found-clash (rowOf S) (c .1 .0) (d .1 .0) f)) in
+      tests-or 10 (omega arith) factorKind (ap kindNumbered (N .isFactor)) (unification clash, first-refused (outlineTests S factorKind r) (enter S k factorKind r) (unification clash) (failsHere z), omega arith)
 
   failure-refuses : (n : ℕ) → 10 ≤ n → (f : Failure) → failureNumber f ≡ n → StepFails S r f → RefusedUpTo n
   failure-refuses n least f g (resolveFails {left} {right} {l = c} {m = d} N h) =
       let ρ = joined (maximumIndex left) (lookup left) (lookup right) in
-      tests-or n least resolveKind (ap kindNumbered (N .isResolve)) f g
+      outlines-or n least resolveKind (ap kindNumbered (N .isResolve)) f g
       (enter-resolve S k r (left, c) (right, d) (resolves-left S r seven N) (resolves-right S r seven N)
       ∙ ap (addClause S k (resolve (nextClause S) left (fieldB r) right (fieldD r))) (failing-fails (rowOf S) mostLinks (noRoom (held S)) ρ mostWork (unifying [] ((c .1, raise (maximumIndex left) (d .1)) ∷ [])) f (unstated S ρ ((c .1, raise (maximumIndex left) (d .1)) ∷ []) f h))
       ∙ enter-refused S k (resolve (nextClause S) left (fieldB r) right (fieldD r)) f)
   failure-refuses n least f g (factorFails {parent} {l = c} {m = d} N h) =
-      tests-or n least factorKind (ap kindNumbered (N .isFactor)) f g
+      outlines-or n least factorKind (ap kindNumbered (N .isFactor)) f g
       (enter-factor S k r (parent, c) (parent, d) (factors-kept S r seven N) (factors-deleted S r seven N)
       ∙ ap (addClause S k (factor (nextClause S) parent (fieldB r) (fieldC r))) (failing-fails (rowOf S) mostLinks (noRoom (held S)) (lookup parent) mostWork (unifying [] ((c .1, d .1) ∷ [])) f (unstated S (lookup parent) ((c .1, d .1) ∷ []) f h))
       ∙ enter-refused S k (factor (nextClause S) parent (fieldB r) (fieldC r)) f)
@@ -245,6 +312,7 @@ module _ (file : List ℕ) (k : ℕ) (S : State) (r : Record) (R : Reached file 
   condition-refused n (variableAsLiteral h) = two-refuse 4 7 (omega arith) (on-variable-fails S r seven h)
   condition-refused n (unfitSigns h) = test-refuses 8 (signs-fail S r seven h)
   condition-refused n (largeResult h) = test-refuses 9 (result-fails S r seven h)
+  condition-refused n (clashingOutlines h) = outlines-refuse h
   condition-refused n (clashing h) = failure-refuses 10 (omega arith) clash refl h
   condition-refused n (occurring h) = failure-refuses 11 (omega arith) occurs refl h
   condition-refused n (overworking h) = failure-refuses 12 (omega arith) overwork refl h
@@ -288,6 +356,18 @@ module _ (file : List ℕ) (k : ℕ) (S : State) (r : Record) (R : Reached file 
       subst₂ (λ (x y : Derivation × Literal). NoUnifier Y ((atomOf S (x .0) (x .1), atomOf S (y .0) (y .1)) ∷ [])) a b
       (factor-no-unifier S (reached-ok file k S r R) k r Y x y p q s (which u c))
 
+  outlines-apart : (Y : Type 0) → ByOutlines → (pairs : List TermPair) → StepAtoms S r pairs → NoUnifier Y pairs
+  outlines-apart Y (resolveApart {x} {y} e p q z) pairs (resolveAtoms {left} {right} {l} {m} N) =
+      let a : x ≡ (left, l) = some-injective (sym p ∙ resolves-left S r seven N) in
+      let b : y ≡ (right, m) = some-injective (sym q ∙ resolves-right S r seven N) in
+      resolve-outlines-apart S (reached-ok file k S r R) k r Y (left, l) (right, m) (ap₂ (outlinesAgree S) (sym a) (sym b) ∙ z)
+  outlines-apart Y (resolveApart e p q z) pairs (factorAtoms N) = let a = of-kind r resolveKind e in let b = N .isFactor in absurd (omega arith)
+  outlines-apart Y (factorApart e p q z) pairs (resolveAtoms N) = let a = of-kind r factorKind e in let b = N .isResolve in absurd (omega arith)
+  outlines-apart Y (factorApart {x} {y} e p q z) pairs (factorAtoms {parent} {l} {m} N) =
+      let a : x ≡ (parent, l) = some-injective (sym p ∙ factors-kept S r seven N) in
+      let b : y ≡ (parent, m) = some-injective (sym q ∙ factors-deleted S r seven N) in
+      factor-outlines-apart S (reached-ok file k S r R) k r Y (parent, l) (parent, m) (ap₂ (outlinesAgree S) (sym a) (sym b) ∙ z)
+
   pub refused-no-unifier : (Y : Type 0) (q : Reason) → step S k r ≡ refused q → OneOf (reasonNumber q) (10 ∷ 11 ∷ []) → (pairs : List TermPair) → StepAtoms S r pairs → NoUnifier Y pairs
   refused-no-unifier Y q z m pairs A = try (refused-by q z)
     where
@@ -298,6 +378,7 @@ module _ (file : List ℕ) (k : ℕ) (S : State) (r : Record) (R : Reached file 
 
       try : RefusedBy q → NoUnifier Y pairs
       try (byTest f) = let a = rising-first 3 (tests S (kindOfRecord r) r) q (tests-rising S (kindOfRecord r) r) f .1 in let b = late m in absurd (omega arith)
+      try (byOutlines e b) = outlines-apart Y b pairs A
       try (byFailure {f} e b) = atoms-apart Y f (clash-or-occurs f (subst (λ (p : Reason). OneOf (reasonNumber p) (10 ∷ 11 ∷ [])) (sym e) m)) b pairs A
 
 -- The numbers of conditions.
@@ -309,6 +390,7 @@ condition-number n (rowAgain h) = omega arith
 condition-number n (variableAsLiteral h) = omega arith
 condition-number n (unfitSigns h) = omega arith
 condition-number n (largeResult h) = omega arith
+condition-number n (clashingOutlines h) = omega arith
 condition-number n (clashing h) = omega arith
 condition-number n (occurring h) = omega arith
 condition-number n (overworking h) = omega arith

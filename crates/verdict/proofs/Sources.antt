@@ -13,7 +13,7 @@ use Rattle.derivation.specs.Derivation.{input, inputLiterals, Derivation, resol
 use Rattle.verdict.specs.Refusal.{tests, kindOfRecord, leftOf, rightOf, deletedOf}
 use Rattle.verdict.specs.State.{State, entry, derivations, nextClause}
 use Rattle.verdict.specs.Step.{stands, step, unifyResolve, unifyFactor, enter}
-use Rattle.verdict.proofs.Inversions.{tests-passed, stands-same, all-stand, named-stands, clause-added, Passed}
+use Rattle.verdict.proofs.Inversions.{tests-passed, stands-same, step-stands, named-stands, clause-added, Passed}
 use Rattle.verdict.proofs.Steps.{named-resolve, named-factor}
 
 -- Clause d over the clauses before it.
@@ -85,5 +85,5 @@ module _ (S : State) (k : ℕ) (rec : Record) (T : State) (seven : length (rec .
 
   pub step-sourced : step S k rec ≡ stands T → Sourced (derivations S) → Sourced (derivations T)
   step-sourced q h =
-      let a = all-stand (tests S (kindOfRecord rec) rec) (enter S k (kindOfRecord rec) rec) T q in
+      let a = step-stands S k rec T q in
       source-entered (kindOfRecord rec) (tests-passed S (kindOfRecord rec) rec (a .0)) (a .1) h

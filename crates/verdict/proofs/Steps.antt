@@ -18,7 +18,7 @@ use Rattle.derivation.proofs.Validity.{Valid}
 use Rattle.verdict.specs.Refusal.{tests, mostLiterals, mostIndex, kindOfRecord, zeros, argumentRows, leftOf, rightOf, deletedOf, hasArity, allBelow, equalSigns, fittingSigns, resultFits}
 use Rattle.verdict.specs.State.{State, rowsOf, derivations, arityOf, clauseOf, rowOf, held, nextClause}
 use Rattle.verdict.specs.Step.{stands, step, addClause, unifyResolve, unifyFactor, enter}
-use Rattle.verdict.proofs.Inversions.{tests-passed, stands-same, all-stand, named-stands, literal-named, has-arity, all-below, rows-below, opposite-signs, equal-signs, not-equal, entry-new, clause-added, PassedResolve, PassedFactor, Passed}
+use Rattle.verdict.proofs.Inversions.{tests-passed, stands-same, step-stands, named-stands, literal-named, has-arity, all-below, rows-below, opposite-signs, equal-signs, not-equal, entry-new, clause-added, PassedResolve, PassedFactor, Passed}
 use Rattle.verdict.proofs.Standing.{StateOk, literals-enough, index-enough, inputs-append, inputs-kept, no-chains, symbol-added, row-added, clause-entered, order-of, inputs-of, ChainsAfter, resolve-chains, factor-chains}
 
 -- What a resolve or a factor that came to its unification has named.
@@ -151,5 +151,5 @@ module _ (n : ℕ) (S : State) (H : StateOk n S) (k : ℕ) (r : Record) (T : Sta
 
   pub step-ok : length (r .fields) ≡ 7 → step S k r ≡ stands T → StateOk (suc n) T
   step-ok l q =
-      let a = all-stand (tests S (kindOfRecord r) r) (enter S k (kindOfRecord r) r) T q in
+      let a = step-stands S k r T q in
       entered (kindOfRecord r) l (tests-passed S (kindOfRecord r) r (a .0)) (a .1)

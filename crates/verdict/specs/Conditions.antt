@@ -10,6 +10,7 @@ use lib.ListN.{length, getD}
 use Rattle.record.specs.Record.{Record, fieldA, fieldB, fieldC, fieldD}
 use Rattle.unification.specs.Environment.{Environment}
 use Rattle.unification.specs.Failing.{Failing}
+use Rattle.unification.specs.Outlines.{ClashFound}
 use Rattle.unification.specs.Row.{variable}
 use Rattle.unification.specs.Unification.{mostLinks, Failure, clash, occurs, overwork, full, Pair, unifying}
 use Rattle.derivation.specs.Derivation.{literals, Literal, Derivation, numbered, without, raise, maximumIndex, joined, lookup}
@@ -114,6 +115,11 @@ pub data ResultOver (S : State) (r : Record) : Type 0 where
   factorLiterals : {parent : Derivation} {l m : Literal} → Factors S r parent l m → 128 < length (without (literals parent) (fieldC r)) → ResultOver S r
   factorIndex : {parent : Derivation} {l m : Literal} → Factors S r parent l m → 4096 < maximumIndex parent → ResultOver S r
 
+-- 10, document 02, Q-1: the outlines of the two atoms clash, at a position that is found within 4,096 pairs.
+pub data OutlinesClash (S : State) (r : Record) : Type 0 where
+  resolveOutlines : {left right : Derivation} {l m : Literal} → Resolves S r left right l m → ClashFound (rowOf S) (l .1 .0) (m .1 .0) → OutlinesClash S r
+  factorOutlines : {parent : Derivation} {l m : Literal} → Factors S r parent l m → ClashFound (rowOf S) (l .1 .0) (m .1 .0) → OutlinesClash S r
+
 -- 10 to 13: unification of the two literals, in the parents' environments as one, fails as `Failing` states it: with 16,384 units of work,
 -- and room for bindings while fewer than 8,192 are held, those of earlier clauses included.
 abbrev pub Fails : State → Environment → List Pair → Failure → Type 0
@@ -134,7 +140,8 @@ pub data Condition (earlier : List Record) (S : State) (r : Record) : ℕ → Ty
   variableAsLiteral : LiteralOnVariable S r → Condition earlier S r 7
   unfitSigns : SignsUnfit S r → Condition earlier S r 8
   largeResult : ResultOver S r → Condition earlier S r 9
-  -- symbols differ
+  -- symbols differ: in the outlines, or in a pair that unification takes up
+  clashingOutlines : OutlinesClash S r → Condition earlier S r 10
   clashing : StepFails S r clash → Condition earlier S r 10
   -- the variable occurs in what it would be bound to
   occurring : StepFails S r occurs → Condition earlier S r 11

@@ -7,5 +7,6 @@ pub mod Text
 pub mod Readout
 pub mod Conditions
 pub mod Demands
+pub mod Outlines
 pub mod Cases
 pub mod Edges

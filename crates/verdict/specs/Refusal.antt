@@ -1,4 +1,5 @@
--- Document 01, "Verdict, tables and refusals": the reasons with their numbers, and the tests of a record that give 3 to 9.
+-- Document 01, "Verdict, tables and refusals": the reasons with their numbers, and the tests of a record that give 3 to 9; document 02, Q-1: the
+-- outlines of a step.
 use mathlib.Core.Bool.{Bool, true, false, _&&_, not}
 use mathlib.Core.Option.{Option, none, some}
 use mathlib.Core.List.{List, [], _∷_, map}
@@ -6,8 +7,9 @@ use Prim.Native.Nat.{ℕ, _+_}
 use lib.Dec.{eqb, leb, ltb}
 use lib.ListN.{length, take, drop}
 use Rattle.record.specs.Record.{Record, otherKind, Kind, symbolKind, variableKind, applicationKind, inputKind, resolveKind, factorKind, kindNumbered, fieldA, fieldB, fieldC, fieldD}
+use Rattle.unification.specs.Outlines.{outlinesClash}
 use Rattle.unification.specs.Row.{variable, Row, application, noSymbol}
-use Rattle.unification.specs.Unification.{Failure, failureNumber}
+use Rattle.unification.specs.Unification.{Failure, failureNumber, clash}
 use Rattle.derivation.specs.Derivation.{literals, Literal, RowLiteral, inputLiterals, Derivation, resolve, factor, numbered, maximumIndex}
 use Rattle.verdict.specs.State.{State, rowsOf, arityOf, clauseOf, rowOf, nextClause}
 
@@ -190,3 +192,17 @@ tests S factorKind r =
     ∷ (factorFits S r, tooLarge) ∷ []
 -- 3: the kind is none of these.
 tests S otherKind r = (false, badKind) ∷ []
+
+-- Document 02, Q-1: the outlines of the two input atoms that the named literals come from, which are their rows, do not clash. This comes after
+-- every test above and before the first pair of unification, and gives 10.
+abbrev pub outlinesAgree : State → Derivation × Literal → Derivation × Literal → Bool
+outlinesAgree S x y = not (outlinesClash (rowOf S) (x .1 .1 .0) (y .1 .1 .0))
+
+abbrev pub outlineTests : State → Kind → Record → List (Bool × Reason)
+outlineTests S resolveKind r = (onBoth (outlinesAgree S) (leftOf S r) (rightOf S r), unification clash) ∷ []
+outlineTests S factorKind r = (onBoth (outlinesAgree S) (leftOf S r) (deletedOf S r), unification clash) ∷ []
+outlineTests S symbolKind r = []
+outlineTests S variableKind r = []
+outlineTests S applicationKind r = []
+outlineTests S inputKind r = []
+outlineTests S otherKind r = []

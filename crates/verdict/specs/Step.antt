@@ -7,7 +7,7 @@ use Rattle.record.specs.Record.{Record, otherKind, Kind, symbolKind, variableKi
 use Rattle.unification.specs.Environment.{Binding}
 use Rattle.unification.specs.Unification.{unify, Outcome, unified, failed}
 use Rattle.derivation.specs.Derivation.{input, Literal, inputLiterals, Derivation, resolve, factor, raise, maximumIndex, joined, lookup}
-use Rattle.verdict.specs.Refusal.{tests, Reason, unification, badKind, notThere, kindOfRecord, leftOf, rightOf, deletedOf, newRow}
+use Rattle.verdict.specs.Refusal.{tests, outlineTests, Reason, unification, badKind, notThere, kindOfRecord, leftOf, rightOf, deletedOf, newRow}
 use Rattle.verdict.specs.State.{State, withSymbol, withRow, withClause, rowOf, held, nextClause}
 
 -- A record that stands gives the next state; a refused one its reason.
@@ -55,9 +55,13 @@ enter S k factorKind r =
     onNamed (λ x y. addClause S k (factor (nextClause S) (x .0) (fieldB r) (fieldC r)) (unifyFactor S x y)) (leftOf S r) (deletedOf S r)
 enter S k otherKind r = refused badKind
 
--- Record k on a state.
+-- Record k on a state: its tests, its outlines, and what it adds.
 abbrev pub step : State → ℕ → Record → Result
-step S k r = requireAll (tests S (kindOfRecord r) r) (enter S k (kindOfRecord r) r)
+step S k r = requireAll (tests S (kindOfRecord r) r) (requireAll (outlineTests S (kindOfRecord r) r) (enter S k (kindOfRecord r) r))
+
+-- The same without outlines, as it was before document 02's Q-1. No file is read by it; what changed by Q-1 is stated against it.
+abbrev pub stepWithoutOutlines : State → ℕ → Record → Result
+stepWithoutOutlines S k r = requireAll (tests S (kindOfRecord r) r) (enter S k (kindOfRecord r) r)
 
 -- Where reading ends: after the last record, or at the first refused one, with the state that the records before it left.
 pub data Ending : Type 0 where
