@@ -1,6 +1,7 @@
--- Case L, cases D and F, and the limits on work and bindings, by computing.
+-- Case L, cases D and F, the limits on work and bindings, and outlines, by computing.
 use mathlib.Core.Path.{refl}
-use Rattle.unification.specs.Cases.{CaseL, UnificationsHold}
+use Rattle.unification.specs.Cases.{CaseL, UnificationsHold, OutlinesHold}
+use Rattle.unification.specs.Outlines.{mostOutlinePairs, clashWithin}
 use Rattle.unification.specs.Unification.{mostWork, mostBindings, mostLinks, run}
 
 pub case-l : CaseL
@@ -17,4 +18,16 @@ unifications-hold = record {
   noFurtherBinding = refl;
   lastWork = refl;
   noFurtherWork = refl;
+}
+
+pub outlines-hold : OutlinesHold
+unfolding clashWithin mostOutlinePairs
+outlines-hold = record {
+  lastPair = refl;
+  pairTooMany = refl;
+  unopenedCounts = refl;
+  twoConstants = refl;
+  oneConstant = refl;
+  variableLeft = refl;
+  variableRight = refl;
 }

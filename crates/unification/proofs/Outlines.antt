@@ -304,3 +304,46 @@ module _ (row : ℕ → Row) where
     pub clash-apart : (r q : ℕ) → outlinesClash row r q ≡ true → ¬ (apply σ (term r) ≡ apply τ (term q))
     unfolding Equal
     clash-apart r q z e = true-not-false z (equal-agree mostOutlinePairs ((r, q) ∷ []) (e, tt))
+
+-- Two tables that agree on the rows below a number, whose arguments are below it too: outlines there are the same.
+module _ (row row′ : ℕ → Row) (n : ℕ) (alike : (r : ℕ) → r < n → row r ≡ row′ r) (below : (r s : ℕ) (xs : List ℕ) → row r ≡ application s xs → r < n → Each (λ a. a < n) xs) where
+  Inside : RowPair → Type 0
+  Inside p = (p .0 < n) × (p .1 < n)
+
+  abbrev InsideAfter : OutlineTurn → Type 0
+  InsideAfter (agree ps) = Each Inside ps
+  InsideAfter differ = Unit {0}
+
+  arguments-inside : (xs ys : List ℕ) (ps : List RowPair) → Each (λ a. a < n) xs → Each (λ a. a < n) ys → Each Inside ps → Each Inside (argumentRowPairs xs ys ps)
+  unfolding Inside
+  arguments-inside [] ys ps h k m = m
+  arguments-inside (x ∷ xs) [] ps h k m = m
+  arguments-inside (x ∷ xs) (y ∷ ys) ps h k m = ((h .0, k .0), arguments-inside xs ys ps (h .1) (k .1) m)
+
+  turn-inside : (a b : ℕ) (ps : List RowPair) (t : OutlineTurn) → Sees row a b ps t → Inside (a, b) → Each Inside ps → InsideAfter t
+  unfolding Inside
+  turn-inside a b ps t (sameRow p) i h = h
+  turn-inside a b ps t (leftVariable p) i h = h
+  turn-inside a b ps t (rightVariable p) i h = h
+  turn-inside a b ps t (oneSymbol {s} {xs} {ys} d u v) i h = arguments-inside xs ys ps (below a s xs u (i .0)) (below b s ys v (i .1)) h
+  turn-inside a b ps t (twoSymbols u v d) i h = tt
+
+  turn-alike : (p : RowPair) (ps : List RowPair) → Inside p → outlineTurn row p ps ≡ outlineTurn row′ p ps
+  unfolding Inside
+  turn-alike p ps i = ap₂ (λ (w u : Row). pick (eqb (p .0) (p .1)) (agree ps) (opened w u ps)) (alike (p .0) (i .0)) (alike (p .1) (i .1))
+
+  clash-alike : (m : ℕ) (ps : List RowPair) → Each Inside ps → clashWithin row m ps ≡ clashWithin row′ m ps
+  unfolding clashWithin
+  clash-alike zero ps h = refl
+  clash-alike (suc m) [] h = refl
+  clash-alike (suc m) (p ∷ ps) h =
+      try (outlineTurn row p ps) (turn-inside (p .0) (p .1) ps (outlineTurn row p ps) (sees row (p .0) (p .1) ps) (h .0) (h .1)) (λ qs k. clash-alike m qs k)
+      ∙ ap (afterTurn (λ qs. clashWithin row′ m qs)) (turn-alike p ps (h .0))
+    where
+      try : (t : OutlineTurn) → InsideAfter t → ((qs : List RowPair) → Each Inside qs → clashWithin row m qs ≡ clashWithin row′ m qs) → afterTurn (λ qs. clashWithin row m qs) t ≡ afterTurn (λ qs. clashWithin row′ m qs) t
+      try (agree qs) k ih = ih qs k
+      try differ k ih = refl
+
+  pub outlines-alike : (r q : ℕ) → r < n → q < n → outlinesClash row r q ≡ outlinesClash row′ r q
+  unfolding Inside
+  outlines-alike r q h k = clash-alike mostOutlinePairs ((r, q) ∷ []) ((h, k), tt)

@@ -1,10 +1,12 @@
 -- Document 01, "Case sheet": case L, the example of document 000, section 4, given to the definition of unification; cases D and F as
--- unification sees them; and the edges of the limits on work and bindings.
+-- unification sees them; and the edges of the limits on work and bindings. Document 02, Q-1: outlines, at their limit and at variables.
 use mathlib.Core.Path.{_≡_}
+use mathlib.Core.Bool.{true, false}
 use mathlib.Core.Option.{none, some}
 use mathlib.Core.List.{List, [], _∷_, map}
 use Prim.Native.Nat.{ℕ, zero, suc, _-_}
 use Rattle.unification.specs.Environment.{Binding, Environment, extend}
+use Rattle.unification.specs.Outlines.{outlinesClash}
 use Rattle.unification.specs.Row.{variable, Row, application, Expression, Variable, rowAt, termAt, writtenOut}
 use Rattle.unification.specs.Term.{Term, var, app, nil, cons}
 use Rattle.unification.specs.Unification.{unify, mostWork, occurs, overwork, full, unified, failed}
@@ -102,3 +104,28 @@ pub record UnificationsHold : Type 0 where
   -- All work is used up, and one pair more is too much.
   pub lastWork : unify (rowAt treeRows) 0 noBindings (14, 1) (14, 2) ≡ unified [] 0
   pub noFurtherWork : unify (rowAt treeRows) 0 noBindings (15, 1) (15, 2) ≡ failed overwork
+
+-- ── Outlines ──
+
+-- Rows 29 to 0, newest first. Row 0 is v0, row 1 a constant; row 11 is a full tree of 2,047 occurrences over v0, and row 21 one over the constant, so
+-- that comparing them takes 2,047 pairs and finds no clash. Rows 22 and 23 are two more constants. The rows from 24 on, in pairs:
+-- s4(t,t,a) and s4(u,u,b); s5(v0,t,t,a) and s5(c,u,u,b); s5(a,t,t,a) and s5(a,u,u,b), where t and u are the trees and c, a, b the constants.
+abbrev pub outlineRows : List Row
+outlineRows =
+    application 5 (22 ∷ 21 ∷ 21 ∷ 23 ∷ []) ∷ application 5 (22 ∷ 11 ∷ 11 ∷ 22 ∷ []) ∷ application 5 (1 ∷ 21 ∷ 21 ∷ 23 ∷ []) ∷ application 5 (0 ∷ 11 ∷ 11 ∷ 22 ∷ [])
+    ∷ application 4 (21 ∷ 21 ∷ 23 ∷ []) ∷ application 4 (11 ∷ 11 ∷ 22 ∷ []) ∷ application 3 [] ∷ application 2 []
+    ∷ doubled 20 ∷ doubled 19 ∷ doubled 18 ∷ doubled 17 ∷ doubled 16 ∷ doubled 15 ∷ doubled 14 ∷ doubled 13 ∷ doubled 12 ∷ doubled 1
+    ∷ doubled 10 ∷ doubled 9 ∷ doubled 8 ∷ doubled 7 ∷ doubled 6 ∷ doubled 5 ∷ doubled 4 ∷ doubled 3 ∷ doubled 2 ∷ doubled 0
+    ∷ application 0 [] ∷ variable 0 ∷ []
+
+pub record OutlinesHold : Type 0 where
+  -- The clash is pair 4,096, and is found.
+  pub lastPair : outlinesClash (rowAt outlineRows) 24 25 ≡ true
+  -- One pair more before it, and it is not; the pair more may be of equal rows, which are not opened.
+  pub pairTooMany : outlinesClash (rowAt outlineRows) 26 27 ≡ false
+  pub unopenedCounts : outlinesClash (rowAt outlineRows) 28 29 ≡ false
+  -- Of two constants; of the same; of a variable and an application, on either side.
+  pub twoConstants : outlinesClash (rowAt outlineRows) 22 23 ≡ true
+  pub oneConstant : outlinesClash (rowAt outlineRows) 22 22 ≡ false
+  pub variableLeft : outlinesClash (rowAt outlineRows) 0 24 ≡ false
+  pub variableRight : outlinesClash (rowAt outlineRows) 24 0 ≡ false

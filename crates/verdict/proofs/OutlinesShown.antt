@@ -43,9 +43,11 @@ module _ (S : State) where
   entered-agrees k r T inputKind q = tt
   entered-agrees k r T resolveKind q =
       let s = named-stands _ (leftOf S r) (rightOf S r) T q in
-      let c = clause-added S k (resolve (nextClause S) (s .0 .0) (fieldB r) (s .1 .0) (fieldD r)) (unifyResolve S (s .0) (s .1)) T (s .4) in
-      (agreeing (leftOf S r) (rightOf S r) (s .0) (s .1) (s .2) (s .3)
-      (unified-agree (joined (maximumIndex (s .0 .0)) (lookup (s .0 .0)) (lookup (s .1 .0))) (s .0) (s .1) (raise (maximumIndex (s .0 .0)) (s .1 .1 .1)) refl (c .0, c .1, c .2)), tt)
+      let c = clause-added S k (resolve (nextClause S) (s .0 .0) (fieldB r) (s .1 .0) (fieldD r)) (unifyResolve S (s .0) (s .1)) T (s .4) in (
+        agreeing (leftOf S r) (rightOf S r) (s .0) (s .1) (s .2) (s .3)
+            (unified-agree (joined (maximumIndex (s .0 .0)) (lookup (s .0 .0)) (lookup (s .1 .0))) (s .0) (s .1) (raise (maximumIndex (s .0 .0)) (s .1 .1 .1)) refl (c .0, c .1, c .2)),
+        tt,
+      )
   entered-agrees k r T factorKind q =
       let s = named-stands _ (leftOf S r) (deletedOf S r) T q in
       let c = clause-added S k (factor (nextClause S) (s .0 .0) (fieldB r) (fieldC r)) (unifyFactor S (s .0) (s .1)) T (s .4) in
