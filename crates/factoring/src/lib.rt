@@ -1,4 +1,5 @@
-// A factor: the bindings of its parent are loaded once, two of its atoms are unified, and the clause is entered.
+// A factor: the outlines of two atoms of its parent are compared, the parent's bindings are loaded once, the atoms are unified, and the clause is
+// entered.
 use clauses::index_cell;
 use clauses::literals_cell;
 use entry::entry::Counts;
@@ -13,6 +14,7 @@ use inference::finish_step;
 use inference::named_pair;
 use inference::same_sign;
 use loading::load;
+use outlines::outlines_clash;
 use record::fields;
 use record::record_part;
 use unify::Unified;
@@ -53,7 +55,7 @@ fn unify_factor(
     )
 }
 
-// A factor on two named atoms of one clause: its result is no larger than the clause, so no limit is passed.
+// A factor on two named atoms of one clause: outlines, unification, and its end. Its result is no larger than the clause, so no limit is passed.
 fn factor_atoms(
     numbers: &[u16; 7],
     k: u16,
@@ -69,6 +71,9 @@ fn factor_atoms(
     requires { ⌜ FactorNamed (now numbers) k counts (now clauses) (now bindings) (now nodes) (now origins) (now values) kept deleted ⌝ }
     ensures { λ e. ⌜ ((R : FactorNamed (now (numbers .entry)) k counts (now (clauses .entry)) (now (bindings .entry)) (now (nodes .entry)) (now (origins .entry)) (now (values .entry)) kept deleted) → StepRead (R .file) k counts (now (clauses .entry)) (now (bindings .entry)) (now (nodes .entry)) (now (origins .entry)) (now (values .entry)) (R .step) (now (clauses .exit)) (now (bindings .exit)) (now (origins .exit)) (now (values .exit)) e) ⌝ }
 {
+    if outlines_clash(nodes, kept.row, deleted.row) {
+        return Entered::Refused(10);
+    }
     let literals = literals_cell(clauses, kept.clause) - 1;
     let index = index_cell(clauses, kept.clause);
     let u = unify_factor(

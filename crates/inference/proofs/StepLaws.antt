@@ -10,12 +10,14 @@ use Rattle.record.specs.Record.{recordCount}
 use Rattle.following.specs.Clearing.{Cleared}
 use Rattle.unification.specs.Environment.{follow, Environment, Ends}
 use Rattle.unification.specs.Nodes.{HasRow, nodeRow, NodesOk}
+use Rattle.unification.specs.Outlines.{outlinesClash}
 use Rattle.unification.specs.Row.{Row, application, Expression}
 use Rattle.unification.specs.Unification.{unify, mostWork, mostBindings, mostLinks, Outcome, unifying, noRoom}
 use Rattle.unify.specs.Unifying.{outcomeOf, Facing, Ready, Answered}
 use Rattle.unification.specs.ValueArray.{InStep, Models}
 use Rattle.unification.proofs.Chains.{short-le}
 use Rattle.unification.proofs.Rows.{Below}
+use Rattle.unification.proofs.Outlines.{outlines-alike}
 use Rattle.unification.proofs.Stability.{run-agree}
 use Rattle.unification.proofs.Tests.{some-injective}
 use Rattle.derivation.specs.Derivation.{literals, Derivation, raise, maximumIndex, joined, lookup, clauseNumber}
@@ -147,6 +149,17 @@ module _ {F : List ℕ} {k : ℕ} {n : Counts} {C B N O A : List ℕ} (E : Befor
   node-unify h ρ e d κ a b =
       run-agree (Known L) (Known L) (nodeRow N) (rowOf S) (λ e l. agree (e .0) l) (known-variable L (nodeRow N) (nodeRow N) (λ r l. refl) node-below) (known-arguments L (nodeRow N) (nodeRow N) (λ r l. refl) node-below) mostLinks (noRoom h) ρ mostWork (unifying [] ((e, d) ∷ [])) (κ, (a, b, tt))
 
+  atom-known : (c r i : ℕ) (x : AtomOf (E .state) c r i) → Known (length (rowsOf (E .state))) (x .literal .1) × In (maximumIndex (x .clause)) (x .literal .1 .1)
+  atom-known c r i x =
+      let o = order-in c (x .clause) (x .isClause) in
+      (known-numbered L (x .clause) (o .known) (x .number) (x .literal) (x .isLiteral), each-numbered (LiteralIn (maximumIndex (x .clause))) (literals (x .clause)) (x .number) (x .literal) (x .isLiteral) (literals-in (x .clause)))
+
+  -- Outlines over the node table.
+  pub node-outlines : (a b c d e f : ℕ) (x : AtomOf (E .state) a b c) (y : AtomOf (E .state) d e f) → outlinesClash (nodeRow N) b e ≡ outlinesClash (rowOf (E .state)) (x .literal .1 .0) (y .literal .1 .0)
+  node-outlines a b c d e f x y =
+      ap₂ (outlinesClash (nodeRow N)) (sym (x .isRow)) (sym (y .isRow))
+      ∙ outlines-alike (nodeRow N) (rowOf S) L agree node-below (x .literal .1 .0) (y .literal .1 .0) (atom-known a b c x .0) (atom-known d e f y .0)
+
   links-there : (h : ℕ) → h ≤ 8192 → h ≤ mostLinks
   unfolding mostLinks
   links-there h l = l
@@ -160,11 +173,6 @@ module _ {F : List ℕ} {k : ℕ} {n : Counts} {C B N O A : List ℕ} (E : Befor
 
   outcome-of : (ρ : Environment) (e d : Expression) → KnownEnvironment (length (rowsOf (E .state))) ρ → Known (length (rowsOf (E .state))) e → Known (length (rowsOf (E .state))) d → (o : Outcome) → unify (nodeRow N) (n .bindings) ρ e d ≡ o → unify (rowOf (E .state)) (held (E .state)) ρ e d ≡ o
   outcome-of ρ e d κ a b o q = sym (node-unify (held S) ρ e d κ a b) ∙ ap (λ (h : ℕ). unify (nodeRow N) h ρ e d) (sym held-count) ∙ q
-
-  atom-known : (c r i : ℕ) (x : AtomOf (E .state) c r i) → Known (length (rowsOf (E .state))) (x .literal .1) × In (maximumIndex (x .clause)) (x .literal .1 .1)
-  atom-known c r i x =
-      let o = order-in c (x .clause) (x .isClause) in
-      (known-numbered L (x .clause) (o .known) (x .number) (x .literal) (x .isLiteral), each-numbered (LiteralIn (maximumIndex (x .clause))) (literals (x .clause)) (x .number) (x .literal) (x .isLiteral) (literals-in (x .clause)))
 
   -- The two parents of a resolve.
   module _ (a b c d e f : ℕ) (x : AtomOf (E .state) a b c) (y : AtomOf (E .state) d e f) (fits : maximumIndex (x .clause) + maximumIndex (y .clause) ≤ 4096) where

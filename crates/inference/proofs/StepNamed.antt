@@ -1,6 +1,6 @@
 -- A resolve or a factor on literals that exist and fit: its limits, unification, and its end.
 use mathlib.Core.Path.{_≡_, refl, sym, ap, ap₂, _∙_, subst}
-use mathlib.Core.Bool.{Bool, true, false, _&&_}
+use mathlib.Core.Bool.{Bool, true, false, _&&_, not}
 use mathlib.Core.Option.{Option, some}
 use mathlib.Core.List.{List, [], _∷_, map}
 use Prim.Native.Nat.{ℕ, zero, suc, _+_, _-_, _≤_, _<_}
@@ -8,20 +8,23 @@ use native.Mathlib.Omega.{arith}
 use lib.Dec.{eqb, leb}
 use lib.ListN.{length, drop, length-append, length-map}
 use borrow.Author.Tests.{le-leb, lt-leb}
-use Rattle.record.specs.Record.{Record, recordPart, decoded, resolveKind, fieldA, fieldB, fieldC, fieldD}
+use Rattle.record.specs.Record.{Record, recordPart, decoded, resolveKind, factorKind, fieldA, fieldB, fieldC, fieldD}
 use Rattle.unification.specs.Environment.{Binding}
+use Rattle.unification.specs.Nodes.{nodeRow}
+use Rattle.unification.specs.Outlines.{outlinesClash}
+use Rattle.unification.specs.Unification.{clash}
 use Rattle.unify.specs.Unifying.{outcomeOf}
 use Rattle.unification.proofs.Tests.{both-true, some-not-none, some-injective}
 use Rattle.derivation.specs.Derivation.{literals, Literal, Derivation, resolve, factor, numbered, without, raiseLiteral, maximumIndex}
 use Rattle.derivation.specs.Stored.{cellsOfOrigin, literalsCell, indexCell}
-use Rattle.verdict.specs.Refusal.{tooLarge, mostLiterals, mostIndex, isThere, onBoth, resultFits, resolventFits, factorFits, zeros}
+use Rattle.verdict.specs.Refusal.{tooLarge, unification, outlinesAgree, leftOf, rightOf, deletedOf, mostLiterals, mostIndex, isThere, onBoth, resultFits, resolventFits, factorFits, zeros}
 use Rattle.verdict.specs.State.{State, clauseOf, nextClause}
 use Rattle.verdict.specs.Step.{require, step, addClause, unifyResolve, unifyFactor, onNamed}
 use Rattle.inference.specs.Stepping.{atomNamed, Resolving, Factoring, UnifiedTables, finished, stepFinished, ResolveNamed, FactorNamed, StepRead}
 use Rattle.entry.proofs.Entering.{and-false, zero-list}
 use Rattle.verdict.proofs.Inversions.{literal-named}
 use Rattle.inference.proofs.StepEnds.{step-ended}
-use Rattle.inference.proofs.StepLaws.{index-of, literals-of, number-is}
+use Rattle.inference.proofs.StepLaws.{node-outlines, index-of, literals-of, number-is}
 use Rattle.inference.proofs.StepTests.{Step, refuse, index-small, literals-small, resolve-kind, factor-kind, resolve-tests, factor-tests}
 use Rattle.unify.specs.declared.Unified.{Unified}
 use Rattle.entry.specs.declared.entry.Counts.{Counts}
@@ -109,12 +112,20 @@ module _ {ns : List ℕ} {k : ℕ} {n : Counts} {C B N O A : List ℕ} {x y : At
   limits : resolventFits (R .step .state) (decoded (recordPart (R .file) k)) ≡ resultFits (result [])
   limits = ap₂ (λ (o p : Option (Derivation × Literal)). onBoth (λ x y. resultFits (resolve (nextClause S) (x .0) (fieldB rec) (y .0) (fieldD rec) [])) o p) (R .isLeft) (R .isRight)
 
-  limited : (d : Bool) → resultFits (result []) ≡ d → Step (R .step) resolveKind true true true d
-  limited d q = resolve-tests (R .step) (resolve-kind (R .step) (R .isResolve)) true true true d (R .ranged) (ap₂ (λ (o p : Option (Derivation × Literal)). isThere o && isThere p) (R .isLeft) (R .isRight)) (R .signs) (limits ∙ q)
+  -- The program's outlines are those of the step.
+  outlines : (o : Bool) → o ≡ outlinesClash (nodeRow N) (x .row) (y .row)
+      → onBoth (outlinesAgree (R .step .state)) (leftOf (R .step .state) (decoded (recordPart (R .file) k))) (rightOf (R .step .state) (decoded (recordPart (R .file) k))) ≡ not o
+  outlines o q =
+      ap₂ (λ (a b : Option (Derivation × Literal)). onBoth (outlinesAgree S) a b) (R .isLeft) (R .isRight)
+      ∙ ap not (sym (q ∙ node-outlines (R .step) (x .clause) (x .row) (x .index) (y .clause) (y .row) (y .index) (R .left) (R .right)))
+
+  limited : (d o : Bool) → resultFits (result []) ≡ d
+      → onBoth (outlinesAgree (R .step .state)) (leftOf (R .step .state) (decoded (recordPart (R .file) k))) (rightOf (R .step .state) (decoded (recordPart (R .file) k))) ≡ o → Step (R .step) resolveKind true true true d o
+  limited d o q z = resolve-tests (R .step) (resolve-kind (R .step) (R .isResolve)) true true true d o (R .ranged) (ap₂ (λ (o p : Option (Derivation × Literal)). isThere o && isThere p) (R .isLeft) (R .isRight)) (R .signs) (limits ∙ q) z
 
   too-large : resultFits (result []) ≡ false → StepRead (R .file) k n C B N O A (R .step) C B O A (Refused 9)
   unfolding require
-  too-large q = refuse (R .step) tooLarge (limited false q)
+  too-large q = refuse (R .step) tooLarge (limited false _ q refl)
 
   pub too-many-literals : (lc rc : ℕ) → lc ≡ literalsCell C (x .clause) → rc ≡ literalsCell C (y .clause) → 128 < (lc + rc) - 2 → StepRead (R .file) k n C B N O A (R .step) C B O A (Refused 9)
   unfolding mostLiterals
@@ -124,20 +135,24 @@ module _ {ns : List ℕ} {k : ℕ} {n : Counts} {C B N O A : List ℕ} {x y : At
   unfolding mostIndex
   too-high-index li ri pl pr m = too-large (ap (λ (b : Bool). leb (length (literals (result []))) mostLiterals && b) (lt-leb (maximumIndex (result [])) 4096 (subst (λ (z : ℕ). 4096 < z) (index-result li ri pl pr []) m)) ∙ and-false (leb (length (literals (result []))) mostLiterals))
 
-  entered : resultFits (result []) ≡ true → step (R .step .state) k (decoded (recordPart (R .file) k)) ≡ addClause (R .step .state) k result (unifyResolve (R .step .state) (atomNamed (R .left)) (atomNamed (R .right)))
+  entered : (o : Bool) → o ≡ outlinesClash (nodeRow N) (x .row) (y .row) → o ≡ false → resultFits (result []) ≡ true → step (R .step .state) k (decoded (recordPart (R .file) k)) ≡ addClause (R .step .state) k result (unifyResolve (R .step .state) (atomNamed (R .left)) (atomNamed (R .right)))
   unfolding require
-  entered q = limited true q ∙ ap₂ (λ (o p : Option (Derivation × Literal)). onNamed (λ x y. addClause S k (resolve (nextClause S) (x .0) (fieldB rec) (y .0) (fieldD rec)) (unifyResolve S x y)) o p) (R .isLeft) (R .isRight)
+  entered o p z q = limited true true q (outlines o p ∙ ap not z) ∙ ap₂ (λ (o p : Option (Derivation × Literal)). onNamed (λ x y. addClause S k (resolve (nextClause S) (x .0) (fieldB rec) (y .0) (fieldD rec)) (unifyResolve S x y)) o p) (R .isLeft) (R .isRight)
 
   module _ (lc rc li ri : ℕ) (pl : lc ≡ literalsCell C (x .clause)) (pr : rc ≡ literalsCell C (y .clause)) (ql : li ≡ indexCell C (x .clause)) (qr : ri ≡ indexCell C (y .clause)) (few : (lc + rc) - 2 ≤ 128) (low : li + ri ≤ 4096) where
     fits : resultFits (result []) ≡ true
     unfolding mostLiterals mostIndex
     fits = ap₂ (λ (a b : Bool). a && b) (le-leb (length (literals (result []))) 128 (subst (λ (z : ℕ). z ≤ 128) (literals-result lc rc pl pr []) few)) (le-leb (maximumIndex (result [])) 4096 (subst (λ (z : ℕ). z ≤ 4096) (index-result li ri ql qr []) low))
 
-    pub resolve-ended : (B′ A′ : List ℕ) (u : Unified) → ((Q : Resolving k n C B N O A x y) → unifyResolve (Q .step .state) (atomNamed (Q .left)) (atomNamed (Q .right)) ≡ outcomeOf B′ (n .bindings) u) → UnifiedTables B B′ A′ (n .bindings) u
+    pub resolve-clashes : (o : Bool) → o ≡ outlinesClash (nodeRow N) (x .row) (y .row) → o ≡ true → StepRead (R .file) k n C B N O A (R .step) C B O A (Refused 10)
+    unfolding require
+    resolve-clashes o p z = refuse (R .step) (unification clash) (limited true false fits (outlines o p ∙ ap not z))
+
+    pub resolve-ended : (o : Bool) → o ≡ outlinesClash (nodeRow N) (x .row) (y .row) → o ≡ false → (B′ A′ : List ℕ) (u : Unified) → ((Q : Resolving k n C B N O A x y) → unifyResolve (Q .step .state) (atomNamed (Q .left)) (atomNamed (Q .right)) ≡ outcomeOf B′ (n .bindings) u) → UnifiedTables B B′ A′ (n .bindings) u
         → (e : Entered) (C₂ B₂ O₂ : List ℕ) → finished e C₂ B₂ O₂ ≡ stepFinished u k n ((lc + rc) - 2) (li + ri) (3 ∷ ns) C B′ O → StepRead (R .file) k n C B N O A (R .step) C₂ B₂ O₂ A′ e
     unfolding resolving
-    resolve-ended B′ A′ u o U e C₂ B₂ O₂ q =
-        step-ended (R .step) result ((lc + rc) - 2) (li + ri) (literals-result lc rc pl pr) (index-result li ri ql qr) (λ bs. refl) (3 ∷ ns) resolve-origin B′ A′ u (entered fits ∙ ap (addClause S k result) (o (resolving li ri ql qr low))) U e C₂ B₂ O₂ q
+    resolve-ended b p z B′ A′ u o U e C₂ B₂ O₂ q =
+        step-ended (R .step) result ((lc + rc) - 2) (li + ri) (literals-result lc rc pl pr) (index-result li ri ql qr) (λ bs. refl) (3 ∷ ns) resolve-origin B′ A′ u (entered b p z fits ∙ ap (addClause S k result) (o (resolving li ri ql qr low))) U e C₂ B₂ O₂ q
 
 module _ {ns : List ℕ} {k : ℕ} {n : Counts} {C B N O A : List ℕ} {x y : Atom} (R : FactorNamed ns k n C B N O A x y) where
   abbrev factored : List Binding → Derivation
@@ -169,10 +184,24 @@ module _ {ns : List ℕ} {k : ℕ} {n : Counts} {C B N O A : List ℕ} {x y : At
       ap₂ (λ (o p : Option (Derivation × Literal)). onBoth (λ x y. resultFits (factor (nextClause (R .step .state)) (x .0) (fieldB (decoded (recordPart (R .file) k))) (fieldC (decoded (recordPart (R .file) k))) [])) o p) (R .isKept) (R .isDeleted)
       ∙ ap₂ (λ (a b : Bool). a && b) (le-leb (length (literals (factored []))) 128 m) (le-leb (maximumIndex c) 4096 (index-small (R .step) (x .clause) c (R .kept .isClause)))
 
-  factor-entered : step (R .step .state) k (decoded (recordPart (R .file) k)) ≡ addClause (R .step .state) k factored (unifyFactor (R .step .state) (atomNamed (R .kept)) (atomNamed (R .deleted)))
+  factor-outlines : (o : Bool) → o ≡ outlinesClash (nodeRow N) (x .row) (y .row)
+      → onBoth (outlinesAgree (R .step .state)) (leftOf (R .step .state) (decoded (recordPart (R .file) k))) (deletedOf (R .step .state) (decoded (recordPart (R .file) k))) ≡ not o
+  factor-outlines o q =
+      ap₂ (λ (a b : Option (Derivation × Literal)). onBoth (outlinesAgree (R .step .state)) a b) (R .isKept) (R .isDeleted)
+      ∙ ap not (sym (q ∙ node-outlines (R .step) (x .clause) (x .row) (x .index) (y .clause) (y .row) (y .index) (R .kept) (R .deleted)))
+
+  factor-limited : (o : Bool) → onBoth (outlinesAgree (R .step .state)) (leftOf (R .step .state) (decoded (recordPart (R .file) k))) (deletedOf (R .step .state) (decoded (recordPart (R .file) k))) ≡ o
+      → Step (R .step) factorKind true true true true o
+  factor-limited o z = factor-tests (R .step) (factor-kind (R .step) (R .isFactor)) true true true true o (R .ranged) (ap₂ (λ (o p : Option (Derivation × Literal)). isThere o && isThere p) (R .isKept) (R .isDeleted)) (R .signs) factor-limits z
+
+  pub factor-clashes : (o : Bool) → o ≡ outlinesClash (nodeRow N) (x .row) (y .row) → o ≡ true → StepRead (R .file) k n C B N O A (R .step) C B O A (Refused 10)
   unfolding require
-  factor-entered =
-      factor-tests (R .step) (factor-kind (R .step) (R .isFactor)) true true true true (R .ranged) (ap₂ (λ (o p : Option (Derivation × Literal)). isThere o && isThere p) (R .isKept) (R .isDeleted)) (R .signs) factor-limits
+  factor-clashes o p z = refuse (R .step) (unification clash) (factor-limited false (factor-outlines o p ∙ ap not z))
+
+  factor-entered : (o : Bool) → o ≡ outlinesClash (nodeRow N) (x .row) (y .row) → o ≡ false → step (R .step .state) k (decoded (recordPart (R .file) k)) ≡ addClause (R .step .state) k factored (unifyFactor (R .step .state) (atomNamed (R .kept)) (atomNamed (R .deleted)))
+  unfolding require
+  factor-entered o p z =
+      factor-limited true (factor-outlines o p ∙ ap not z)
       ∙ ap₂ (λ (o p : Option (Derivation × Literal)). onNamed (λ x y. addClause (R .step .state) k (factor (nextClause (R .step .state)) (x .0) (fieldB (decoded (recordPart (R .file) k))) (fieldC (decoded (recordPart (R .file) k)))) (unifyFactor (R .step .state) x y)) o p) (R .isKept) (R .isDeleted)
 
   module _ (lc : ℕ) (pl : lc ≡ literalsCell C (x .clause)) where
@@ -182,8 +211,8 @@ module _ {ns : List ℕ} {k : ℕ} {n : Counts} {C B N O A : List ℕ} {x y : At
     pub factor-literals : 1 ≤ lc
     factor-literals = omega (arith, lc-kept, kept-fewer)
 
-    pub factor-ended : (ix : ℕ) → ix ≡ indexCell C (x .clause) → (B′ A′ : List ℕ) (u : Unified) → ((Q : Factoring k n C B N O A x y) → unifyFactor (Q .step .state) (atomNamed (Q .kept)) (atomNamed (Q .deleted)) ≡ outcomeOf B′ (n .bindings) u) → UnifiedTables B B′ A′ (n .bindings) u
+    pub factor-ended : (o : Bool) → o ≡ outlinesClash (nodeRow N) (x .row) (y .row) → o ≡ false → (ix : ℕ) → ix ≡ indexCell C (x .clause) → (B′ A′ : List ℕ) (u : Unified) → ((Q : Factoring k n C B N O A x y) → unifyFactor (Q .step .state) (atomNamed (Q .kept)) (atomNamed (Q .deleted)) ≡ outcomeOf B′ (n .bindings) u) → UnifiedTables B B′ A′ (n .bindings) u
         → (e : Entered) (C₂ B₂ O₂ : List ℕ) → finished e C₂ B₂ O₂ ≡ stepFinished u k n (lc - 1) ix (2 ∷ ns) C B′ O → StepRead (R .file) k n C B N O A (R .step) C₂ B₂ O₂ A′ e
     unfolding factoring
-    factor-ended ix pi B′ A′ u o U e C₂ B₂ O₂ q =
-        step-ended (R .step) factored (lc - 1) ix (λ bs. omega (arith, lc-kept, kept-fewer)) (λ bs. pi ∙ index-of (R .step) (x .clause) (R .kept .clause) (R .kept .isClause)) (λ bs. refl) (2 ∷ ns) factor-origin B′ A′ u (factor-entered ∙ ap (addClause (R .step .state) k factored) (o factoring)) U e C₂ B₂ O₂ q
+    factor-ended b p z ix pi B′ A′ u o U e C₂ B₂ O₂ q =
+        step-ended (R .step) factored (lc - 1) ix (λ bs. omega (arith, lc-kept, kept-fewer)) (λ bs. pi ∙ index-of (R .step) (x .clause) (R .kept .clause) (R .kept .isClause)) (λ bs. refl) (2 ∷ ns) factor-origin B′ A′ u (factor-entered b p z ∙ ap (addClause (R .step .state) k factored) (o factoring)) U e C₂ B₂ O₂ q

@@ -7,14 +7,14 @@ use Prim.Native.Nat.{ℕ, _≤_, _<_}
 use native.Mathlib.Omega.{arith}
 use lib.Dec.{eqb}
 use lib.ListN.{length, getD, length-map}
-use borrow.Author.Tests.{eq-eqb, ne-eqb}
+use borrow.Author.Tests.{eq-eqb, ne-eqb, not-true, not-false}
 use Rattle.record.specs.Record.{pick, Record, recordPart, kindOf, fieldsOf, decoded, Kind, resolveKind, factorKind, kindNumbered, fieldA, fieldB, fieldC, fieldD}
-use Rattle.unification.proofs.Tests.{true-not-false}
+use Rattle.unification.specs.Unification.{clash}
 use Rattle.derivation.specs.Derivation.{literals, Literal, Derivation, numbered, maximumIndex}
 use Rattle.clauses.specs.Named.{namedLiteral, StoredClause}
 use Rattle.derivation.specs.Stored.{Stored}
 use Rattle.fields.specs.Fields.{stepInRange}
-use Rattle.verdict.specs.Refusal.{Reason, outOfRange, notThere, wrongSigns, tooLarge, reasonNumber, mostLiterals, mostIndex, kindOfRecord, inRange, literalIn, literalNamed, leftOf, rightOf, deletedOf, isThere, equalSigns, onBoth, fittingSigns, bothThere, resolventFits, factorFits}
+use Rattle.verdict.specs.Refusal.{Reason, outOfRange, notThere, wrongSigns, tooLarge, unification, outlinesAgree, reasonNumber, mostLiterals, mostIndex, kindOfRecord, inRange, literalIn, literalNamed, leftOf, rightOf, deletedOf, isThere, equalSigns, onBoth, fittingSigns, bothThere, resolventFits, factorFits}
 use Rattle.verdict.specs.State.{State, entry, derivations, clauseOf}
 use Rattle.verdict.specs.Step.{refused, require, step, enter}
 use Rattle.inference.specs.Stepping.{BeforeStep, AtomOf, ClausesStored, namedAnswer, signedAtom, pairAnswer, ResolveNamed, FactorNamed, StepRead}
@@ -108,14 +108,6 @@ both-found a c none p x y q = absurd (let z : _≡_ {A = ℕ} 0 1 = cc in omega 
 both-found a c (some m) none x y q = absurd (let z : _≡_ {A = ℕ} 0 1 = cc in omega arith)
 both-found a c (some m) (some l) x y q = (record { named = m; isNamed = refl; isSigned = cc }, record { named = l; isNamed = refl; isSigned = cc })
 
-pub not-false : (b : Bool) → not b ≡ false → b ≡ true
-not-false true q = refl
-not-false false q = absurd (true-not-false refl q)
-
-pub not-true : (b : Bool) → not b ≡ true → b ≡ false
-not-true true q = absurd (true-not-false q refl)
-not-true false q = refl
-
 module _ {F : List ℕ} {k : ℕ} {n : Counts} {C B N O A : List ℕ} (E : BeforeStep F k n C B N O A) where
   abbrev S : State
   S = E .state
@@ -145,16 +137,24 @@ module _ {F : List ℕ} {k : ℕ} {n : Counts} {C B N O A : List ℕ} (E : Befor
   factor-kind q = ap kindNumbered q
 
   -- What is left of a step once the tests before have passed.
-  abbrev pub Step : Kind → Bool → Bool → Bool → Bool → Type 0
-  Step kind a b c d = step (E .state) k (decoded (recordPart F k)) ≡ require a outOfRange (require b notThere (require c wrongSigns (require d tooLarge (enter (E .state) k kind (decoded (recordPart F k))))))
+  abbrev pub Step : Kind → Bool → Bool → Bool → Bool → Bool → Type 0
+  Step kind a b c d o = step (E .state) k (decoded (recordPart F k)) ≡ require a outOfRange (require b notThere (require c wrongSigns (require d tooLarge (require o (unification clash) (enter (E .state) k kind (decoded (recordPart F k)))))))
 
-  pub resolve-tests : kindOfRecord (decoded (recordPart F k)) ≡ resolveKind → (a b c d : Bool) → inRange resolveKind (decoded (recordPart F k)) ≡ a → bothThere (leftOf (E .state) (decoded (recordPart F k))) (rightOf (E .state) (decoded (recordPart F k))) ≡ b
-      → fittingSigns (E .state) resolveKind (decoded (recordPart F k)) ≡ c → resolventFits (E .state) (decoded (recordPart F k)) ≡ d → Step resolveKind a b c d
-  resolve-tests e a b c d p q r s = at-kind S k rec resolveKind e ∙ (λ i. require (p i) outOfRange (require (q i) notThere (require (r i) wrongSigns (require (s i) tooLarge (enter S k resolveKind rec)))))
+  pub resolve-tests : kindOfRecord (decoded (recordPart F k)) ≡ resolveKind → (a b c d o : Bool) → inRange resolveKind (decoded (recordPart F k)) ≡ a → bothThere (leftOf (E .state) (decoded (recordPart F k))) (rightOf (E .state) (decoded (recordPart F k))) ≡ b
+      → fittingSigns (E .state) resolveKind (decoded (recordPart F k)) ≡ c → resolventFits (E .state) (decoded (recordPart F k)) ≡ d
+      → onBoth (outlinesAgree (E .state)) (leftOf (E .state) (decoded (recordPart F k))) (rightOf (E .state) (decoded (recordPart F k))) ≡ o → Step resolveKind a b c d o
+  resolve-tests e a b c d o p q r s t = at-kind S k rec resolveKind e ∙ (λ i. require (p i) outOfRange (require (q i) notThere (require (r i) wrongSigns (require (s i) tooLarge (require (t i) (unification clash) (enter S k resolveKind rec))))))
 
-  pub factor-tests : kindOfRecord (decoded (recordPart F k)) ≡ factorKind → (a b c d : Bool) → inRange factorKind (decoded (recordPart F k)) ≡ a → bothThere (leftOf (E .state) (decoded (recordPart F k))) (deletedOf (E .state) (decoded (recordPart F k))) ≡ b
-      → fittingSigns (E .state) factorKind (decoded (recordPart F k)) ≡ c → factorFits (E .state) (decoded (recordPart F k)) ≡ d → Step factorKind a b c d
-  factor-tests e a b c d p q r s = at-kind S k rec factorKind e ∙ (λ i. require (p i) outOfRange (require (q i) notThere (require (r i) wrongSigns (require (s i) tooLarge (enter S k factorKind rec)))))
+  pub factor-tests : kindOfRecord (decoded (recordPart F k)) ≡ factorKind → (a b c d o : Bool) → inRange factorKind (decoded (recordPart F k)) ≡ a → bothThere (leftOf (E .state) (decoded (recordPart F k))) (deletedOf (E .state) (decoded (recordPart F k))) ≡ b
+      → fittingSigns (E .state) factorKind (decoded (recordPart F k)) ≡ c → factorFits (E .state) (decoded (recordPart F k)) ≡ d
+      → onBoth (outlinesAgree (E .state)) (leftOf (E .state) (decoded (recordPart F k))) (deletedOf (E .state) (decoded (recordPart F k))) ≡ o → Step factorKind a b c d o
+  factor-tests e a b c d o p q r s t = at-kind S k rec factorKind e ∙ (λ i. require (p i) outOfRange (require (q i) notThere (require (r i) wrongSigns (require (s i) tooLarge (require (t i) (unification clash) (enter S k factorKind rec))))))
+
+  abbrev resolveOutlines : Bool
+  resolveOutlines = onBoth (outlinesAgree (E .state)) (leftOf (E .state) (decoded (recordPart F k))) (rightOf (E .state) (decoded (recordPart F k)))
+
+  abbrev factorOutlines : Bool
+  factorOutlines = onBoth (outlinesAgree (E .state)) (leftOf (E .state) (decoded (recordPart F k))) (deletedOf (E .state) (decoded (recordPart F k)))
 
   -- The two literals that a step names, by its fields.
   pub pair-is : (a b c d a′ b′ c′ d′ : ℕ) → a ≡ a′ → b ≡ b′ → c ≡ c′ → d ≡ d′ → (r : NamedPair) → ((R : ClausesStored O C (n .clauses)) → r ≡ pairAnswer a c (literalNamed (R .state) a b) (literalNamed (R .state) c d))
@@ -182,7 +182,7 @@ module _ {F : List ℕ} {k : ℕ} {n : Counts} {C B N O A : List ℕ} (E : Befor
 
     pub resolve-out : not b ≡ true → StepRead F k n C B N O A E C B O A (Refused 4)
     unfolding require
-    resolve-out q = refuse outOfRange (resolve-tests (resolve-kind kd) false (bothThere (leftOf S rec) (rightOf S rec)) (fittingSigns S resolveKind rec) (resolventFits S rec) (ap (λ (l : List ℕ). stepInRange 4 (decoded l)) (sym e) ∙ sym range ∙ not-true b q) refl refl refl)
+    resolve-out q = refuse outOfRange (resolve-tests (resolve-kind kd) false (bothThere (leftOf S rec) (rightOf S rec)) (fittingSigns S resolveKind rec) (resolventFits S rec) resolveOutlines (ap (λ (l : List ℕ). stepInRange 4 (decoded l)) (sym e) ∙ sym range ∙ not-true b q) refl refl refl refl)
 
     module _ (ok : not b ≡ false) (ns : List ℕ) (fields : ns ≡ fieldsOf P) (r : NamedPair)
         (named : (R : ClausesStored O C (n .clauses)) → r ≡ pairAnswer (getD ns 0 0) (getD ns 2 0) (literalNamed (R .state) (getD ns 0 0) (getD ns 1 0)) (literalNamed (R .state) (getD ns 2 0) (getD ns 3 0))) where
@@ -194,7 +194,7 @@ module _ {F : List ℕ} {k : ℕ} {n : Counts} {C B N O A : List ℕ} (E : Befor
 
       pub resolve-absent : r ≡ pair.Absent → StepRead F k n C B N O A E C B O A (Refused 5)
       unfolding require
-      resolve-absent q = refuse notThere (resolve-tests (resolve-kind kd) true false (fittingSigns S resolveKind rec) (resolventFits S rec) (ranged ok) (one-absent (fieldA rec) (fieldC rec) (leftOf S rec) (rightOf S rec) (sym isPair ∙ q)) refl refl)
+      resolve-absent q = refuse notThere (resolve-tests (resolve-kind kd) true false (fittingSigns S resolveKind rec) (resolventFits S rec) resolveOutlines (ranged ok) (one-absent (fieldA rec) (fieldC rec) (leftOf S rec) (rightOf S rec) (sym isPair ∙ q)) refl refl refl)
 
       module _ (x y : SignedAtom) (q : r ≡ pair.Both x y) where
         X : FoundLiteral (leftOf (E .state) (decoded (recordPart F k))) (fieldA (decoded (recordPart F k))) x
@@ -213,7 +213,7 @@ module _ {F : List ℕ} {k : ℕ} {n : Counts} {C B N O A : List ℕ} (E : Befor
 
         pub resolve-equal-signs : (z : Bool) → z ≡ equalSigns (x .positive) (y .positive) → z ≡ true → StepRead F k n C B N O A E C B O A (Refused 8)
         unfolding require
-        resolve-equal-signs z p h = refuse wrongSigns (resolve-tests (resolve-kind kd) true true false (resolventFits S rec) (ranged ok) both-named (sign-test ∙ ap not (sym p ∙ h)) refl)
+        resolve-equal-signs z p h = refuse wrongSigns (resolve-tests (resolve-kind kd) true true false (resolventFits S rec) resolveOutlines (ranged ok) both-named (sign-test ∙ ap not (sym p ∙ h)) refl refl)
 
         module _ (z : Bool) (p : z ≡ equalSigns (x .positive) (y .positive)) (h : z ≡ false) where
           pub resolve-checked : ResolveNamed ns k n C B N O A (x .atom) (y .atom)
@@ -242,7 +242,7 @@ module _ {F : List ℕ} {k : ℕ} {n : Counts} {C B N O A : List ℕ} (E : Befor
 
     pub factor-out : not b ≡ true → StepRead F k n C B N O A E C B O A (Refused 4)
     unfolding require
-    factor-out q = refuse outOfRange (factor-tests (factor-kind kd) false (bothThere (leftOf S rec) (deletedOf S rec)) (fittingSigns S factorKind rec) (factorFits S rec) (ap (λ (l : List ℕ). stepInRange 3 (decoded l)) (sym e) ∙ sym range ∙ not-true b q) refl refl refl)
+    factor-out q = refuse outOfRange (factor-tests (factor-kind kd) false (bothThere (leftOf S rec) (deletedOf S rec)) (fittingSigns S factorKind rec) (factorFits S rec) factorOutlines (ap (λ (l : List ℕ). stepInRange 3 (decoded l)) (sym e) ∙ sym range ∙ not-true b q) refl refl refl refl)
 
     module _ (ok : not b ≡ false) (ns : List ℕ) (fields : ns ≡ fieldsOf P) (r : NamedPair)
         (named : (R : ClausesStored O C (n .clauses)) → r ≡ pairAnswer (getD ns 0 0) (getD ns 0 0) (literalNamed (R .state) (getD ns 0 0) (getD ns 1 0)) (literalNamed (R .state) (getD ns 0 0) (getD ns 2 0))) where
@@ -254,7 +254,7 @@ module _ {F : List ℕ} {k : ℕ} {n : Counts} {C B N O A : List ℕ} (E : Befor
 
       pub factor-absent : r ≡ pair.Absent → StepRead F k n C B N O A E C B O A (Refused 5)
       unfolding require
-      factor-absent q = refuse notThere (factor-tests (factor-kind kd) true false (fittingSigns S factorKind rec) (factorFits S rec) (factor-ranged ok) (one-absent (fieldA rec) (fieldA rec) (leftOf S rec) (deletedOf S rec) (sym factor-pair ∙ q)) refl refl)
+      factor-absent q = refuse notThere (factor-tests (factor-kind kd) true false (fittingSigns S factorKind rec) (factorFits S rec) factorOutlines (factor-ranged ok) (one-absent (fieldA rec) (fieldA rec) (leftOf S rec) (deletedOf S rec) (sym factor-pair ∙ q)) refl refl refl)
 
       module _ (x y : SignedAtom) (q : r ≡ pair.Both x y) where
         K : FoundLiteral (leftOf (E .state) (decoded (recordPart F k))) (fieldA (decoded (recordPart F k))) x
@@ -274,7 +274,7 @@ module _ {F : List ℕ} {k : ℕ} {n : Counts} {C B N O A : List ℕ} (E : Befor
 
         pub factor-other-signs : (z : Bool) → z ≡ equalSigns (x .positive) (y .positive) → not z ≡ true → StepRead F k n C B N O A E C B O A (Refused 8)
         unfolding require
-        factor-other-signs z p h = refuse wrongSigns (factor-tests (factor-kind kd) true true false (factorFits S rec) (factor-ranged ok) two-named (sign-of-both ∙ ap (λ (v : Bool). v && not (eqb (getD ns 1 0) (getD ns 2 0))) (sym p ∙ not-true z h)) refl)
+        factor-other-signs z p h = refuse wrongSigns (factor-tests (factor-kind kd) true true false (factorFits S rec) factorOutlines (factor-ranged ok) two-named (sign-of-both ∙ ap (λ (v : Bool). v && not (eqb (getD ns 1 0) (getD ns 2 0))) (sym p ∙ not-true z h)) refl refl)
 
         module _ (z : Bool) (p : z ≡ equalSigns (x .positive) (y .positive)) (h : not z ≡ false) where
           different : fittingSigns (E .state) factorKind (decoded (recordPart F k)) ≡ not (eqb (getD ns 1 0) (getD ns 2 0))
@@ -282,7 +282,7 @@ module _ {F : List ℕ} {k : ℕ} {n : Counts} {C B N O A : List ℕ} (E : Befor
 
           pub factor-same : getD ns 1 0 ≡ getD ns 2 0 → StepRead F k n C B N O A E C B O A (Refused 8)
           unfolding require
-          factor-same u = refuse wrongSigns (factor-tests (factor-kind kd) true true false (factorFits S rec) (factor-ranged ok) two-named (different ∙ ap not (eq-eqb (getD ns 1 0) (getD ns 2 0) u)) refl)
+          factor-same u = refuse wrongSigns (factor-tests (factor-kind kd) true true false (factorFits S rec) factorOutlines (factor-ranged ok) two-named (different ∙ ap not (eq-eqb (getD ns 1 0) (getD ns 2 0) u)) refl refl)
 
           module _ (u : ¬ (getD ns 1 0 ≡ getD ns 2 0)) where
             pub factor-checked : FactorNamed ns k n C B N O A (x .atom) (y .atom)

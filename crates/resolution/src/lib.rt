@@ -1,4 +1,5 @@
-// A resolve: the bindings of both parents are loaded once, the two atoms are unified, and the clause is entered.
+// A resolve: the outlines of the two atoms are compared, the bindings of both parents are loaded once, the atoms are unified, and the clause is
+// entered.
 use clauses::index_cell;
 use clauses::literals_cell;
 use entry::entry::Counts;
@@ -13,6 +14,7 @@ use inference::finish_step;
 use inference::named_pair;
 use inference::same_sign;
 use loading::load;
+use outlines::outlines_clash;
 use record::fields;
 use record::record_part;
 use unify::Unified;
@@ -64,7 +66,7 @@ fn unify_resolve(
     )
 }
 
-// A resolve on two named atoms of opposite signs: the limits on its result, unification, and its end.
+// A resolve on two named atoms of opposite signs: the limits on its result, outlines, unification, and its end.
 fn resolve_atoms(
     numbers: &[u16; 7],
     k: u16,
@@ -87,6 +89,9 @@ fn resolve_atoms(
     let index = index_cell(clauses, left.clause) + index_cell(clauses, right.clause);
     if 4096 < index {
         return Entered::Refused(9);
+    }
+    if outlines_clash(nodes, left.row, right.row) {
+        return Entered::Refused(10);
     }
     let u = unify_resolve(
         k,

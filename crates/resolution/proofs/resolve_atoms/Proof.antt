@@ -2,7 +2,8 @@ use mathlib.Core.Path.{ap}
 use lib.ListN.{length}
 use native.Mathlib.Omega.{arith}
 use Rattle.inference.proofs.StepEnds.{finishing}
-use Rattle.inference.proofs.StepNamed.{literals-sum, index-sum, resolving, too-many-literals, too-high-index, resolve-ended}
+use Rattle.inference.proofs.StepNamed.{literals-sum, index-sum, resolving, too-many-literals, too-high-index, resolve-clashes, resolve-ended}
+use Rattle.inference.proofs.StepLaws.{nodes-room}
 use borrow.Author.Needs.{needs}
 use Rattle.resolution.proofs.resolve_atoms.Statement.{statement}
 use Rattle.resolution.proofs.resolve_atoms.Tie as tie
@@ -11,6 +12,7 @@ use Rattle.resolution.proofs.resolve_atoms.Lts as lts
 use Rattle.clauses.proofs.index_cell.Reads as index-cell-reads
 use Rattle.clauses.proofs.literals_cell.Reads as literals-cell-reads
 use Rattle.inference.proofs.finish_step.Reads as finish-step-reads
+use Rattle.outlines.proofs.outlines_clash.Reads as outlines-clash-reads
 use Rattle.resolution.proofs.unify_resolve.Reads as unify-resolve-reads
 
 literals-cell-requires : tie.Need-literals-cell-requires
@@ -51,32 +53,45 @@ returns-2 : tie.Need-returns-2
 returns-2 c =
     λ R. too-high-index R _ _ (c .before .before .before .index-cell .ensures) (c .before .index-cell2 .ensures) (c .if2 .taken)
 
-unify-resolve-requires : tie.Need-unify-resolve-requires
-unify-resolve-requires c κs =
-    resolving (c .before .before .before .before .before .before .before .before .before .before .before .before .before .before .before .before .pre) _ _ (c .before .before .before .before .before .before .before .index-cell .ensures) (c .before .before .before .before .before .index-cell2 .ensures) (c .before .before .before .before .if2 .left)
-
-finish-step-requires : tie.Need-finish-step-requires
-finish-step-requires c κs =
-    finishing (c .before .before .before .before .before .before .before .before .before .before .before .before .before .before .before .before .before .before .before .before .before .before .pre .step) _ _ _ (c .before .before .before .before .before .unify-resolve .ensures .1) _ (ap length (c .before .before .before .before .before .before .before .before .before .before .before .before .before .before .before .before .before .before .before .before .before .before .pre .numbers))
+outlines-clash-requires : tie.Need-outlines-clash-requires
+outlines-clash-requires c κs =
+    nodes-room (c .before .before .before .before .before .before .before .before .before .before .before .before .pre .step)
 
 same-length-3 : tie.Need-same-length-3
 same-length-3 c = search needs
 
+returns-3 : tie.Need-returns-3
+returns-3 c =
+    λ R. resolve-clashes R _ _ _ _ (c .before .before .before .before .before .before .before .before .before .before .literals-cell .ensures) (c .before .before .before .before .before .before .before .before .literals-cell2 .ensures) (c .before .before .before .before .before .index-cell .ensures) (c .before .before .before .index-cell2 .ensures) (c .before .before .before .before .before .before .before .if1 .left) (c .before .before .if2 .left) _ (c .before .outlines-clash .ensures) (c .if3 .taken)
+
+unify-resolve-requires : tie.Need-unify-resolve-requires
+unify-resolve-requires c κs =
+    resolving (c .before .before .before .before .before .before .before .before .before .before .before .before .before .before .before .before .before .before .pre) _ _ (c .before .before .before .before .before .before .before .before .before .index-cell .ensures) (c .before .before .before .before .before .before .before .index-cell2 .ensures) (c .before .before .before .before .before .before .if2 .left)
+
+finish-step-requires : tie.Need-finish-step-requires
+finish-step-requires c κs =
+    finishing (c .before .before .before .before .before .before .before .before .before .before .before .before .before .before .before .before .before .before .before .before .before .before .before .before .pre .step) _ _ _ (c .before .before .before .before .before .unify-resolve .ensures .1) _ (ap length (c .before .before .before .before .before .before .before .before .before .before .before .before .before .before .before .before .before .before .before .before .before .before .before .before .pre .numbers))
+
 same-length-4 : tie.Need-same-length-4
 same-length-4 c = search needs
 
-returns-3 : tie.Need-returns-3
-returns-3 c =
+same-length-5 : tie.Need-same-length-5
+same-length-5 c = search needs
+
+returns-4 : tie.Need-returns-4
+returns-4 c =
+    let outlines-say = c .before .before .before .before .before .before .before .before .before .before .before .before .before .before .before .before .outlines-clash .ensures in
+    let if3-left = c .before .before .before .before .before .before .before .before .before .before .before .before .before .before .before .if3 .left in
     let unify-resolve-says-0 = c .before .before .before .before .before .before .before .before .before .before .unify-resolve .ensures .0 in
     let unify-resolve-says-1 = c .before .before .before .before .before .before .before .before .before .before .unify-resolve .ensures .1 in
-    let literals-cell2-says = c .before .before .before .before .before .before .before .before .before .before .before .before .before .before .before .before .before .before .before .before .before .literals-cell2 .ensures in
-    let literals-cell-says = c .before .before .before .before .before .before .before .before .before .before .before .before .before .before .before .before .before .before .before .before .before .before .before .literals-cell .ensures in
-    let index-cell2-says = c .before .before .before .before .before .before .before .before .before .before .before .before .before .before .before .before .index-cell2 .ensures in
+    let literals-cell2-says = c .before .before .before .before .before .before .before .before .before .before .before .before .before .before .before .before .before .before .before .before .before .before .before .literals-cell2 .ensures in
+    let literals-cell-says = c .before .before .before .before .before .before .before .before .before .before .before .before .before .before .before .before .before .before .before .before .before .before .before .before .before .literals-cell .ensures in
+    let index-cell2-says = c .before .before .before .before .before .before .before .before .before .before .before .before .before .before .before .before .before .before .index-cell2 .ensures in
     let finish-step-says = c .before .before .before .before .finish-step .ensures in
-    let index-cell-says = c .before .before .before .before .before .before .before .before .before .before .before .before .before .before .before .before .before .before .index-cell .ensures in
-    let if1-left = c .before .before .before .before .before .before .before .before .before .before .before .before .before .before .before .before .before .before .before .before .if1 .left in
-    let if2-left = c .before .before .before .before .before .before .before .before .before .before .before .before .before .before .before .if2 .left in
-    λ R. resolve-ended R _ _ _ _ literals-cell-says literals-cell2-says index-cell-says index-cell2-says if1-left if2-left _ _ _ unify-resolve-says-0 unify-resolve-says-1 _ _ _ _ finish-step-says
+    let index-cell-says = c .before .before .before .before .before .before .before .before .before .before .before .before .before .before .before .before .before .before .before .before .index-cell .ensures in
+    let if1-left = c .before .before .before .before .before .before .before .before .before .before .before .before .before .before .before .before .before .before .before .before .before .before .if1 .left in
+    let if2-left = c .before .before .before .before .before .before .before .before .before .before .before .before .before .before .before .before .before .if2 .left in
+    λ R. resolve-ended R _ _ _ _ literals-cell-says literals-cell2-says index-cell-says index-cell2-says if1-left if2-left _ outlines-say if3-left _ _ _ unify-resolve-says-0 unify-resolve-says-1 _ _ _ _ finish-step-says
 
 pub resolve-atoms-spec : {M : Type 1} → statement M
 resolve-atoms-spec =
@@ -93,8 +108,11 @@ resolve-atoms-spec =
     add-index
     same-length-2
     returns-2
+    outlines-clash-requires
+    same-length-3
+    returns-3
     unify-resolve-requires
     finish-step-requires
-    same-length-3
     same-length-4
-    returns-3)
+    same-length-5
+    returns-4)
