@@ -47,6 +47,7 @@ mod environment;
 mod error;
 mod file;
 mod handles;
+mod outline;
 mod reading;
 mod running;
 mod standing;

@@ -10,6 +10,7 @@ use crate::environment::Environment;
 use crate::error::BuildError;
 use crate::file::FileBuilder;
 use crate::handles::{Clause, Literal, Row, Signed, Symbol};
+use crate::outline::outlines_clash;
 use crate::reading::Reading;
 use crate::standing::{Derived, Expression, Standing, Value};
 use crate::unification::unify;
@@ -181,7 +182,7 @@ impl RunningBuilder {
         Ok(Derived { clause, literals: self.literals(clause)? })
     }
 
-    /// Unifies in the last clause and writes its record.
+    /// Compares the outlines of both atoms, unifies in the last clause and writes its record.
     fn unified(
         &mut self,
         candidate: Clause,
@@ -189,6 +190,7 @@ impl RunningBuilder {
         right: At,
         write: impl FnOnce(&mut FileBuilder) -> Result<Clause, BuildError>,
     ) -> Result<Clause, BuildError> {
+        require(!outlines_clash(self.file.rows(), left.row, right.row), Reason::Clash)?;
         let mut environment = Environment::new(self.file.rows(), &self.clauses, candidate.0);
         let bound = unify(&mut environment, self.bindings, left, right).map_err(BuildError::Refused)?;
         let clause = write(&mut self.file)?;

@@ -5,7 +5,7 @@ use yestrwyn_second::checker::Checker;
 use yestrwyn_second::readout;
 use yestrwyn_types::record::{kind, read, Record};
 use yestrwyn_vectors::examples::{cases, deep, edges, published, refusals, Example};
-use yestrwyn_vectors::{damage, random_file, random_file_of};
+use yestrwyn_vectors::{clashing_file, damage, random_file, random_file_of};
 
 /// A file's records given to the running builder one by one, as far as its types can say them.
 #[derive(Default)]
@@ -139,6 +139,15 @@ fn random_files() {
         refused += lost;
     }
     assert!(steps > 50_000 && refused > 200, "{steps} steps, {refused} refused");
+}
+
+#[test]
+fn clashing_files() {
+    let mut refused = 0;
+    for seed in 0..1000 {
+        refused += same(&format!("clashing {seed}"), &clashing_file(seed)).1;
+    }
+    assert!(refused > 800, "{refused} refused");
 }
 
 #[test]

@@ -13,7 +13,8 @@ pub fn measured() -> Vec<Example> {
         Example::new("a count to 4,000, growing parent right", count_right()),
         Example::new("the chain of the rule with itself, 4,000 steps", chain()),
         Example::new("2,000 links whose oldest variable stands at 4,096 leaves, 2,000 uses", links()),
-        Example::new("3,900 steps that unify two terms of 4,096 leaves", leaves()),
+        Example::new("3,900 steps that unify two terms of 4,096 leaves", leaves(12)),
+        Example::new("3,900 steps that compare 4,096 pairs of outlines", leaves(11)),
         Example::new("4,095 rows", edges::many_rows(4095).finish()),
     ]
 }
@@ -54,9 +55,9 @@ fn chain() -> Vec<u8> {
     file.finish()
 }
 
-/// A full tree of 4,096 equal leaves.
-fn tree(file: &mut FileBuilder, g: u16, leaf: u16) -> u16 {
-    (0..12).fold(leaf, |row, _| file.application(g, &[row, row]))
+/// A full tree of equal leaves: of depth 12 it has 4,096.
+fn tree(file: &mut FileBuilder, g: u16, leaf: u16, depth: usize) -> u16 {
+    (0..depth).fold(leaf, |row, _| file.application(g, &[row, row]))
 }
 
 /// A clause at the end of 2,000 links from variable to variable, the oldest of which stands at 4,096 leaves, used in 2,000 steps.
@@ -64,7 +65,7 @@ fn links() -> Vec<u8> {
     let mut file = FileBuilder::new();
     let [q, r, g, a] = [1, 1, 2, 0].map(|arity| file.symbol(arity));
     let (x, a) = (file.variable(0), file.application(a, &[]));
-    let (open, full) = (tree(&mut file, g, x), tree(&mut file, g, a));
+    let (open, full) = (tree(&mut file, g, x, 12), tree(&mut file, g, a, 12));
     let [link, old, goal] =
         [(q, x), (r, open), (r, full)].map(|(symbol, row)| file.application(symbol, &[row]));
     let mut known = file.clause_of_rows(&[(true, old), (true, link)]);
@@ -79,12 +80,13 @@ fn links() -> Vec<u8> {
     file.finish()
 }
 
-/// 3,900 steps that each unify two terms of 4,096 leaves.
-fn leaves() -> Vec<u8> {
+/// 3,900 steps that each unify two full trees. Of depth 11, with the atoms around them, they are 4,096 pairs; all
+/// their rows differ, so that the outlines are compared whole.
+fn leaves(depth: usize) -> Vec<u8> {
     let mut file = FileBuilder::new();
     let [r, g, a] = [1, 2, 0].map(|arity| file.symbol(arity));
     let (x, a) = (file.variable(0), file.application(a, &[]));
-    let (open, full) = (tree(&mut file, g, x), tree(&mut file, g, a));
+    let (open, full) = (tree(&mut file, g, x, depth), tree(&mut file, g, a, depth));
     let [open, full] = [open, full].map(|row| file.application(r, &[row]));
     let left = file.clause_of_rows(&[(true, open)]);
     let right = file.clause_of_rows(&[(false, full)]);

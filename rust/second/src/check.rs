@@ -6,12 +6,12 @@ use yestrwyn_types::{Answer, Cells, Reason, Tables};
 use crate::checker::Checker;
 use crate::filling::fill;
 
-/// The work of one step that came as far as unification, whether it stood or not.
+/// The work of one step that came as far as its outlines, whether it stood or not.
 #[derive(Clone, Copy, PartialEq, Eq, Debug)]
 pub struct StepWork {
     /// The step's record.
     pub record: u16,
-    /// The work that was begun.
+    /// The work that was begun; none where the outlines clash.
     pub work: u32,
 }
 

@@ -8,6 +8,7 @@ use crate::clause::{literal, Clause, Literal, Loader, Origin};
 use crate::distinct::Distinct;
 use crate::environment::Environment;
 use crate::expression::{Binding, Expression, Node};
+use crate::outline::Outlines;
 use crate::unify::Unifier;
 
 /// A symbol that stands.
@@ -28,6 +29,7 @@ pub struct Checker {
     clauses: Vec<Clause>,
     bindings: Vec<Binding>,
     empty: Option<u16>,
+    outlines: Outlines,
     environment: Environment,
     loader: Loader,
     unifier: Unifier,
@@ -61,7 +63,8 @@ impl Checker {
         Ok(())
     }
 
-    /// The work of the last record read, if it was a step that came as far as unification.
+    /// The work of the last record read, if it was a step that passed every test up to that of its size: 0 if
+    /// its outlines clash.
     pub fn last_work(&self) -> Option<u32> {
         self.work
     }
@@ -172,6 +175,7 @@ impl Checker {
         let literals = (l.literals + r.literals).saturating_sub(2);
         let index = l.max_index + r.max_index;
         require(literals <= LITERALS && index <= INDEX, Reason::TooLarge)?;
+        self.compare_outlines(first, second)?;
         self.environment.clear(index);
         self.load_at(left, 0);
         self.load_at(right, l.max_index);
@@ -188,6 +192,7 @@ impl Checker {
         let (clause, first) = self.named(parent, kept)?;
         let (_, second) = self.named(parent, deleted)?;
         require(kept != deleted && first.positive == second.positive, Reason::Signs)?;
+        self.compare_outlines(first, second)?;
         self.environment.clear(clause.max_index);
         self.load_at(parent, 0);
         let held = self.unify(first.atom, second.atom)?;
@@ -201,6 +206,12 @@ impl Checker {
         let clause = self.clauses.get(usize::from(number)).ok_or(Reason::Missing)?;
         let Some(found) = literal(&self.clauses, number, of) else { return Err(Reason::Missing) };
         Ok((*clause, found))
+    }
+
+    /// Compares two literals' atoms as the input clauses have them, before anything is loaded or unified.
+    fn compare_outlines(&mut self, left: Literal, right: Literal) -> Result<(), Reason> {
+        self.work = Some(0);
+        require(!self.outlines.clash(&self.nodes, left.atom.row, right.atom.row), Reason::Clash)
     }
 
     /// Loads the bindings of a derivation into the environment, indices raised by `offset`.

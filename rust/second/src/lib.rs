@@ -14,6 +14,7 @@ pub mod distinct;
 pub mod environment;
 pub mod expression;
 pub mod filling;
+pub mod outline;
 pub mod readout;
 pub mod unify;
 

@@ -8,7 +8,7 @@ use reference::{Clause as Shared, Expr, From, Reference, Row};
 use textbook::{canonical, factor, resolvent, size, unsatisfiable, Clause, Term};
 use yestrwyn_vectors::examples::{cases, published};
 use yestrwyn_vectors::outcome::outcome;
-use yestrwyn_vectors::random_file;
+use yestrwyn_vectors::{clashing_file, random_file};
 
 /// Terms larger than this are not written out.
 const LARGEST: usize = 3000;
@@ -131,6 +131,13 @@ fn random_files() {
     assert!(compared > 20_000, "{compared} clauses compared");
     assert!(refused > 200, "{refused} refusals compared");
     assert!(refuted > 400, "{refuted} refutations tested");
+}
+
+#[test]
+fn clashing_files() {
+    let refused = (0..2000).filter(|&seed| hold(&format!("clashing {seed}"), &clashing_file(seed)).1).count();
+    // Many atoms of these files are too large to be written out.
+    assert!(refused > 500, "{refused} refusals compared");
 }
 
 #[test]

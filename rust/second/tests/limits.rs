@@ -66,8 +66,8 @@ fn work() {
     for (name, expected) in [
         ("work-16384-pairs", 0),
         ("work-16385-pairs", 12),
-        ("work-16384-clash", 10),
-        ("work-16385-clash", 12),
+        ("work-16384-clash-by-a-binding-resolve", 10),
+        ("work-16385-clash-by-a-binding-resolve", 12),
         ("work-16384-occurrence-left", 0),
         ("work-16385-occurrence-left", 12),
         ("work-16384-occurrence-right", 0),
@@ -79,6 +79,37 @@ fn work() {
     ] {
         let outcome = named(&all, name);
         assert_eq!((reason(&outcome), last_work(&outcome)), (expected, Some(16_384)), "{name}");
+    }
+    // As written these clash at the third pair, however much work unification would do before.
+    for name in ["work-16384-clash", "work-16385-clash"] {
+        let outcome = named(&all, name);
+        assert_eq!((reason(&outcome), last_work(&outcome)), (10, Some(0)), "{name}");
+    }
+}
+
+#[test]
+fn pairs_of_outlines() {
+    let all = edges::examples();
+    for (name, at_4096, at_4097, work) in [
+        ("occurs-resolve", 10, 11, 6),
+        ("occurs-factor", 10, 11, 6),
+        ("occurs-deep-resolve", 10, 11, 6),
+        ("occurs-deep-factor", 10, 11, 6),
+        ("work-resolve", 10, 12, 16_384),
+        ("work-factor", 10, 12, 16_384),
+        ("bindings-resolve", 10, 13, 3),
+        ("bindings-factor", 10, 13, 3),
+        ("clash-resolve", 10, 10, 4098),
+        ("clash-factor", 10, 10, 4098),
+        ("stands-resolve", 0, 0, 4098),
+        ("stands-factor", 0, 0, 4098),
+    ] {
+        let [found, hidden] = [4096, 4097].map(|pairs| named(&all, &format!("outline-{pairs}-pairs-{name}")));
+        assert_eq!(reason(&found), at_4096, "{name}");
+        assert_eq!((reason(&hidden), last_work(&hidden)), (at_4097, Some(work)), "{name}");
+        if at_4096 == 10 {
+            assert_eq!(last_work(&found), Some(0), "{name}: the comparison is no work of the step");
+        }
     }
 }
 
@@ -92,7 +123,7 @@ fn bindings() {
         ("bindings-8191-then-one", 0, 8192),
         ("bindings-8191-then-two", 13, 8191),
         ("bindings-8192-then-clash-first", 10, 8192),
-        ("bindings-8192-then-clash-after", 13, 8192),
+        ("bindings-8192-then-clash-after", 10, 8192),
         ("bindings-8192-then-occurs", 11, 8192),
     ] {
         let outcome = named(&all, name);
@@ -217,6 +248,10 @@ fn deep_terms() {
         ("deep-occurrence-16382", "refused 12 at 46", 16_384),
         ("deep-occurs-16379", "refused 11 at 44", 16_384),
         ("deep-occurs-16380", "refused 12 at 45", 16_384),
+        // Compared 4,091 pairs deep before.
+        ("deep-outline-first", "open", 8185),
+        ("deep-outline-clash", "refused 10 at 4095", 0),
+        ("deep-outline-wide", "refused 12 at 4095", 16_384),
     ] {
         let outcome = named(&all, name);
         assert_eq!((verdict(&outcome).as_str(), last_work(&outcome)), (expected, Some(work)), "{name}");

@@ -6,7 +6,7 @@ use reference::Reference;
 use yestrwyn_vectors::examples::{cases, deep, edges, published, refusals, Example};
 use yestrwyn_vectors::outcome::outcome;
 use yestrwyn_vectors::random::random_file_of;
-use yestrwyn_vectors::{damage, random_file};
+use yestrwyn_vectors::{clashing_file, damage, random_file};
 
 /// Answer, all table cells, works and readout agree.
 fn agree(name: &str, file: &[u8]) {
@@ -75,5 +75,13 @@ fn damaged_random_files() {
 fn longer_random_files() {
     for seed in 0..200 {
         agree(&format!("long {seed}"), &random_file_of(seed, 150));
+    }
+}
+
+#[test]
+fn clashing_files() {
+    for seed in 0..1500 {
+        agree(&format!("clashing {seed}"), &clashing_file(seed));
+        agree(&format!("clashing {seed}, damaged"), &damage(&clashing_file(seed), seed));
     }
 }

@@ -17,6 +17,8 @@ pub const INPUT_LITERALS: u8 = 7;
 pub const LITERALS: u16 = 128;
 /// Largest maximum index of a clause.
 pub const INDEX: u16 = 4096;
+/// Pairs of rows that the comparison of two outlines takes up before it ends without a clash.
+pub const OUTLINE_PAIRS: usize = 4096;
 /// Work that one step may do.
 pub const WORK: u32 = 16_384;
 /// Bindings that all clauses of a file may hold together.

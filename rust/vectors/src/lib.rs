@@ -3,6 +3,8 @@
 
 #![forbid(unsafe_code)]
 
+pub mod alone;
+pub mod clashing;
 pub mod examples;
 pub mod outcome;
 pub mod random;
@@ -10,4 +12,5 @@ pub mod shapes;
 pub mod sketch;
 pub mod stored;
 
+pub use clashing::clashing_file;
 pub use random::{damage, random_file, random_file_of};

@@ -6,6 +6,7 @@ use yestrwyn_types::limits::{RECORDS, RECORD_BYTES};
 use yestrwyn_types::record::{kind, Record};
 use yestrwyn_types::Reason;
 
+use crate::alone::unification_alone;
 use crate::sketch::FileBuilder;
 
 /// The generator SplitMix64: equal seeds give equal numbers everywhere.
@@ -113,11 +114,20 @@ impl Maker {
         if result.is_ok() && !self.refused {
             return Some(self.file.raw(record));
         }
-        if keep || self.refused || (result == Err(Reason::Occurs) && self.keep(4)) {
+        if keep || self.refused || (self.occurs(&record, result) && self.keep(4)) {
             self.refused = true;
             self.file.raw(record);
         }
         None
+    }
+
+    /// Does a variable occur in its own value, also where the step is refused because its outlines clash?
+    fn occurs(&self, record: &Record, result: Result<(), Reason>) -> bool {
+        match result {
+            Err(Reason::Occurs) => true,
+            Err(Reason::Clash) => unification_alone(&self.checker, record) == Some(Err(Reason::Occurs)),
+            _ => false,
+        }
     }
 
     /// One to three predicates, one to four functions, mostly of small arity.

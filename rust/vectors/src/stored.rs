@@ -4,6 +4,7 @@
 use std::fmt::Write;
 use std::path::{Path, PathBuf};
 
+use crate::clashing::clashing_file;
 use crate::examples::{cases, deep, edges, published, refusals, Example};
 use crate::outcome::{outcome, Outcome};
 use crate::random::{damage, random_file, random_file_of};
@@ -14,8 +15,9 @@ const CELLS_IN_FULL: usize = 400;
 const READOUT_IN_FULL: usize = 4096;
 /// At most this many works are written in full.
 const WORKS_IN_FULL: usize = 400;
-/// Number of random files, and of longer ones.
+/// Number of random files, of those made to clash, and of longer ones.
 const RANDOM_FILES: u64 = 1000;
+const CLASHING_FILES: u64 = 40;
 const LONG_FILES: u64 = 40;
 
 /// A group of vectors: the name of its two files, and the proof files in order.
@@ -32,7 +34,7 @@ pub fn groups() -> Vec<Group> {
         Group { name: "edges", examples: edges::examples() },
         Group { name: "refused", examples: refusals::examples() },
         Group { name: "deep", examples: deep::examples() },
-        Group { name: "random", examples: (0..RANDOM_FILES).map(random_example).collect() },
+        Group { name: "random", examples: random_examples() },
         Group { name: "long", examples: long_examples() },
     ]
 }
@@ -56,6 +58,12 @@ pub fn listing_path() -> PathBuf {
 fn repository() -> &'static Path {
     let package = Path::new(env!("CARGO_MANIFEST_DIR"));
     package.ancestors().nth(2).unwrap_or(package)
+}
+
+/// Random files, then files made to clash.
+fn random_examples() -> Vec<Example> {
+    let clashing = |seed: u64| Example::new(&format!("clashing-{seed}"), clashing_file(seed));
+    (0..RANDOM_FILES).map(random_example).chain((0..CLASHING_FILES).map(clashing)).collect()
 }
 
 /// The random file of a seed; each fourth one is damaged with the same seed.

@@ -47,12 +47,19 @@ fn packs_can_be_read_back() {
     }
 }
 
+/// The program `cases` has space for packs that are shorter than this.
+const SPACE: usize = 655_360;
+
 #[test]
 fn the_vectors_are_small() {
+    for group in groups() {
+        let length = stored(pack_path(group.name)).len();
+        assert!(length < SPACE, "{}.bin has {length} bytes", group.name);
+    }
     let paths = |name| [pack_path(name), results_path(name)];
     let total: usize =
         groups().iter().flat_map(|group| paths(group.name)).map(|path| stored(path).len()).sum();
-    assert!(total < 3_000_000, "{total} bytes");
+    assert!(total < 3_600_000, "{total} bytes");
 }
 
 #[test]

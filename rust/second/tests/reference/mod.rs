@@ -1,6 +1,11 @@
 //! A slow check by the words of the format description, which shares no code with the library: every
-//! variable is looked up by recursion through the parents, and literals are listed by recursion too.
+//! variable is looked up by recursion through the parents, literals are listed by recursion, and so are
+//! outlines compared. It can also check without outlines, for what these alter.
 #![allow(dead_code)]
+
+mod outlines;
+
+pub use outlines::Outline;
 
 /// What a record of a row says.
 #[derive(Clone, Debug, PartialEq)]
@@ -29,6 +34,8 @@ pub struct Clause {
 /// All that stands, and the refusal if there is one.
 #[derive(Clone, Debug, Default)]
 pub struct Reference {
+    /// Are steps unified at once, as if they had no outlines?
+    only_unify: bool,
     pub symbols: Vec<(u16, u8)>,
     pub rows: Vec<(u16, Row, Vec<u8>)>,
     pub clauses: Vec<Clause>,
@@ -52,7 +59,16 @@ fn unused_zero(bytes: &[u8], used: usize) -> bool {
 impl Reference {
     /// Reads a whole file, with tables that are long enough.
     pub fn check(file: &[u8]) -> Reference {
-        let mut state = Reference::default();
+        Reference::default().read(file)
+    }
+
+    /// The same where no step has its outlines compared.
+    pub fn check_without_outlines(file: &[u8]) -> Reference {
+        Reference { only_unify: true, ..Reference::default() }.read(file)
+    }
+
+    fn read(self, file: &[u8]) -> Reference {
+        let mut state = self;
         if file.len() > 65_536 || !file.len().is_multiple_of(16) {
             state.refusal = Some((1, 0));
             return state;
@@ -159,8 +175,12 @@ impl Reference {
         self.step(at, From::Factor(a, b, c), kept.1, deleted.1)
     }
 
-    /// Unifies for a step and adds its clause.
+    /// Compares the outlines of a step, unifies for it and adds its clause.
     fn step(&mut self, at: u16, from: From, left: Expr, right: Expr) -> Result<(), u16> {
+        if !self.only_unify && self.outline(left.0, right.0) == Outline::Clash {
+            self.works.push((at, 0));
+            return Err(10);
+        }
         let mut walk = Walk {
             held: self.clauses.iter().map(|clause| clause.own.len()).sum(),
             clause: Clause { record: at, max: self.max_of(&from), from, own: Vec::new() },

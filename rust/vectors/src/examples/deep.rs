@@ -23,6 +23,9 @@ pub fn examples() -> Vec<Example> {
         Example::new("deep-derivation-two-derived", two_derived(4000)),
         Example::new("deep-exponential-refused", exponential_refused()),
         Example::new("deep-exponential-value", exponential_value(60)),
+        Example::new("deep-outline-first", deep_outline(2, Leaf::Variable)),
+        Example::new("deep-outline-clash", deep_outline(2, Leaf::Constant)),
+        Example::new("deep-outline-wide", deep_outline(6, Leaf::Variable)),
     ]
 }
 
@@ -224,5 +227,37 @@ pub fn exponential_value(steps: u16) -> Vec<u8> {
     for _ in 0..steps {
         clause = file.resolve(clause, 2, rule, 1);
     }
+    file.finish()
+}
+
+/// What stands at the bottom of a deep outline.
+#[derive(Clone, Copy)]
+enum Leaf {
+    Variable,
+    Constant,
+}
+
+/// As many rows as fit, each with the one before as its first argument: the last but one against the last is
+/// compared 4,091 pairs deep, while the other arguments wait. At the bottom stands a variable, or a constant,
+/// which clashes.
+fn deep_outline(arity: u8, leaf: Leaf) -> Vec<u8> {
+    let mut file = FileBuilder::new();
+    let f = file.symbol(arity);
+    let [leaf, other] = match leaf {
+        Leaf::Variable => [0, 1].map(|number| file.variable(number)),
+        Leaf::Constant => {
+            let a = file.symbol(0);
+            [file.application(a, &[]); 2]
+        }
+    };
+    let mut arguments = vec![other; usize::from(arity)];
+    let mut rows = [leaf; 2];
+    // The clause and the step are the last records.
+    while file.records() + 2 < 4096 {
+        arguments[0] = rows[1];
+        rows = [rows[1], file.application(f, &arguments)];
+    }
+    let clause = file.clause_of_rows(&[(true, rows[1]), (false, rows[0])]);
+    file.resolve(clause, 1, clause, 2);
     file.finish()
 }

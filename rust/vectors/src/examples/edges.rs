@@ -1,9 +1,10 @@
 //! Each limit of the format at its edge and one past it.
 
+use yestrwyn_types::limits::BINDINGS;
 use yestrwyn_types::record::kind;
 
 use super::cases::case_k;
-use super::Example;
+use super::{outlines, Example};
 use crate::sketch::{app, apply, neg, pos, var, FileBuilder, SignedTerm, Term};
 
 /// All of them.
@@ -15,6 +16,7 @@ pub fn examples() -> Vec<Example> {
     all.extend(sizes());
     all.extend(occurrences());
     all.extend(counts());
+    all.extend(outlines::edges());
     all
 }
 
@@ -131,8 +133,8 @@ fn works() -> Vec<Example> {
     ]
 }
 
-/// p(t,a) against p(t,a), or p(t,b), both resolved twice: work 2 + size each time, or with one
-/// argument only where nothing clashes, 1 + size.
+/// p(t) against p(t), resolved twice: work 1 + size each time. Or p(t,a) against p(t,b), whose outlines clash at
+/// the third pair, t being one row: unification alone would do work 2 + size, if it may.
 fn work_pairs(size: usize, clash: bool) -> Vec<u8> {
     let mut file = FileBuilder::new();
     let [p, f, g, a, b] = [1 + u8::from(clash), 1, 2, 0, 0].map(|arity| file.symbol(arity));
@@ -240,17 +242,34 @@ pub fn all_variables(f: u16) -> [Term; 2] {
     [0, 6].map(|start| apply(f, &(start..start + 6).map(six).collect::<Vec<_>>()))
 }
 
-/// Steps of 64 bindings each, p(t) against p(t) where t holds all variables, then some others.
-fn many_bindings(steps: usize, last: &[Step]) -> Vec<u8> {
-    let mut file = FileBuilder::new();
-    let symbols = [2, 6, 1, 2, 0, 0].map(|arity| file.symbol(arity));
-    let [p, f, .., a, _] = symbols;
+/// Steps of 64 bindings each: p(s,t) against itself, where s and t hold all variables.
+fn steps_of_64(file: &mut FileBuilder, [p, f, a]: [u16; 3], steps: usize) {
     let atom = app(p, all_variables(f));
     let left = file.clause(&[pos(atom.clone()), pos(app(a, []))]);
     let right = file.clause(&[neg(atom)]);
     for _ in 0..steps {
         file.resolve(left, 1, right, 1);
     }
+}
+
+/// Clauses and steps that hold 8,192 bindings but for some.
+pub fn hold_bindings(file: &mut FileBuilder, but_for: usize) {
+    let [p, f, q, a] = [2, 6, 1, 0].map(|arity| file.symbol(arity));
+    let wanted = BINDINGS.saturating_sub(but_for);
+    steps_of_64(file, [p, f, a], wanted / 64);
+    let left = file.clause(&[pos(app(q, [var(0)])), pos(app(a, []))]);
+    let right = file.clause(&[neg(app(q, [app(a, [])]))]);
+    for _ in 0..wanted % 64 {
+        file.resolve(left, 1, right, 1);
+    }
+}
+
+/// Steps of 64 bindings each, then some others.
+fn many_bindings(steps: usize, last: &[Step]) -> Vec<u8> {
+    let mut file = FileBuilder::new();
+    let symbols = [2, 6, 1, 2, 0, 0].map(|arity| file.symbol(arity));
+    let [p, f, .., a, _] = symbols;
+    steps_of_64(&mut file, [p, f, a], steps);
     let parents = last_parents(symbols).map(|[left, right]| [file.clause(&left), file.clause(&right)]);
     for &step in last {
         match (step, parents[step as usize]) {

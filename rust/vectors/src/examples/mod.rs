@@ -7,6 +7,7 @@ pub mod edges;
 pub mod group_theory;
 pub mod heavy;
 pub mod kowalski;
+pub mod outlines;
 pub mod refusals;
 pub mod resolution_rules;
 pub mod structure_sharing;

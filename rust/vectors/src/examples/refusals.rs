@@ -2,7 +2,7 @@
 
 use yestrwyn_types::record::{kind, Record};
 
-use super::Example;
+use super::{outlines, Example};
 use crate::sketch::{app, neg, pos, var, FileBuilder, Term};
 
 /// Each is a standing file and one more record, which is refused with the reason in its name.
@@ -14,6 +14,7 @@ pub fn examples() -> Vec<Example> {
     all.extend(factors());
     all.extend(unifications());
     all.extend(unused_bytes());
+    all.extend(outlines::refusals());
     all
 }
 
@@ -155,7 +156,7 @@ fn pair(name: &str, left: [Term; 3], right: [Term; 3]) -> Example {
     Example::new(name, file.finish())
 }
 
-/// Reasons 10 and 11, as unification meets them.
+/// Reasons 10 and 11, as outlines or unification meet them.
 fn unifications() -> Vec<Example> {
     let [x, y, z] = [0, 1, 2].map(|number| move || var(number));
     let [a, b] = [3, 4].map(|symbol| move || app(symbol, []));
@@ -166,7 +167,7 @@ fn unifications() -> Vec<Example> {
         pair("10-through-a-binding", [x(), x(), y()], [a(), b(), z()]),
         pair("10-function-against-constant", [f(x()), x(), x()], [a(), x(), x()]),
         pair("10-before-11", [a(), x(), x()], [b(), y(), f(y())]),
-        pair("11-before-10", [x(), x(), a()], [y(), f(y()), b()]),
+        pair("10-by-outlines-before-11", [x(), x(), a()], [y(), f(y()), b()]),
         pair("11-right-variable", [f(x()), x(), a()], [y(), y(), a()]),
         pair("11-through-two-bindings", [x(), y(), g(x(), y())], [f(y()), f(x()), x()]),
         pair("11-at-the-second-argument", [x(), x(), a()], [g(a(), y()), y(), a()]),

@@ -1,0 +1,31 @@
+//! What unification alone gives for a step, whatever its outlines are: for generators and tests.
+
+use yestrwyn_second::checker::Checker;
+use yestrwyn_second::clause::{literal, Loader};
+use yestrwyn_second::environment::Environment;
+use yestrwyn_second::expression::Expression;
+use yestrwyn_second::unify::Unifier;
+use yestrwyn_types::record::{kind, Record};
+use yestrwyn_types::Reason;
+
+/// What unification gives for a step that would be read next; none if the record is no step, or names a literal
+/// that does not exist. The step's other tests are not made.
+pub fn unification_alone(checker: &Checker, record: &Record) -> Option<Result<(), Reason>> {
+    let (clauses, [a, b, c, d, ..]) = (checker.clauses(), record.fields);
+    let (other, number, resolve) = match record.kind {
+        kind::RESOLVE => (c, d, true),
+        kind::FACTOR => (a, c, false),
+        _ => return None,
+    };
+    let (left, right) = (literal(clauses, a, b)?.atom, literal(clauses, other, number)?.atom);
+    let [first, second] = [a, other].map(|clause| clauses.get(usize::from(clause)));
+    let raise = if resolve { first?.max_index } else { 0 };
+    let right = Expression { row: right.row, index: right.index.checked_add(raise)? };
+    let (mut environment, mut loader) = (Environment::new(), Loader::default());
+    environment.clear(second?.max_index.checked_add(raise)?);
+    let mut bindings = checker.bindings().to_vec();
+    // The parent of a factor is loaded twice, which alters nothing.
+    loader.load(clauses, &bindings, &mut environment, a, 0);
+    loader.load(clauses, &bindings, &mut environment, other, raise);
+    Some(Unifier::default().unify(checker.nodes(), &mut environment, &mut bindings, left, right))
+}
