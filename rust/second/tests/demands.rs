@@ -135,9 +135,9 @@ fn random_files() {
 
 #[test]
 fn clashing_files() {
-    let refused = (0..2000).filter(|&seed| hold(&format!("clashing {seed}"), &clashing_file(seed)).1).count();
+    let refused = (0..600).filter(|&seed| hold(&format!("clashing {seed}"), &clashing_file(seed)).1).count();
     // Many atoms of these files are too large to be written out.
-    assert!(refused > 500, "{refused} refusals compared");
+    assert!(refused > 150, "{refused} refusals compared");
 }
 
 #[test]

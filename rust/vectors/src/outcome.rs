@@ -10,7 +10,7 @@ pub struct Outcome {
     pub answer: Answer,
     /// The four tables.
     pub cells: Cells,
-    /// The work of each step that came as far as unification.
+    /// The work of each step that came as far as its outlines.
     pub works: Vec<StepWork>,
     /// The readout.
     pub readout: Vec<u8>,
