@@ -39,12 +39,9 @@ fn compare_arguments(nodes: &Nodes, r: u16, q: u16, pairs: u16) -> Compared
     let mut left = pairs;
     let mut n: u16 = 0;
     while n < most {
-        let c = compare_pair(
-            nodes,
-            part_of(nodes, r, n + 1),
-            part_of(nodes, q, n + 1),
-            left,
-        );
+        let a = part_of(nodes, r, n + 1);
+        let b = part_of(nodes, q, n + 1);
+        let c = compare_pair(nodes, a, b, left);
         let Compared::Agree(rest) = c else {
             return Compared::Clash;
         };
@@ -62,10 +59,10 @@ fn compare_pair(nodes: &Nodes, r: u16, q: u16, pairs: u16) -> Compared
     if pairs == 0 {
         return Compared::Agree(0);
     }
-    let left = pairs - 1;
     if r == q {
-        return Compared::Agree(left);
+        return Compared::Agree(pairs - 1);
     }
+    let left = pairs - 1;
     if is_variable(nodes, r) {
         return Compared::Agree(left);
     }

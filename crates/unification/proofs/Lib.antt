@@ -1,3 +1,4 @@
+pub mod CasesProved
 pub mod Tests
 pub mod Lists
 pub mod Terms
@@ -15,6 +16,5 @@ pub mod Chains
 pub mod Stability
 pub mod Failures
 pub mod Room
-pub mod CasesProved
 pub mod NewBindings
 pub mod Limits

@@ -1,3 +1,4 @@
+pub mod CasesProved
 pub mod Inversions
 pub mod Standing
 pub mod Steps
@@ -12,7 +13,6 @@ pub mod Added
 pub mod Resolution
 pub mod Refusals
 pub mod Demanded
-pub mod CasesProved
 pub mod Sources
 pub mod Tabled
 pub mod Advance

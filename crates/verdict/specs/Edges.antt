@@ -1,5 +1,5 @@
 -- Edges of document 01's limits ("The file", "Verdict, tables and refusals", "The readout"): what is at a limit stands, and what is one
--- past it is refused. The limit of bindings is in the crate unification.
+-- past it is refused; and of document 02's outlines. The limits of bindings and of outlines are in the crate unification.
 use mathlib.Core.Path.{_≡_}
 use mathlib.Core.Bool.{true}
 use mathlib.Core.List.{List, [], _∷_, _++_, map}
@@ -86,8 +86,23 @@ limits =
     ∷ (workEdge, 2 ∷ 12 ∷ 24 ∷ 3 ∷ 16 ∷ 5 ∷ 0 ∷ [])
     ∷ []
 
+-- Reason 10, document 02, Q-1: s0(v0,v0,s2) against s0(v0,s1(v0),row), whose last argument is s3 or s2. The variable occurs in its value (11), but
+-- different constants clash in the outlines, and that comes first. As a resolve and as a factor.
+abbrev pub beforeOccurrence : ℕ → List Record → List Record
+beforeOccurrence row rs =
+    symbolOf 3 ∷ symbolOf 1 ∷ symbolOf 0 ∷ symbolOf 0 ∷ variableRow 0 ∷ applicationRow 1 (0 ∷ []) ∷ applicationRow 2 [] ∷ applicationRow 3 []
+    ∷ applicationRow 0 (0 ∷ 0 ∷ 2 ∷ []) ∷ applicationRow 0 (0 ∷ 1 ∷ row ∷ []) ∷ rs
+
+abbrev pub outlines : List Answered
+outlines =
+    (beforeOccurrence 3 (inputClause (9 ∷ []) ∷ inputClause (10 ∷ []) ∷ resolveStep 0 1 1 1 ∷ []), 2 ∷ 10 ∷ 12 ∷ 4 ∷ 6 ∷ 2 ∷ 0 ∷ [])
+    ∷ (beforeOccurrence 2 (inputClause (9 ∷ []) ∷ inputClause (10 ∷ []) ∷ resolveStep 0 1 1 1 ∷ []), 2 ∷ 11 ∷ 12 ∷ 4 ∷ 6 ∷ 2 ∷ 0 ∷ [])
+    ∷ (beforeOccurrence 3 (inputClause (9 ∷ 11 ∷ []) ∷ recordOf 6 0 (0 ∷ 1 ∷ 2 ∷ []) ∷ []), 2 ∷ 10 ∷ 11 ∷ 4 ∷ 6 ∷ 1 ∷ 0 ∷ [])
+    ∷ (beforeOccurrence 2 (inputClause (9 ∷ 11 ∷ []) ∷ recordOf 6 0 (0 ∷ 1 ∷ 2 ∷ []) ∷ []), 2 ∷ 11 ∷ 11 ∷ 4 ∷ 6 ∷ 1 ∷ 0 ∷ [])
+    ∷ []
+
 abbrev pub edges : List Answered
-edges = ranges ++ (unusedFields ++ limits)
+edges = ranges ++ (unusedFields ++ (limits ++ outlines))
 
 abbrev pub EdgesHold : Type 0
 EdgesHold = map (λ e. answerTo (e .0)) edges ≡ map (λ e. e .1) edges

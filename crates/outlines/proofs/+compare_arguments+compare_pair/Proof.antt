@@ -63,207 +63,85 @@ abbrev compare-arguments-μ-loop : compare-arguments-lts.MeasureT-loop
 compare-arguments-μ-loop nodes r q pairs most left₀ n₀ left n =
     most - n
 
+-- what the callees of `compare-arguments` say, its own calls below t
+abbrev compare-arguments-told : ℕ → compare-arguments-lts.Claims
+compare-arguments-told t = (common-arity-reads.Asked, common-arity-reads.Learnt, part-of-reads.Asked, part-of-reads.Learnt, compare-pair-below t, compare-pair.Post)
+
 -- what the callees of `compare-pair` say, its own calls below t
 abbrev compare-pair-told : ℕ → compare-pair-lts.Claims
 compare-pair-told t = (is-variable-reads.Asked, is-variable-reads.Learnt, part-of-reads.Asked, part-of-reads.Learnt, compare-arguments-below t, compare-arguments.Post)
 
 compare-arguments-common-arity-requires :
-    (t : ℕ) → compare-arguments-lts.Need-common-arity-requires (
-      common-arity-reads.Asked,
-      common-arity-reads.Learnt,
-      part-of-reads.Asked,
-      part-of-reads.Learnt,
-      compare-pair-below t,
-      compare-pair.Post,
-    )
-    (compare-arguments-at t)
-    compare-arguments.Post
+    (t : ℕ) → compare-arguments-lts.Need-common-arity-requires (compare-arguments-told t) (compare-arguments-at t) compare-arguments.Post
     compare-arguments-Inv-loop
     compare-arguments-μ-loop
 compare-arguments-common-arity-requires t c κs = search needs
 
-compare-arguments-loop-holds : (t : ℕ) → compare-arguments-lts.Need-loop-holds (
-  common-arity-reads.Asked,
-  common-arity-reads.Learnt,
-  part-of-reads.Asked,
-  part-of-reads.Learnt,
-  compare-pair-below t,
-  compare-pair.Post,
-)
-    (compare-arguments-at t)
-    compare-arguments.Post
+compare-arguments-loop-holds : (t : ℕ) → compare-arguments-lts.Need-loop-holds (compare-arguments-told t) (compare-arguments-at t) compare-arguments.Post
     compare-arguments-Inv-loop
     compare-arguments-μ-loop
 compare-arguments-loop-holds t c =
     arguments-first _ _ _ _ _
 
-compare-arguments-add-part-of : (t : ℕ) → compare-arguments-lts.Need-add-part-of (
-  common-arity-reads.Asked,
-  common-arity-reads.Learnt,
-  part-of-reads.Asked,
-  part-of-reads.Learnt,
-  compare-pair-below t,
-  compare-pair.Post,
-)
-    (compare-arguments-at t)
-    compare-arguments.Post
+compare-arguments-add-part-of : (t : ℕ) → compare-arguments-lts.Need-add-part-of (compare-arguments-told t) (compare-arguments-at t) compare-arguments.Post
     compare-arguments-Inv-loop
     compare-arguments-μ-loop
 compare-arguments-add-part-of t c = search needs
 
-compare-arguments-part-of-requires : (t : ℕ) → compare-arguments-lts.Need-part-of-requires (
-  common-arity-reads.Asked,
-  common-arity-reads.Learnt,
-  part-of-reads.Asked,
-  part-of-reads.Learnt,
-  compare-pair-below t,
-  compare-pair.Post,
-)
-    (compare-arguments-at t)
-    compare-arguments.Post
+compare-arguments-part-of-requires : (t : ℕ) → compare-arguments-lts.Need-part-of-requires (compare-arguments-told t) (compare-arguments-at t) compare-arguments.Post
     compare-arguments-Inv-loop
     compare-arguments-μ-loop
 compare-arguments-part-of-requires t c κs = search needs
 
-compare-arguments-add-part-of-2 : (t : ℕ) → compare-arguments-lts.Need-add-part-of-2 (
-  common-arity-reads.Asked,
-  common-arity-reads.Learnt,
-  part-of-reads.Asked,
-  part-of-reads.Learnt,
-  compare-pair-below t,
-  compare-pair.Post,
-)
-    (compare-arguments-at t)
-    compare-arguments.Post
+compare-arguments-add-part-of-2 : (t : ℕ) → compare-arguments-lts.Need-add-part-of-2 (compare-arguments-told t) (compare-arguments-at t) compare-arguments.Post
     compare-arguments-Inv-loop
     compare-arguments-μ-loop
 compare-arguments-add-part-of-2 t c = search needs
 
-compare-arguments-part-of-requires-2 : (t : ℕ) → compare-arguments-lts.Need-part-of-requires-2 (
-  common-arity-reads.Asked,
-  common-arity-reads.Learnt,
-  part-of-reads.Asked,
-  part-of-reads.Learnt,
-  compare-pair-below t,
-  compare-pair.Post,
-)
-    (compare-arguments-at t)
-    compare-arguments.Post
+compare-arguments-part-of-requires-2 : (t : ℕ) → compare-arguments-lts.Need-part-of-requires-2 (compare-arguments-told t) (compare-arguments-at t) compare-arguments.Post
     compare-arguments-Inv-loop
     compare-arguments-μ-loop
 compare-arguments-part-of-requires-2 t c κs = search needs
 
 compare-arguments-compare-pair-requires :
-    (t : ℕ) → compare-arguments-lts.Need-compare-pair-requires (
-      common-arity-reads.Asked,
-      common-arity-reads.Learnt,
-      part-of-reads.Asked,
-      part-of-reads.Learnt,
-      compare-pair-below t,
-      compare-pair.Post,
-    )
-    (compare-arguments-at t)
-    compare-arguments.Post
+    (t : ℕ) → compare-arguments-lts.Need-compare-pair-requires (compare-arguments-told t) (compare-arguments-at t) compare-arguments.Post
     compare-arguments-Inv-loop
     compare-arguments-μ-loop
 compare-arguments-compare-pair-requires t c κs = search needs
 
-compare-arguments-enum-known-c : (t : ℕ) → compare-arguments-lts.Need-enum-known-c (
-  common-arity-reads.Asked,
-  common-arity-reads.Learnt,
-  part-of-reads.Asked,
-  part-of-reads.Learnt,
-  compare-pair-below t,
-  compare-pair.Post,
-)
-    (compare-arguments-at t)
-    compare-arguments.Post
+compare-arguments-enum-known-c : (t : ℕ) → compare-arguments-lts.Need-enum-known-c (compare-arguments-told t) (compare-arguments-at t) compare-arguments.Post
     compare-arguments-Inv-loop
     compare-arguments-μ-loop
 compare-arguments-enum-known-c t c = search needs
 
-compare-arguments-enum-told : (t : ℕ) → compare-arguments-lts.Need-enum-told (
-  common-arity-reads.Asked,
-  common-arity-reads.Learnt,
-  part-of-reads.Asked,
-  part-of-reads.Learnt,
-  compare-pair-below t,
-  compare-pair.Post,
-)
-    (compare-arguments-at t)
-    compare-arguments.Post
+compare-arguments-enum-told : (t : ℕ) → compare-arguments-lts.Need-enum-told (compare-arguments-told t) (compare-arguments-at t) compare-arguments.Post
     compare-arguments-Inv-loop
     compare-arguments-μ-loop
 compare-arguments-enum-told t c = search needs
 
-compare-arguments-returns : (t : ℕ) → compare-arguments-lts.Need-returns (
-  common-arity-reads.Asked,
-  common-arity-reads.Learnt,
-  part-of-reads.Asked,
-  part-of-reads.Learnt,
-  compare-pair-below t,
-  compare-pair.Post,
-)
-    (compare-arguments-at t)
-    compare-arguments.Post
+compare-arguments-returns : (t : ℕ) → compare-arguments-lts.Need-returns (compare-arguments-told t) (compare-arguments-at t) compare-arguments.Post
     compare-arguments-Inv-loop
     compare-arguments-μ-loop
 compare-arguments-returns t c =
     arguments-clash _ _ _ _ _ _ (c .before .before .before .before .before .before .loop .n) (c .before .before .before .before .before .before .loop .inv) (c .before .before .before .before .before .loop-test .taken) _ _ (c .before .before .before .before .part-of .ensures) (c .before .before .before .part-of2 .ensures) _ (c .before .before .compare-pair .ensures) (c .before .before .before .before .before .before .before .common-arity .ensures .0) (c .enum-told .given .1)
 
-compare-arguments-add-n : (t : ℕ) → compare-arguments-lts.Need-add-n (
-  common-arity-reads.Asked,
-  common-arity-reads.Learnt,
-  part-of-reads.Asked,
-  part-of-reads.Learnt,
-  compare-pair-below t,
-  compare-pair.Post,
-)
-    (compare-arguments-at t)
-    compare-arguments.Post
+compare-arguments-add-n : (t : ℕ) → compare-arguments-lts.Need-add-n (compare-arguments-told t) (compare-arguments-at t) compare-arguments.Post
     compare-arguments-Inv-loop
     compare-arguments-μ-loop
 compare-arguments-add-n t c = search needs
 
-compare-arguments-loop-less : (t : ℕ) → compare-arguments-lts.Need-loop-less (
-  common-arity-reads.Asked,
-  common-arity-reads.Learnt,
-  part-of-reads.Asked,
-  part-of-reads.Learnt,
-  compare-pair-below t,
-  compare-pair.Post,
-)
-    (compare-arguments-at t)
-    compare-arguments.Post
+compare-arguments-loop-less : (t : ℕ) → compare-arguments-lts.Need-loop-less (compare-arguments-told t) (compare-arguments-at t) compare-arguments.Post
     compare-arguments-Inv-loop
     compare-arguments-μ-loop
 compare-arguments-loop-less t c = search needs
 
-compare-arguments-loop-again : (t : ℕ) → compare-arguments-lts.Need-loop-again (
-  common-arity-reads.Asked,
-  common-arity-reads.Learnt,
-  part-of-reads.Asked,
-  part-of-reads.Learnt,
-  compare-pair-below t,
-  compare-pair.Post,
-)
-    (compare-arguments-at t)
-    compare-arguments.Post
+compare-arguments-loop-again : (t : ℕ) → compare-arguments-lts.Need-loop-again (compare-arguments-told t) (compare-arguments-at t) compare-arguments.Post
     compare-arguments-Inv-loop
     compare-arguments-μ-loop
 compare-arguments-loop-again t c =
     arguments-next _ _ _ _ _ _ (c .before .before .before .before .before .before .before .loop .n) (c .before .before .before .before .before .before .before .loop .inv) (c .before .before .before .before .before .before .loop-test .taken) _ _ (c .before .before .before .before .before .part-of .ensures) (c .before .before .before .before .part-of2 .ensures) _ (c .before .before .before .compare-pair .ensures) _ (c .before .c .given .1)
 
-compare-arguments-returns-2 : (t : ℕ) → compare-arguments-lts.Need-returns-2 (
-  common-arity-reads.Asked,
-  common-arity-reads.Learnt,
-  part-of-reads.Asked,
-  part-of-reads.Learnt,
-  compare-pair-below t,
-  compare-pair.Post,
-)
-    (compare-arguments-at t)
-    compare-arguments.Post
+compare-arguments-returns-2 : (t : ℕ) → compare-arguments-lts.Need-returns-2 (compare-arguments-told t) (compare-arguments-at t) compare-arguments.Post
     compare-arguments-Inv-loop
     compare-arguments-μ-loop
 compare-arguments-returns-2 t c =
@@ -273,12 +151,15 @@ compare-pair-returns : (t : ℕ) → compare-pair-lts.Need-returns (compare-pair
 compare-pair-returns t c =
     pair-spent _ _ _ _ (c .if1 .taken)
 
-compare-pair-sub-left : (t : ℕ) → compare-pair-lts.Need-sub-left (compare-pair-told t) (compare-pair-at t) compare-pair.Post
-compare-pair-sub-left t c = search needs
+compare-pair-sub-t7 : (t : ℕ) → compare-pair-lts.Need-sub-t7 (compare-pair-told t) (compare-pair-at t) compare-pair.Post
+compare-pair-sub-t7 t c = search needs
 
 compare-pair-returns-2 : (t : ℕ) → compare-pair-lts.Need-returns-2 (compare-pair-told t) (compare-pair-at t) compare-pair.Post
 compare-pair-returns-2 t c =
     pair-same _ _ _ _ (c .before .if1 .left) (c .if2 .taken)
+
+compare-pair-sub-left : (t : ℕ) → compare-pair-lts.Need-sub-left (compare-pair-told t) (compare-pair-at t) compare-pair.Post
+compare-pair-sub-left t c = search needs
 
 compare-pair-is-variable-requires : (t : ℕ) → compare-pair-lts.Need-is-variable-requires (compare-pair-told t) (compare-pair-at t) compare-pair.Post
 compare-pair-is-variable-requires t c κs = search needs
@@ -314,16 +195,7 @@ compare-pair-returns-6 t c =
 
 pub +compare-arguments+compare-pair-spec : {M : Type 1} → statement M
 +compare-arguments+compare-pair-spec =
-    close μ-compare-arguments μ-compare-pair (λ t. compare-arguments-lts.spec (
-      common-arity-reads.Asked,
-      common-arity-reads.Learnt,
-      part-of-reads.Asked,
-      part-of-reads.Learnt,
-      compare-pair-below t,
-      compare-pair.Post,
-    )
-    (compare-arguments-at t)
-    compare-arguments.Post
+    close μ-compare-arguments μ-compare-pair (λ t. compare-arguments-lts.spec (compare-arguments-told t) (compare-arguments-at t) compare-arguments.Post
     compare-arguments-Inv-loop
     compare-arguments-μ-loop
     (compare-arguments-common-arity-requires t)
@@ -340,19 +212,11 @@ pub +compare-arguments+compare-pair-spec : {M : Type 1} → statement M
     (compare-arguments-loop-less t)
     (compare-arguments-loop-again t)
     (compare-arguments-returns-2 t))
-    λ t. compare-pair-lts.spec (
-      is-variable-reads.Asked,
-      is-variable-reads.Learnt,
-      part-of-reads.Asked,
-      part-of-reads.Learnt,
-      compare-arguments-below t,
-      compare-arguments.Post,
-    )
-    (compare-pair-at t)
-    compare-pair.Post
+    λ t. compare-pair-lts.spec (compare-pair-told t) (compare-pair-at t) compare-pair.Post
     (compare-pair-returns t)
-    (compare-pair-sub-left t)
+    (compare-pair-sub-t7 t)
     (compare-pair-returns-2 t)
+    (compare-pair-sub-left t)
     (compare-pair-is-variable-requires t)
     (compare-pair-returns-3 t)
     (compare-pair-is-variable-requires-2 t)
