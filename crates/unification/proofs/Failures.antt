@@ -90,7 +90,7 @@ module _ (row : ℕ → Row) (links : ℕ) (isFull : List Binding → Bool) (bas
       try ih (stop f) p c z = subst (F (suc n) s) (failed-injective z) (c (λ y. k (sym (failed-injective z) ∙ y)))
 
   -- The other way: where unification fails as stated, that is its answer.
-  reached-run : (m : ℕ) (s t : Task) → Reaches row links isFull base m s t → (n k : ℕ) → k ≡ m + n → run row links isFull base k s ≡ run row links isFull base n t
+  pub reached-run : (m : ℕ) (s t : Task) → Reaches row links isFull base m s t → (n k : ℕ) → k ≡ m + n → run row links isFull base k s ≡ run row links isFull base n t
   unfolding run
   reached-run m s t noTurn n k e = ap (λ (i : ℕ). run row links isFull base i s) (e ∙ zero-add n)
   reached-run m s t (oneTurn {n = j} {t = u} q h) n k e =

@@ -16,5 +16,6 @@ pub mod Chains
 pub mod Stability
 pub mod Failures
 pub mod Room
+pub mod Trees
 pub mod NewBindings
 pub mod Limits
