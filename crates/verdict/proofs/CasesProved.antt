@@ -1,23 +1,30 @@
 -- The case sheet and the edges of the limits, by computing; and the lengths, for every file.
 use mathlib.Core.Path.{_≡_, refl, _∙_, ap, fun-ext}
-use mathlib.Core.Bool.{false}
+use mathlib.Core.Bool.{Bool, true, false}
 use mathlib.Core.List.{List, [], _∷_, _++_, map}
-use Prim.Native.Nat.{ℕ, zero, suc, _-_}
+use Prim.Native.Nat.{ℕ, zero, suc, _+_, _-_}
+use native.Mathlib.Omega.{arith}
 use lib.ListN.{length, drop, replicate, length-replicate}
 use Rattle.record.specs.Bytes.{recordBytes, fileBytes}
-use Rattle.record.specs.Record.{pick, records}
+use Rattle.record.specs.Record.{pick, Record, records}
+use Rattle.unification.specs.Environment.{Binding, Environment}
 use Rattle.unification.specs.Outlines.{mostOutlinePairs, clashWithin}
-use Rattle.unification.specs.Unification.{mostWork, mostBindings, mostLinks, run}
+use Rattle.unification.specs.Row.{Row, application, rowAt}
+use Rattle.unification.specs.Unification.{mostWork, mostBindings, mostLinks, overwork, unified, failed, unifying, run}
+use Rattle.unification.proofs.Failures.{reached-run}
+use Rattle.unification.proofs.Limits.{work-16384}
 use Rattle.unification.proofs.Tests.{true-not-false}
+use Rattle.unification.proofs.Trees as trees
 use Rattle.verdict.specs.Cases.{nines, holding, Case, works, caseOf, cases, CasesHold, refusedForLength, LengthsHold}
-use Rattle.verdict.specs.Edges.{eights, EdgesHold, ShortTablesHold, TextsHold}
+use Rattle.verdict.specs.Edges.{answerTo, ranges, unusedFields, indexEdge, literalEdge, workEdge, eights, EdgesHold, ShortTablesHold, TextsHold}
 use Rattle.verdict.specs.Readout.{linesOf, joinedLines, readout, readoutLines}
-use Rattle.verdict.specs.Refusal.{mostLiterals, mostIndex}
+use Rattle.verdict.specs.Refusal.{unification, mostLiterals, mostIndex}
 use Rattle.verdict.specs.State.{State, held, emptyState, derivations}
-use Rattle.verdict.specs.Step.{require, addClause, stateOf}
+use Rattle.verdict.specs.Step.{Ending, allStand, refusedAt, require, requireAll, enter, onNamed, step, read, addClause, stateOf}
 use Rattle.verdict.specs.Tables.{Tables, lengthsOf, symbolCells, rowCells, clauseCells, bindingCells, filled, filledTables, tablesGiven, tablesAfter}
-use Rattle.verdict.specs.Verdict.{check, answerNumbers, longEnough, answerOf, verdictGiven, stateGiven, Lengths, fittingLength, ending, Reading, untouched, readTo, reading}
+use Rattle.verdict.specs.Verdict.{refusal, verdictOf, named, check, answerNumbers, longEnough, answerOf, verdictGiven, stateGiven, Lengths, fittingLength, ending, Reading, untouched, readTo, reading}
 use Rattle.verdict.proofs.Demanded.{length-only}
+use Rattle.verdict.proofs.Reading.{reading-records}
 
 -- ── The case sheet: its tables are compared by the cells that they start with ──
 
@@ -91,9 +98,80 @@ cases-hold = ap (λ made. map (λ c. made (c .file)) cases) (fun-ext case-by) �
 
 -- ── The edges of the limits ──
 
-pub edges-hold : EdgesHold
+-- The rows of `workEdge`, the newest first. At the indices 1 and 2 row r takes n turns of the machine.
+abbrev edgeRows : List Row
+edgeRows =
+    application 2 (14 ∷ []) ∷ application 2 (13 ∷ [])
+    ∷ (map (λ n. application 0 (n ∷ n ∷ [])) (12 ∷ 11 ∷ 10 ∷ 9 ∷ 8 ∷ 7 ∷ 6 ∷ 5 ∷ 4 ∷ 3 ∷ 2 ∷ 1 ∷ 0 ∷ []) ++ (application 1 [] ∷ []))
+
+module _ (isFull : List Binding → Bool) (base : Environment) where
+  abbrev Takes : ℕ → ℕ → Type 0
+  Takes n r = trees.Takes (rowAt edgeRows) mostLinks isFull base 1 2 refl n r
+
+  next : (n r : ℕ) → rowAt edgeRows (suc r) ≡ application 0 (r ∷ r ∷ []) → Takes n r → Takes (suc (n + n)) (suc r)
+  next n r q t = trees.takes-two (rowAt edgeRows) mostLinks isFull base 1 2 refl n (suc r) 0 r q t
+
+  one-more : (n r : ℕ) → rowAt edgeRows (suc r) ≡ application 2 (r ∷ []) → Takes n r → Takes (suc n) (suc r)
+  one-more n r q t = trees.takes-one (rowAt edgeRows) mostLinks isFull base 1 2 refl n (suc r) 2 r q t
+
+  full-tree : Takes 16383 13
+  full-tree =
+      next 8191 12 refl (next 4095 11 refl (next 2047 10 refl (next 1023 9 refl (next 511 8 refl (next 255 7 refl (next 127 6 refl
+      (next 63 5 refl (next 31 4 refl (next 15 3 refl (next 7 2 refl (next 3 1 refl (next 1 0 refl
+      (trees.takes-leaf (rowAt edgeRows) mostLinks isFull base 1 2 refl 0 1 refl)))))))))))))
+
+  at-rest : run (rowAt edgeRows) mostLinks isFull base 0 (unifying [] []) ≡ unified [] 0
+  unfolding run
+  at-rest = refl
+
+  last-work : run (rowAt edgeRows) mostLinks isFull base mostWork (unifying [] (((14, 1), (14, 2)) ∷ [])) ≡ unified [] 0
+  last-work = reached-run _ _ _ _ 16384 _ _ (one-more 16383 13 refl full-tree []) 0 mostWork work-16384 ∙ at-rest
+
+  no-further-work : run (rowAt edgeRows) mostLinks isFull base mostWork (unifying [] (((15, 1), (15, 2)) ∷ [])) ≡ failed overwork
+  no-further-work = trees.spent _ _ _ _ 16385 _ _ (one-more 16384 14 refl (one-more 16383 13 refl full-tree) []) mostWork (omega (arith, work-16384))
+
+-- The answer's numbers, given how reading ended.
+numbersOf : Ending → List ℕ
+numbersOf (allStand S) = answerNumbers (answerOf (verdictOf (allStand S)) S)
+numbersOf (refusedAt S reason k) = answerNumbers (answerOf (refusal reason k) S)
+
+numbers : (e : Ending) → answerNumbers (answerOf (verdictOf e) (stateOf e)) ≡ numbersOf e
+unfolding numbersOf
+numbers (allStand S) = refl
+numbers (refusedAt S reason k) = refl
+
+answered : (rs : List Record) → fittingLength (length (fileBytes rs)) ≡ true → answerTo rs ≡ numbersOf (ending (fileBytes rs))
+unfolding check
+answered rs fits =
+    ap (λ r. answerNumbers (answerOf (verdictGiven r) (stateGiven r))) (reading-records (fileBytes rs) named fits refl) ∙ numbers (ending (fileBytes rs))
+
+work-numbers : numbersOf (ending (fileBytes workEdge)) ≡ 2 ∷ 12 ∷ 24 ∷ 3 ∷ 16 ∷ 5 ∷ 0 ∷ []
+unfolding fileBytes recordBytes records check ending held require addClause clashWithin mostOutlinePairs mostBindings mostLinks mostLiterals mostIndex numbersOf
+work-numbers = rw (last-work, read, step, enter, requireAll, require, onNamed, no-further-work)
+
+work-fits : fittingLength (length (fileBytes workEdge)) ≡ true
+unfolding fileBytes recordBytes
+work-fits = refl
+
+-- The others are computed, turn by turn.
+ranges-hold : map (λ e. answerTo (e .0)) ranges ≡ map (λ e. e .1) ranges
 unfolding fileBytes recordBytes records check ending held require addClause clashWithin mostOutlinePairs run mostWork mostBindings mostLinks mostLiterals mostIndex
-edges-hold = refl
+ranges-hold = refl
+
+unused-hold : map (λ e. answerTo (e .0)) unusedFields ≡ map (λ e. e .1) unusedFields
+unfolding fileBytes recordBytes records check ending held require addClause clashWithin mostOutlinePairs run mostWork mostBindings mostLinks mostLiterals mostIndex
+unused-hold = refl
+
+index-edge : answerTo indexEdge ≡ 2 ∷ 9 ∷ 15 ∷ 1 ∷ 1 ∷ 13 ∷ 0 ∷ []
+unfolding fileBytes recordBytes records check ending held require addClause clashWithin mostOutlinePairs run mostWork mostBindings mostLinks mostLiterals mostIndex
+index-edge = refl
+
+literal-edge : answerTo literalEdge ≡ 2 ∷ 9 ∷ 29 ∷ 1 ∷ 1 ∷ 27 ∷ 0 ∷ []
+unfolding fileBytes recordBytes records check ending held require addClause clashWithin mostOutlinePairs run mostWork mostBindings mostLinks mostLiterals mostIndex
+literal-edge = refl
+
+pub edges-hold : EdgesHold
+edges-hold = λ i. ranges-hold i ++ (unused-hold i ++ (index-edge i ∷ literal-edge i ∷ (answered workEdge work-fits ∙ work-numbers) i ∷ []))
 
 -- ── Tables that are too short ──
 
