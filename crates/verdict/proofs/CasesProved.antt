@@ -16,7 +16,7 @@ use Rattle.unification.proofs.Limits.{work-16384}
 use Rattle.unification.proofs.Tests.{true-not-false}
 use Rattle.unification.proofs.Trees as trees
 use Rattle.verdict.specs.Cases.{nines, holding, Case, works, caseOf, cases, CasesHold, refusedForLength, LengthsHold}
-use Rattle.verdict.specs.Edges.{answerTo, ranges, unusedFields, indexEdge, literalEdge, workEdge, eights, EdgesHold, ShortTablesHold, TextsHold}
+use Rattle.verdict.specs.Edges.{answerTo, ranges, unusedFields, outlines, indexEdge, literalEdge, workEdge, eights, EdgesHold, ShortTablesHold, TextsHold}
 use Rattle.verdict.specs.Readout.{linesOf, joinedLines, readout, readoutLines}
 use Rattle.verdict.specs.Refusal.{unification, mostLiterals, mostIndex}
 use Rattle.verdict.specs.State.{State, held, emptyState, derivations}
@@ -170,8 +170,12 @@ literal-edge : answerTo literalEdge ≡ 2 ∷ 9 ∷ 29 ∷ 1 ∷ 1 ∷ 27 ∷ 0 
 unfolding fileBytes recordBytes records check ending held require addClause clashWithin mostOutlinePairs run mostWork mostBindings mostLinks mostLiterals mostIndex
 literal-edge = refl
 
+outlines-hold : map (λ e. answerTo (e .0)) outlines ≡ map (λ e. e .1) outlines
+unfolding fileBytes recordBytes records check ending held require addClause clashWithin mostOutlinePairs run mostWork mostBindings mostLinks mostLiterals mostIndex
+outlines-hold = refl
+
 pub edges-hold : EdgesHold
-edges-hold = λ i. ranges-hold i ++ (unused-hold i ++ (index-edge i ∷ literal-edge i ∷ (answered workEdge work-fits ∙ work-numbers) i ∷ []))
+edges-hold = λ i. ranges-hold i ++ (unused-hold i ++ (index-edge i ∷ literal-edge i ∷ (answered workEdge work-fits ∙ work-numbers) i ∷ outlines-hold i))
 
 -- ── Tables that are too short ──
 
