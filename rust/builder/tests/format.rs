@@ -4,7 +4,7 @@ mod pages;
 
 use pages::{cells, hexadecimal, indented, section, stored, text};
 use yestrwyn_types::limits::{
-    ARITY, BINDINGS, BINDING_CELLS, CLAUSE_CELLS, FILE_BYTES, INDEX, INPUT_LITERALS, LITERALS,
+    ARITY, BINDINGS, BINDING_CELLS, CLAUSE_CELLS, FILE_BYTES, INDEX, INPUT_LITERALS, LITERALS, OUTLINE_PAIRS,
     READOUT_OCCURRENCES, RECORDS, ROW_CELLS, SYMBOL_CELLS, VARIABLES, WORK,
 };
 
@@ -55,6 +55,7 @@ fn the_limits_are_those_of_the_check() {
         usize::from(INPUT_LITERALS),
         usize::from(LITERALS),
         usize::from(INDEX),
+        OUTLINE_PAIRS,
         WORK as usize,
         BINDINGS,
         READOUT_OCCURRENCES,
