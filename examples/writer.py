@@ -45,7 +45,7 @@ class ProofFile:
         return self._write(self.clauses, 6, 0, clause, kept, deleted)
 
     def _row(self, *record):
-        # A row may be written only once; after that it is named by its number.
+        # A row is written once and then named by its number, which saves the records of repeats.
         if record not in self.known_rows:
             self.known_rows[record] = self._write(self.rows, *record)
         return self.known_rows[record]

@@ -8,7 +8,7 @@
  * That they come to an end asks for a stack of 8 MiB: call them on a thread
  * that has that much left. An ordinary file takes less than 1.5 MiB of it, and
  * the deepest files known up to 4 MiB, but no proof says how much a call
- * takes. With a workspace (checker_check_with) it is some KiB, and up to
+ * takes. With a workspace (checker_check_with) it is some 20 KiB, and up to
  * 2.7 MiB; the rule is the same. */
 #ifndef CHECKER_H
 #define CHECKER_H
@@ -41,7 +41,8 @@ extern "C" {
  *
  *   file      the bytes of the file
  *   symbols   a cell for each symbol: its record; at least 4,096 cells
- *   rows      a cell for each row: its record; at least 4,096 cells
+ *   rows      a cell for each row: its record, or that of the earliest equal
+ *             row; at least 4,096 cells
  *   clauses   five cells for each clause: record, literals, maximum index,
  *             first binding, bindings; at least 20,480 cells
  *   bindings  four cells for each binding: row and index of the variable, row
@@ -55,7 +56,7 @@ extern "C" {
  * The numbers of the answer:
  *   answer[0]  0 open, 1 accepted, 2 refused
  *   answer[1]  accepted: the number of the first empty clause; refused: the
- *              reason, 1 to 13; open: 0
+ *              reason, 1 to 13 and never 6; open: 0
  *   answer[2]  refused: the record; otherwise 0
  *   answer[3], answer[4], answer[5], answer[6]
  *              how many symbols, rows, clauses and bindings there are
@@ -93,16 +94,17 @@ void checker_check(const uint8_t *file, size_t file_len,
  * that check at the same time have one each.
  *
  * Afterwards:
- *   nodes     eight cells for each row: 1 and the number of a variable; or 2
- *             plus the number of arguments, the symbol and the arguments; then
- *             zeros
+ *   nodes     eight cells for each row: 1 and the number of a variable; 2 plus
+ *             the number of arguments, the symbol and the arguments; or 0 and
+ *             the earliest equal row, for a row that repeats it; then zeros
  *   origins   eight cells for each clause: 1 and the literals of an input
  *             clause; 2 and the numbers of a factoring step, or 3 and those of
  *             a resolution step, as its record has them; then zeros
  *   values    is left to the library: it may hold anything
  *
- * With reasons 1 and 2 nodes and origins are left alone. If answer has fewer
- * than 7 cells, nothing at all is touched. */
+ * Arguments and literals in nodes and origins are on earliest rows, also where
+ * the file names a repeat. With reasons 1 and 2 nodes and origins are left
+ * alone. If answer has fewer than 7 cells, nothing at all is touched. */
 void checker_check_with(const uint8_t *file, size_t file_len,
                         uint16_t *symbols, size_t symbols_len,
                         uint16_t *rows, size_t rows_len,

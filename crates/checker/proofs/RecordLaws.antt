@@ -1,24 +1,29 @@
 -- One record, whatever its kind: what the functions on kinds ask, and what they give.
-use mathlib.Core.Path.{_≡_, refl, sym, ap, _∙_}
+use mathlib.Core.Path.{_≡_, refl, sym, ap, _∙_, subst}
 use mathlib.Core.List.{List}
 use Prim.Native.Nat.{ℕ, _<_}
 use native.Mathlib.Omega.{arith}
-use lib.ListN.{length}
-use Rattle.record.specs.Record.{recordPart, kindOf, decoded, otherKind, kindNumbered}
-use Rattle.entry.specs.Program.{symbolLeft, symbolEntered, rowLeft, variableEntered, applicationEntered, inputLeft, inputEntered}
+use lib.ListN.{length, length-map}
+use Rattle.record.specs.Record.{Record, Kind, recordPart, kindOf, decoded, otherKind, kindNumbered}
+use Rattle.unification.specs.Row.{Row}
+use Rattle.distinct.specs.Index.{Indexed}
+use Rattle.entry.specs.Program.{RowsReady, RowsIndexed, rowsAfter, symbolLeft, symbolEntered, rowLeft, variableEntered, applicationEntered, inputLeft, inputEntered}
 use Rattle.entry.specs.Progress.{Reading, RecordRead, tablesWith}
 use Rattle.verdict.specs.Refusal.{badKind, kindOfRecord}
-use Rattle.verdict.specs.State.{State}
+use Rattle.verdict.specs.State.{State, rowsOf}
 use Rattle.verdict.specs.Step.{require}
 use Rattle.inference.specs.Stepping.{BeforeStep, StepRead}
 use Rattle.verdict.specs.Tables.{Tables}
 use Rattle.entry.proofs.Declaring.{symbol-read, variable-read, application-read, input-read}
 use Rattle.fields.proofs.FieldLaws.{kind-other}
-use Rattle.entry.proofs.Kept.{few-records, few-symbols, few-rows, few-clauses, nodes-length, origins-length}
+use Rattle.entry.proofs.Kept.{few-records, few-symbols, few-rows, few-clauses, rows-fit, origins-length}
+use Rattle.entry.proofs.Entering.{rows-ready}
+use Rattle.verdict.proofs.Inversions.{step-stands}
 use Rattle.verdict.proofs.Resolution.{at-kind}
+use Rattle.verdict.proofs.WrittenRows.{rowsEntered, entered-rows}
 use Rattle.entry.specs.declared.entry.Counts.{Counts}
 use Rattle.entry.specs.declared.entry.Entered.{Entered}
-use Rattle.entry.specs.declared.entry.Entered.the-variants.{Refused}
+use Rattle.entry.specs.declared.entry.Entered.the-variants.{Stands, Refused}
 
 module _ {F : List ℕ} {k : ℕ} {n : Counts} {here : Tables} {N O A : List ℕ} (R : Reading F k n here N O A) where
   abbrev S : State
@@ -33,12 +38,28 @@ module _ {F : List ℕ} {k : ℕ} {n : Counts} {here : Tables} {N O A : List ℕ
   pub symbols-few : n .symbols < 4096
   symbols-few = omega (arith, ap (λ (c : Counts). c .symbols) (R .kept .counts), few-symbols F t k S n here N O A (R .kept) (R .inside), below)
 
-  pub rows-few : (n .rows < 4096) × (length N ≡ 32768)
-  rows-few = (omega (arith, ap (λ (c : Counts). c .rows) (R .kept .counts), few-rows F t k S n here N O A (R .kept) (R .inside), below), nodes-length F t k S n here N O A (R .kept) (R .inside))
+  ready : RowsReady N
+  ready = rows-ready (rowsOf S) (rows-fit F t k S n here N O A (R .kept) (R .inside)) (omega (arith, length-map (S .rows) (λ (w : ℕ × Row). w .1), few-rows F t k S n here N O A (R .kept) (R .inside), below)) N (R .kept .nodes)
 
-  pub clauses-few : (n .clauses < 4096) × ((length N ≡ 32768) × (length O ≡ 32768))
+  pub rows-few : (H L : List ℕ) → Indexed N (n .rows) H L → RowsIndexed N n H L
+  rows-few H L I = record {
+    index = I;
+    room = omega (arith, ap (λ (c : Counts). c .rows) (R .kept .counts), few-rows F t k S n here N O A (R .kept) (R .inside), below);
+    ready = ready;
+  }
+
+  pub clauses-few : (n .clauses < 4096) × (RowsReady N × (length O ≡ 32768))
   clauses-few =
-      (omega (arith, ap (λ (c : Counts). c .clauses) (R .kept .counts), few-clauses F t k S n here N O A (R .kept) (R .inside), below), (nodes-length F t k S n here N O A (R .kept) (R .inside), origins-length F t k S n here N O A (R .kept) (R .inside)))
+      (omega (arith, ap (λ (c : Counts). c .clauses) (R .kept .counts), few-clauses F t k S n here N O A (R .kept) (R .inside), below), (ready, origins-length F t k S n here N O A (R .kept) (R .inside)))
+
+  -- A record that enters no row leaves the index as it is.
+  pub index-kept : (e : Entered) (here′ : Tables) (O′ A′ : List ℕ) → RecordRead F k n here N O A e here′ N O′ A′ → ((S : State) (r : Record) → rowsEntered S (kindOfRecord (decoded (recordPart F k))) r ≡ rowsOf S) → (H L : List ℕ) → Indexed N (n .rows) H L → Indexed N (rowsAfter n e) H L
+  index-kept (Refused q) here′ O′ A′ X same H L I = I
+  index-kept (Stands m) here′ O′ A′ X same H L I =
+      let z = X .next t S (R .kept) in
+      let rows : rowsOf (z .0) ≡ rowsOf S = entered-rows S k (decoded (recordPart F k)) (z .0) (kindOfRecord (decoded (recordPart F k))) (step-stands S k (decoded (recordPart F k)) (z .0) (z .1) .1) ∙ same S (decoded (recordPart F k)) in
+      let count : n .rows ≡ m .rows = ap (λ (c : Counts). c .rows) (R .kept .counts) ∙ sym (length-map (S .rows) (λ (w : ℕ × Row). w .1)) ∙ sym (ap length rows) ∙ length-map (z .0 .rows) (λ (w : ℕ × Row). w .1) ∙ sym (ap (λ (c : Counts). c .rows) (z .2 .counts)) in
+      subst (λ (x : ℕ). Indexed N x H L) count I
 
 module _ {F : List ℕ} {k : ℕ} {n : Counts} {s r C B N O A : List ℕ} (R : Reading F k n (tablesWith s r C B) N O A) where
   pub before-step : BeforeStep F k n C B N O A
@@ -56,6 +77,13 @@ module _ {F : List ℕ} {k : ℕ} {n : Counts} {s r C B N O A : List ℕ} (R : R
 
     kind-is : (j : ℕ) → m ≡ j → kindOfRecord (decoded (recordPart F k)) ≡ kindNumbered j
     kind-is j z = ap kindNumbered (sym tag-is ∙ z)
+
+    rows-stay : (j : ℕ) → m ≡ j → ((S : State) (r : Record) → rowsEntered S (kindNumbered j) r ≡ rowsOf S) → (S : State) (r : Record) → rowsEntered S (kindOfRecord (decoded (recordPart F k))) r ≡ rowsOf S
+    rows-stay j z same S r = ap (λ (x : Kind). rowsEntered S x r) (kind-is j z) ∙ same S r
+
+    -- A record of another kind than 2 and 3 leaves the index with what it leaves.
+    pub with-index : (j : ℕ) → m ≡ j → ((S : State) (r : Record) → rowsEntered S (kindNumbered j) r ≡ rowsOf S) → (H L : List ℕ) → Indexed N (n .rows) H L → (e : Entered) (here′ : Tables) (O′ A′ : List ℕ) → RecordRead F k n (tablesWith s r C B) N O A e here′ N O′ A′ → RecordRead F k n (tablesWith s r C B) N O A e here′ N O′ A′ × Indexed N (rowsAfter n e) H L
+    with-index j z same H L I e here′ O′ A′ X = (X, index-kept R e here′ O′ A′ X (rows-stay j z same) H L I)
 
     pub symbol-done : m ≡ 1 → (e : Entered) (s′ : List ℕ) → symbolLeft e s′ ≡ symbolEntered P k n s → RecordRead F k n (tablesWith s r C B) N O A e (tablesWith s′ r C B) N O A
     symbol-done z e s′ E = record { next = λ t S K. symbol-read F t k S n (tablesWith s r C B) N O A K (R .inside) (kind-is 1 z) e s′ (E ∙ ap (λ (x : List ℕ). symbolEntered x k n s) p) }

@@ -1,15 +1,19 @@
 -- All records, one after another: what holds after k of them, and when reading ends.
 use mathlib.Core.Path.{_≡_, refl, sym, subst}
-use mathlib.Core.List.{List}
+use mathlib.Core.List.{List, []}
 use Prim.Native.Nat.{ℕ, _+_, _≤_, _<_}
+use lib.ListN.{length}
 use native.Mathlib.Numerals.{add-one}
 use native.Mathlib.Omega.{arith}
 use Rattle.record.specs.Record.{recordCount}
+use Rattle.distinct.specs.Index.{Indexed}
+use Rattle.entry.specs.Program.{rowsAfter}
 use Rattle.entry.specs.Progress.{Kept, Reading, Next, RecordRead}
 use Rattle.checker.specs.Reader.{Begun, EndedWith}
 use Rattle.verdict.specs.State.{State, emptyState, held}
 use Rattle.verdict.specs.Tables.{Tables}
 use Rattle.verdict.proofs.Advance.{Standing, refused-there, all-read}
+use Rattle.entry.proofs.Entering.{node-table-length}
 use Rattle.entry.proofs.Kept.{standing-of, fitting-records}
 use Rattle.entry.specs.declared.entry.Counts.{Counts}
 use Rattle.entry.specs.declared.entry.Entered.{Entered}
@@ -30,6 +34,9 @@ read-none F here N O A G = record {
   kept = record { fit = G .fit; long = G .long; before = refl; counts = refl; tables = G .cleared; nodes = G .nodes; origins = G .origins; values = G .values };
 }
 
+pub begun-nodes : {F : List ℕ} {here : Tables} {N O A : List ℕ} → Begun F here N O A → length N ≡ 32768
+begun-nodes {N = N} G = node-table-length [] tt (omega arith) N (G .nodes)
+
 module _ {F : List ℕ} {t : Tables} {k : ℕ} {n : Counts} {here : Tables} {N O A : List ℕ} (R : ReadUpTo F t k n here N O A) where
   pub read-asked : k < recordCount F → Reading F k n here N O A
   read-asked l = record { inside = l; tablesBefore = t; state = R .state; kept = R .kept }
@@ -41,6 +48,9 @@ module _ {F : List ℕ} {t : Tables} {k : ℕ} {n : Counts} {here : Tables} {N O
   read-more l e here′ N′ O′ A′ X n′ q =
       let z = subst (Next F t k (R .state) here′ N′ O′ A′) q (X .next t (R .state) (R .kept)) in
       record { few = omega arith; state = z .0; kept = subst (λ (m : ℕ). Kept F t m (z .0) n′ here′ N′ O′ A′) (sym (add-one k)) (z .2) }
+
+  pub index-more : (N′ H L : List ℕ) (e : Entered) (m : Counts) → e ≡ Stands m → Indexed N′ (rowsAfter n e) H L → Indexed N′ (m .rows) H L
+  index-more N′ H L e m q I = subst (λ (x : Entered). Indexed N′ (rowsAfter n x) H L) q I
 
   pub read-refused : k < recordCount F → (e : Entered) (here′ : Tables) (N′ O′ A′ : List ℕ) → RecordRead F k n here N O A e here′ N′ O′ A′ → (q : ℕ) → e ≡ Refused q → EndedWith F t (ended-variants.Refused q k n) here′ N′ O′ A′
   read-refused l e here′ N′ O′ A′ X q p =

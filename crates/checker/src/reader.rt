@@ -1,5 +1,7 @@
 // Records one after another: each by its kind.
 use answer::Ended;
+use distinct::Heads;
+use distinct::Links;
 use entry::entry::Counts;
 use entry::entry::Entered;
 use entry::entry::application_record;
@@ -13,6 +15,8 @@ use following::values::ValueCells;
 use record::kind;
 use record::record_part;
 use resolution::resolve_record;
+ghost use Rattle.distinct.specs.Index.{Indexed};
+ghost use Rattle.entry.specs.Program.{rowsAfter};
 ghost use Rattle.entry.specs.Progress.{Reading, RecordRead, tablesWith};
 ghost use Rattle.checker.specs.Reader.{Begun, RecordsRead};
 
@@ -28,16 +32,20 @@ fn read_record(
     nodes: &mut Nodes,
     origins: &mut Origins,
     values: &mut ValueCells,
+    heads: &mut Heads,
+    links: &mut Links,
 ) -> Entered
     requires { ⌜ Reading (now file) k counts (tablesWith (now symbols) (now rows) (now clauses) (now bindings)) (now nodes) (now origins) (now values) ⌝ }
+    requires { ⌜ Indexed (now nodes) (counts .rows) (now heads) (now links) ⌝ }
     ensures { λ e. ⌜ RecordRead (now (file .entry)) k counts (tablesWith (now (symbols .entry)) (now (rows .entry)) (now (clauses .entry)) (now (bindings .entry))) (now (nodes .entry)) (now (origins .entry)) (now (values .entry)) e (tablesWith (now (symbols .exit)) (now (rows .exit)) (now (clauses .exit)) (now (bindings .exit))) (now (nodes .exit)) (now (origins .exit)) (now (values .exit)) ⌝ }
+    ensures { λ e. ⌜ Indexed (now (nodes .exit)) (rowsAfter counts e) (now (heads .exit)) (now (links .exit)) ⌝ }
 {
     let part = record_part(file, k as usize);
     let tag = kind(part);
     match tag {
         1 => symbol_record(part, k, counts, symbols),
-        2 => variable_record(part, k, counts, rows, nodes),
-        3 => application_record(file, part, k, counts, symbols, rows, nodes),
+        2 => variable_record(part, k, counts, rows, nodes, heads, links),
+        3 => application_record(file, part, k, counts, symbols, rows, nodes, heads, links),
         4 => input_record(file, k, counts, clauses, nodes, origins),
         5 => resolve_record(file, k, counts, clauses, bindings, nodes, origins, values),
         6 => factor_record(file, k, counts, clauses, bindings, nodes, origins, values),
@@ -45,8 +53,8 @@ fn read_record(
     }
 }
 
-// All records in their order, up to the first that is refused.
-pub fn read_records(
+// All records in their order, up to the first that is refused, with an index of no rows.
+fn read_indexed(
     file: &[u8],
     symbols: &mut [u16],
     rows: &mut [u16],
@@ -55,8 +63,11 @@ pub fn read_records(
     nodes: &mut Nodes,
     origins: &mut Origins,
     values: &mut ValueCells,
+    heads: &mut Heads,
+    links: &mut Links,
 ) -> Ended
     requires { ⌜ Begun (now file) (tablesWith (now symbols) (now rows) (now clauses) (now bindings)) (now nodes) (now origins) (now values) ⌝ }
+    requires { ⌜ Indexed (now nodes) 0 (now heads) (now links) ⌝ }
     ensures { λ e. ⌜ RecordsRead (now (file .entry)) (tablesWith (now (symbols .entry)) (now (rows .entry)) (now (clauses .entry)) (now (bindings .entry))) (now (nodes .entry)) (now (origins .entry)) (now (values .entry)) e (tablesWith (now (symbols .exit)) (now (rows .exit)) (now (clauses .exit)) (now (bindings .exit))) (now (nodes .exit)) (now (origins .exit)) (now (values .exit)) ⌝ }
 {
     let mut counts = Counts {
@@ -78,6 +89,8 @@ pub fn read_records(
             nodes,
             origins,
             values,
+            heads,
+            links,
         ) {
             Entered::Stands(n) => {
                 counts = n;
@@ -87,4 +100,34 @@ pub fn read_records(
         }
     }
     Ended::All(counts)
+}
+
+// The same, with an index of its own.
+pub fn read_records(
+    file: &[u8],
+    symbols: &mut [u16],
+    rows: &mut [u16],
+    clauses: &mut [u16],
+    bindings: &mut [u16],
+    nodes: &mut Nodes,
+    origins: &mut Origins,
+    values: &mut ValueCells,
+) -> Ended
+    requires { ⌜ Begun (now file) (tablesWith (now symbols) (now rows) (now clauses) (now bindings)) (now nodes) (now origins) (now values) ⌝ }
+    ensures { λ e. ⌜ RecordsRead (now (file .entry)) (tablesWith (now (symbols .entry)) (now (rows .entry)) (now (clauses .entry)) (now (bindings .entry))) (now (nodes .entry)) (now (origins .entry)) (now (values .entry)) e (tablesWith (now (symbols .exit)) (now (rows .exit)) (now (clauses .exit)) (now (bindings .exit))) (now (nodes .exit)) (now (origins .exit)) (now (values .exit)) ⌝ }
+{
+    let mut heads = [0u16; 4096];
+    let mut links = [0u16; 4096];
+    read_indexed(
+        file,
+        symbols,
+        rows,
+        clauses,
+        bindings,
+        nodes,
+        origins,
+        values,
+        &mut heads,
+        &mut links,
+    )
 }

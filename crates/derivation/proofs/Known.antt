@@ -1,4 +1,4 @@
--- Derivations over rows that are there: they stay valid, and what is looked up stays over such rows, while rows are added.
+-- Derivations over rows of which P holds, such as those that are there: they stay valid, and what is looked up stays over such rows, while rows are added.
 use mathlib.Core.Path.{_≡_, refl, sym, _∙_, subst}
 use mathlib.Core.Bool.{Bool, true, false, not}
 use mathlib.Core.Option.{Option, none, some}
@@ -12,7 +12,6 @@ use Rattle.unification.specs.Row.{variable, Row, application, Expression}
 use Rattle.unification.specs.Unification.{mostWork, mostLinks, unified, unifying, noRoom}
 use Rattle.unification.proofs.Lists.{Each, each-append, each-map, each-more}
 use Rattle.unification.proofs.Ranges.{Kept, KeptArguments, KeptEnd, kept-run}
-use Rattle.unification.proofs.Rows.{Below}
 use Rattle.unification.proofs.Solved.{agree}
 use Rattle.unification.proofs.Stability.{run-agree}
 use Rattle.unification.proofs.Tests.{some-not-none, some-injective}
@@ -20,63 +19,67 @@ use Rattle.derivation.specs.Derivation.{literals, input, Literal, RowLit
 use Rattle.derivation.proofs.Literals.{each-numbered, each-without}
 use Rattle.derivation.proofs.Validity.{Unified, Valid}
 
--- The rows of the input clauses are below N.
-abbrev pub KnownRows : ℕ → Derivation → Type 0
-KnownRows N (input number ls) = Each (λ (l : RowLiteral). l .1 < N) ls
-KnownRows N (resolve number l a r b bs) = KnownRows N l × KnownRows N r
-KnownRows N (factor number c a b bs) = KnownRows N c
+-- The rows below n.
+abbrev pub Under : ℕ → ℕ → Type 0
+Under n r = r < n
 
-abbrev pub Known : ℕ → Expression → Type 0
-Known N e = e .0 < N
+-- P holds of the rows of the input clauses.
+abbrev pub KnownRows : (ℕ → Type 0) → Derivation → Type 0
+KnownRows P (input number ls) = Each (λ (l : RowLiteral). P (l .1)) ls
+KnownRows P (resolve number l a r b bs) = KnownRows P l × KnownRows P r
+KnownRows P (factor number c a b bs) = KnownRows P c
 
-abbrev pub KnownLiteral : ℕ → Literal → Type 0
-KnownLiteral N l = Known N (l .1)
+abbrev pub Known : (ℕ → Type 0) → Expression → Type 0
+Known P e = P (e .0)
+
+abbrev pub KnownLiteral : (ℕ → Type 0) → Literal → Type 0
+KnownLiteral P l = Known P (l .1)
 
 -- All bindings of an environment are between expressions over such rows.
-abbrev pub KnownEnvironment : ℕ → Environment → Type 0
-KnownEnvironment N ρ = Kept (Known N) (Known N) ρ
+abbrev pub KnownEnvironment : (ℕ → Type 0) → Environment → Type 0
+KnownEnvironment P ρ = Kept (Known P) (Known P) ρ
 
-module _ (N : ℕ) where
-  pub known-literals : (c : Derivation) → KnownRows N c → Each (KnownLiteral N) (literals c)
-  known-literals (input number ls) h = each-map (λ (l : RowLiteral). l .1 < N) (KnownLiteral N) (λ l. (l .0, (l .1, 1))) (λ l k. k) ls h
+module _ (P : ℕ → Type 0) where
+  pub known-literals : (c : Derivation) → KnownRows P c → Each (KnownLiteral P) (literals c)
+  known-literals (input number ls) h = each-map (λ (l : RowLiteral). P (l .1)) (KnownLiteral P) (λ l. (l .0, (l .1, 1))) (λ l k. k) ls h
   known-literals (resolve number l a r b bs) h =
-      each-append (KnownLiteral N) (without (literals l) a) (map (raiseLiteral (maximumIndex l)) (without (literals r) b))
-      (each-without (KnownLiteral N) (literals l) a (known-literals l (h .0)))
-      (each-map (KnownLiteral N) (KnownLiteral N) (raiseLiteral (maximumIndex l)) (λ l k. k) (without (literals r) b) (each-without (KnownLiteral N) (literals r) b (known-literals r (h .1))))
-  known-literals (factor number c a b bs) h = each-without (KnownLiteral N) (literals c) b (known-literals c h)
+      each-append (KnownLiteral P) (without (literals l) a) (map (raiseLiteral (maximumIndex l)) (without (literals r) b))
+      (each-without (KnownLiteral P) (literals l) a (known-literals l (h .0)))
+      (each-map (KnownLiteral P) (KnownLiteral P) (raiseLiteral (maximumIndex l)) (λ l k. k) (without (literals r) b) (each-without (KnownLiteral P) (literals r) b (known-literals r (h .1))))
+  known-literals (factor number c a b bs) h = each-without (KnownLiteral P) (literals c) b (known-literals c h)
 
-  pub known-numbered : (c : Derivation) → KnownRows N c → (n : ℕ) (l : Literal) → numbered (literals c) n ≡ some l → Known N (l .1)
-  known-numbered c h n l q = each-numbered (KnownLiteral N) (literals c) n l q (known-literals c h)
+  pub known-numbered : (c : Derivation) → KnownRows P c → (n : ℕ) (l : Literal) → numbered (literals c) n ≡ some l → Known P (l .1)
+  known-numbered c h n l q = each-numbered (KnownLiteral P) (literals c) n l q (known-literals c h)
 
-  pub known-joined : (m : ℕ) (ρ ρ′ : Environment) → KnownEnvironment N ρ → KnownEnvironment N ρ′ → KnownEnvironment N (joined m ρ ρ′)
+  pub known-joined : (m : ℕ) (ρ ρ′ : Environment) → KnownEnvironment P ρ → KnownEnvironment P ρ′ → KnownEnvironment P (joined m ρ ρ′)
   known-joined m ρ ρ′ h k x e p = try (leb (x .1) m) p
     where
-      up-to : (o : Option Expression) → ρ′ (x .0, x .1 - m) ≡ o → raiseAnswer m o ≡ some e → Known N x × Known N e
+      up-to : (o : Option Expression) → ρ′ (x .0, x .1 - m) ≡ o → raiseAnswer m o ≡ some e → Known P x × Known P e
       up-to none q r = absurd (some-not-none refl r)
-      up-to (some d) q r = (k (x .0, x .1 - m) d q .0, subst (λ (y : Expression). y .0 < N) (some-injective r) (k (x .0, x .1 - m) d q .1))
+      up-to (some d) q r = (k (x .0, x .1 - m) d q .0, subst (λ (y : Expression). P (y .0)) (some-injective r) (k (x .0, x .1 - m) d q .1))
 
-      try : (b : Bool) → pick b (ρ x) (raiseAnswer m (ρ′ (x .0, x .1 - m))) ≡ some e → Known N x × Known N e
+      try : (b : Bool) → pick b (ρ x) (raiseAnswer m (ρ′ (x .0, x .1 - m))) ≡ some e → Known P x × Known P e
       try true r = h x e r
       try false r = up-to (ρ′ (x .0, x .1 - m)) refl r
 
-  -- Two tables that agree on rows below N, whose arguments are below N too.
-  module _ (row row′ : ℕ → Row) (agree : (r : ℕ) → r < N → row r ≡ row′ r) (below : (r s : ℕ) (xs : List ℕ) → row r ≡ application s xs → r < N → Below N xs) where
-    all-known : (xs : List ℕ) (i : ℕ) → Below N xs → KeptArguments (Known N) (Known N) xs i
+  -- Two tables that agree on such rows, whose arguments are such rows too.
+  module _ (row row′ : ℕ → Row) (agree : (r : ℕ) → P r → row r ≡ row′ r) (below : (r s : ℕ) (xs : List ℕ) → row r ≡ application s xs → P r → Each P xs) where
+    all-known : (xs : List ℕ) (i : ℕ) → Each P xs → KeptArguments (Known P) (Known P) xs i
     all-known [] i h = tt
     all-known (a ∷ xs) i h = (h .0, all-known xs i (h .1))
 
-    pub known-variable : (e : Expression) (v : ℕ) → row (e .0) ≡ variable v → Known N e → Known N e
+    pub known-variable : (e : Expression) (v : ℕ) → row (e .0) ≡ variable v → Known P e → Known P e
     known-variable e v q h = h
 
-    pub known-arguments : (e : Expression) (s : ℕ) (xs : List ℕ) → row (e .0) ≡ application s xs → Known N e → KeptArguments (Known N) (Known N) xs (e .1)
+    pub known-arguments : (e : Expression) (s : ℕ) (xs : List ℕ) → row (e .0) ≡ application s xs → Known P e → KeptArguments (Known P) (Known P) xs (e .1)
     known-arguments e s xs q h = all-known xs (e .1) (below (e .0) s xs q h)
 
-    unified-known : (base : Environment) (e d : Expression) (bs : List Binding) → Unified row base e d bs → KnownEnvironment N base → Known N e → Known N d → KnownEnvironment N (extend base bs)
+    unified-known : (base : Environment) (e d : Expression) (bs : List Binding) → Unified row base e d bs → KnownEnvironment P base → Known P e → Known P d → KnownEnvironment P (extend base bs)
     unified-known base e d bs u h a b =
-        let k : KeptEnd (Known N) (Known N) row known-variable known-arguments mostLinks (noRoom (u .0)) base (unified bs (u .1)) = rw (u .2) at (kept-run (Known N) (Known N) row known-variable known-arguments mostLinks (noRoom (u .0)) base mostWork (unifying [] ((e, d) ∷ [])) (h, (a, b, tt))) in
+        let k : KeptEnd (Known P) (Known P) row known-variable known-arguments mostLinks (noRoom (u .0)) base (unified bs (u .1)) = rw (u .2) at (kept-run (Known P) (Known P) row known-variable known-arguments mostLinks (noRoom (u .0)) base mostWork (unifying [] ((e, d) ∷ [])) (h, (a, b, tt))) in
         k
 
-    pub known-lookup : (c : Derivation) → Valid row c → KnownRows N c → KnownEnvironment N (lookup c)
+    pub known-lookup : (c : Derivation) → Valid row c → KnownRows P c → KnownEnvironment P (lookup c)
     known-lookup (input number ls) K h = λ x e p. absurd (some-not-none refl p)
     known-lookup (resolve number l a r b bs) K h =
         let c = K .2 in
@@ -86,10 +89,10 @@ module _ (N : ℕ) where
         let c = K .1 in
         unified-known (lookup t) (c .1) (c .2) bs (c .6) (known-lookup t (K .0) h) (known-numbered t h a (c .0, c .1) (c .3)) (known-numbered t h b (c .0, c .2) (c .4))
 
-    unified-stable : (base : Environment) (e d : Expression) (bs : List Binding) → Unified row base e d bs → KnownEnvironment N base → Known N e → Known N d → Unified row′ base e d bs
-    unified-stable base e d bs u h a b = (u .0, u .1, sym (run-agree (Known N) (Known N) row row′ (λ e l. agree (e .0) l) known-variable known-arguments mostLinks (noRoom (u .0)) base mostWork (unifying [] ((e, d) ∷ [])) (h, (a, b, tt))) ∙ u .2)
+    unified-stable : (base : Environment) (e d : Expression) (bs : List Binding) → Unified row base e d bs → KnownEnvironment P base → Known P e → Known P d → Unified row′ base e d bs
+    unified-stable base e d bs u h a b = (u .0, u .1, sym (run-agree (Known P) (Known P) row row′ (λ e l. agree (e .0) l) known-variable known-arguments mostLinks (noRoom (u .0)) base mostWork (unifying [] ((e, d) ∷ [])) (h, (a, b, tt))) ∙ u .2)
 
-    pub valid-stable : (c : Derivation) → KnownRows N c → Valid row c → Valid row′ c
+    pub valid-stable : (c : Derivation) → KnownRows P c → Valid row c → Valid row′ c
     valid-stable (input number ls) h K = tt
     valid-stable (resolve number l a r b bs) h K =
         let c = K .2 in (
@@ -119,13 +122,13 @@ module _ (N : ℕ) where
           ),
         )
 
-pub known-more : (n m : ℕ) → n ≤ m → (c : Derivation) → KnownRows n c → KnownRows m c
-known-more n m l (input number ls) h = each-more (λ (x : RowLiteral). x .1 < n) (λ (x : RowLiteral). x .1 < m) (λ x k. omega arith) ls h
-known-more n m l (resolve number x a y b bs) h = (known-more n m l x (h .0), known-more n m l y (h .1))
-known-more n m l (factor number c a b bs) h = known-more n m l c h
+pub known-more : (P Q : ℕ → Type 0) → ((r : ℕ) → P r → Q r) → (c : Derivation) → KnownRows P c → KnownRows Q c
+known-more P Q f (input number ls) h = each-more (λ (x : RowLiteral). P (x .1)) (λ (x : RowLiteral). Q (x .1)) (λ x k. f (x .1) k) ls h
+known-more P Q f (resolve number x a y b bs) h = (known-more P Q f x (h .0), known-more P Q f y (h .1))
+known-more P Q f (factor number c a b bs) h = known-more P Q f c h
 
 -- The uses of a derivation are over such rows.
-pub known-uses : (N : ℕ) (c : Derivation) → KnownRows N c → Each (λ (u : Use). Each (λ (l : RowLiteral). l .1 < N) (u .1)) (uses c)
-known-uses N (input number ls) h = (h, tt)
-known-uses N (resolve number l a r b bs) h = each-append (λ (u : Use). Each (λ (l : RowLiteral). l .1 < N) (u .1)) (uses l) (uses r) (known-uses N l (h .0)) (known-uses N r (h .1))
-known-uses N (factor number c a b bs) h = known-uses N c h
+pub known-uses : (P : ℕ → Type 0) (c : Derivation) → KnownRows P c → Each (λ (u : Use). Each (λ (l : RowLiteral). P (l .1)) (u .1)) (uses c)
+known-uses P (input number ls) h = (h, tt)
+known-uses P (resolve number l a r b bs) h = each-append (λ (u : Use). Each (λ (l : RowLiteral). P (l .1)) (u .1)) (uses l) (uses r) (known-uses P l (h .0)) (known-uses P r (h .1))
+known-uses P (factor number c a b bs) h = known-uses P c h

@@ -12,52 +12,51 @@ use Rattle.unification.specs.Unification.{mostWork, mostLinks, unified, unifyin
 use Rattle.unification.proofs.Lists.{Each, each-more}
 use Rattle.unification.proofs.NewBindings.{NewBinding, NewEnd, new-run}
 use Rattle.unification.proofs.Ranges.{KeptArguments, IndicesKept}
-use Rattle.unification.proofs.Rows.{Below}
 use Rattle.derivation.specs.Derivation.{literals, input, Derivation, resolve, factor, raise, maximumIndex, joined, lookup}
 use Rattle.derivation.proofs.Known.{Known, KnownRows, KnownEnvironment, known-numbered, known-joined, known-lookup}
 use Rattle.derivation.proofs.Literals.{In, each-numbered, LiteralIn, literals-in}
 use Rattle.derivation.proofs.Validity.{Unified, Valid, kept-joined, lookup-in}
 
--- A binding over rows below N, with indices from 1 to m.
-pub record BindingThere (row : ℕ → Row) (N m : ℕ) (b : Binding) : Type 0 where
+-- A binding over rows of which P holds, with indices from 1 to m.
+pub record BindingThere (row : ℕ → Row) (P : ℕ → Type 0) (m : ℕ) (b : Binding) : Type 0 where
   pub number : ℕ
   pub isVariable : row (b .0 .0) ≡ variable number
-  pub variableRow : b .0 .0 < N
+  pub variableRow : P (b .0 .0)
   pub variableIndex : In m (b .0 .1)
-  pub termRow : b .1 .0 < N
+  pub termRow : P (b .1 .0)
   pub termIndex : In m (b .1 .1)
 
 -- The variable bound is free in ρ.
 abbrev pub FreeIn : Environment → Binding → Type 0
 FreeIn ρ b = ρ (b .0) ≡ none
 
-abbrev pub BindingsThere : (ℕ → Row) → ℕ → Derivation → Type 0
-BindingsThere row N (input number ls) = Unit {0}
-BindingsThere row N (resolve number l a r b bs) =
-    BindingsThere row N l × BindingsThere row N r × (Each (BindingThere row N (maximumIndex l + maximumIndex r)) bs × Each (FreeIn (joined (maximumIndex l) (lookup l) (lookup r))) bs)
-BindingsThere row N (factor number d a b bs) = BindingsThere row N d × (Each (BindingThere row N (maximumIndex d)) bs × Each (FreeIn (lookup d)) bs)
+abbrev pub BindingsThere : (ℕ → Row) → (ℕ → Type 0) → Derivation → Type 0
+BindingsThere row P (input number ls) = Unit {0}
+BindingsThere row P (resolve number l a r b bs) =
+    BindingsThere row P l × BindingsThere row P r × (Each (BindingThere row P (maximumIndex l + maximumIndex r)) bs × Each (FreeIn (joined (maximumIndex l) (lookup l) (lookup r))) bs)
+BindingsThere row P (factor number d a b bs) = BindingsThere row P d × (Each (BindingThere row P (maximumIndex d)) bs × Each (FreeIn (lookup d)) bs)
 
-module _ (N : ℕ) (row : ℕ → Row) (below : (r s : ℕ) (xs : List ℕ) → row r ≡ application s xs → r < N → Below N xs) where
+module _ (P : ℕ → Type 0) (row : ℕ → Row) (below : (r s : ℕ) (xs : List ℕ) → row r ≡ application s xs → P r → Each P xs) where
   -- What a step's expressions keep to.
   abbrev InRange : ℕ → Expression → Type 0
-  InRange m e = (e .0 < N) × In m (e .1)
+  InRange m e = P (e .0) × In m (e .1)
 
-  arguments-in : (m : ℕ) (xs : List ℕ) (i : ℕ) → Below N xs → In m i → KeptArguments (InRange m) (InRange m) xs i
+  arguments-in : (m : ℕ) (xs : List ℕ) (i : ℕ) → Each P xs → In m i → KeptArguments (InRange m) (InRange m) xs i
   arguments-in m [] i h k = tt
   arguments-in m (a ∷ xs) i h k = ((h .0, k), arguments-in m xs i (h .1) k)
 
-  pub unified-bindings : (m : ℕ) (base : Environment) (e d : Expression) (bs : List Binding) → Unified row base e d bs → KnownEnvironment N base → IndicesKept (In m) base → Known N e → In m (e .1) → Known N d → In m (d .1)
-      → Each (BindingThere row N m) bs × Each (FreeIn base) bs
+  pub unified-bindings : (m : ℕ) (base : Environment) (e d : Expression) (bs : List Binding) → Unified row base e d bs → KnownEnvironment P base → IndicesKept (In m) base → Known P e → In m (e .1) → Known P d → In m (d .1)
+      → Each (BindingThere row P m) bs × Each (FreeIn base) bs
   unified-bindings m base e d bs u h k ke ie kd id =
       let z : NewEnd (InRange m) (InRange m) row (λ e v q g. g) (λ e s xs q g. arguments-in m xs (e .1) (below (e .0) s xs q (g .0)) (g .1)) mostLinks (noRoom (u .0)) base (unified bs (u .1))
       = rw (u .2) at (new-run (InRange m) (InRange m) row (λ e v q g. g) (λ e s xs q g. arguments-in m xs (e .1) (below (e .0) s xs q (g .0)) (g .1)) mostLinks (noRoom (u .0)) base mostWork (unifying [] ((e, d) ∷ []))
       (λ x c p. ((h x c p .0, k x c p .0), (h x c p .1, k x c p .1)), ((ke, ie), (kd, id), tt)) tt) in (
-        each-more (NewBinding (InRange m) (InRange m) row (λ e v q g. g) (λ e s xs q g. arguments-in m xs (e .1) (below (e .0) s xs q (g .0)) (g .1)) mostLinks (noRoom (u .0)) base) (BindingThere row N m)
+        each-more (NewBinding (InRange m) (InRange m) row (λ e v q g. g) (λ e s xs q g. arguments-in m xs (e .1) (below (e .0) s xs q (g .0)) (g .1)) mostLinks (noRoom (u .0)) base) (BindingThere row P m)
             (λ b n. record { number = n .number; isVariable = n .isVariable; variableRow = n .variableKept .0; variableIndex = n .variableKept .1; termRow = n .expressionKept .0; termIndex = n .expressionKept .1 }) bs z,
         each-more (NewBinding (InRange m) (InRange m) row (λ e v q g. g) (λ e s xs q g. arguments-in m xs (e .1) (below (e .0) s xs q (g .0)) (g .1)) mostLinks (noRoom (u .0)) base) (FreeIn base) (λ b n. n .free) bs z,
       )
 
-  pub bindings-there : (c : Derivation) → Valid row c → KnownRows N c → BindingsThere row N c
+  pub bindings-there : (c : Derivation) → Valid row c → KnownRows P c → BindingsThere row P c
   bindings-there (input number ls) K h = tt
   bindings-there (resolve number l a r b bs) K h =
       let c = K .2 in
@@ -66,14 +65,14 @@ module _ (N : ℕ) (row : ℕ → Row) (below : (r s : ℕ) (xs : List ℕ) → 
         bindings-there l (K .0) (h .0),
         bindings-there r (K .1) (h .1),
         unified-bindings (maximumIndex l + maximumIndex r) (joined (maximumIndex l) (lookup l) (lookup r)) (c .1) (raise (maximumIndex l) (c .2)) bs (c .5)
-            (known-joined N (maximumIndex l) (lookup l) (lookup r) (known-lookup N row row (λ r l. refl) below l (K .0) (h .0)) (known-lookup N row row (λ r l. refl) below r (K .1) (h .1)))
+            (known-joined P (maximumIndex l) (lookup l) (lookup r) (known-lookup P row row (λ r l. refl) below l (K .0) (h .0)) (known-lookup P row row (λ r l. refl) below r (K .1) (h .1)))
             (kept-joined (maximumIndex l) (maximumIndex r) (lookup l) (lookup r) (lookup-in row l (K .0)) (lookup-in row r (K .1)))
-            (known-numbered N l (h .0) a (c .0, c .1) (c .3)) (omega arith) (known-numbered N r (h .1) b (not (c .0), c .2) (c .4)) (omega arith),
+            (known-numbered P l (h .0) a (c .0, c .1) (c .3)) (omega arith) (known-numbered P r (h .1) b (not (c .0), c .2) (c .4)) (omega arith),
       )
   bindings-there (factor number d a b bs) K h =
       let c = K .1 in (
         bindings-there d (K .0) h,
-        unified-bindings (maximumIndex d) (lookup d) (c .1) (c .2) bs (c .6) (known-lookup N row row (λ r l. refl) below d (K .0) h) (lookup-in row d (K .0))
-            (known-numbered N d h a (c .0, c .1) (c .3)) (each-numbered (LiteralIn (maximumIndex d)) (literals d) a (c .0, c .1) (c .3) (literals-in d))
-            (known-numbered N d h b (c .0, c .2) (c .4)) (each-numbered (LiteralIn (maximumIndex d)) (literals d) b (c .0, c .2) (c .4) (literals-in d)),
+        unified-bindings (maximumIndex d) (lookup d) (c .1) (c .2) bs (c .6) (known-lookup P row row (λ r l. refl) below d (K .0) h) (lookup-in row d (K .0))
+            (known-numbered P d h a (c .0, c .1) (c .3)) (each-numbered (LiteralIn (maximumIndex d)) (literals d) a (c .0, c .1) (c .3) (literals-in d))
+            (known-numbered P d h b (c .0, c .2) (c .4)) (each-numbered (LiteralIn (maximumIndex d)) (literals d) b (c .0, c .2) (c .4) (literals-in d)),
       )

@@ -1,6 +1,6 @@
 -- Records of kind 1 to 4: what the program makes of them is what the definition makes of them.
 use mathlib.Core.Path.{_≡_, refl, sym, ap, ap₂, _∙_, subst}
-use mathlib.Core.Bool.{Bool, true, false, _&&_, not}
+use mathlib.Core.Bool.{Bool, true, false, _&&_}
 use mathlib.Core.Option.{Option, none, some}
 use mathlib.Core.List.{List, [], _∷_, _++_, map, reverse, reverse-cons, append-nil}
 use Prim.Native.Nat.{ℕ, _+_, _≤_, _<_}
@@ -11,25 +11,28 @@ use lib.Dec.{eqb, leb, ltb, eqb→eq, leb→le, ltb→lt}
 use lib.ListN.{length, getD, take, drop, set, length-take, length-map, List·getD-append, length-reverse}
 use lib.Seq.{length-take-le, getD-at}
 use borrow.Author.Tests.{eq-eqb}
-use Rattle.record.specs.Record.{pick, Record, recordCount, recordPart, countOf, fieldOf, decoded, symbolKind, variableKind, applicationKind, inputKind, fieldA}
-use Rattle.unification.specs.Row.{variable, Row, application}
+use Rattle.record.specs.Record.{pick, Record, recordCount, recordPart, countOf, fieldOf, fieldsOf, decoded, symbolKind, variableKind, applicationKind, inputKind, fieldA}
+use Rattle.unification.specs.Repeated.{earliestEqual, orSame}
+use Rattle.unification.specs.Row.{variable, Row}
 use Rattle.unification.proofs.Lists.{Each}
-use Rattle.unification.proofs.Tests.{to-T, both-true, true-not-false}
+use Rattle.unification.proofs.Repeats.{earliest-found}
+use Rattle.unification.proofs.Tests.{to-T, both-true, some-not-none, some-injective}
 use Rattle.derivation.specs.Derivation.{literals, input, RowLiteral, literalOf, inputLiterals, Derivation, placed, maximumIndex, ownBindings}
 use Rattle.derivation.specs.Stored.{cellsOfOrigin, originTableOf}
-use Rattle.entry.specs.Program.{nodeCells, withNode, isRepeated, noVariable, moreSymbols, moreRows, moreClauses, SymbolLeft, symbolLeft, symbolEntered, RowLeft, rowLeft, rowEntered, variableEntered, applicationThere, applicationEntered, InputLeft, inputLeft, inputEntered}
+use Rattle.distinct.specs.Rows.{withNode, rowWithCells}
+use Rattle.entry.specs.Program.{repeatCells, takenArguments, takenLiterals, rowFound, noVariable, moreSymbols, moreRows, moreClauses, SymbolLeft, symbolLeft, symbolEntered, RowLeft, rowLeft, rowEntered, variableEntered, applicationThere, applicationEntered, InputLeft, inputLeft, inputEntered}
 use Rattle.tables.specs.Cells.{withClauseCells}
 use Rattle.fields.specs.Fields.{arityIn}
-use Rattle.entry.specs.Progress.{cellsOfRow, nodeTableOf, countsOf, Kept, Next}
-use Rattle.verdict.specs.Refusal.{outOfRange, notThere, repeatedRow, variableLiteral, reasonNumber, kindOfRecord, zeros, inRange, argumentRows, hasArity, allBelow, argumentsThere, differsFromAll, allApplications}
-use Rattle.verdict.specs.State.{arities, State, withSymbol, withRow, withClause, entry, rowsOf, derivations, arityOf, rowOf, bindingsOf, held, nextClause}
-use Rattle.verdict.specs.Step.{stands, Result, require, step}
+use Rattle.entry.specs.Progress.{cellsOfRow, cellsAfter, countsOf, Kept, Next}
+use Rattle.verdict.specs.Refusal.{outOfRange, notThere, variableLiteral, reasonNumber, kindOfRecord, zeros, inRange, argumentRows, hasArity, allBelow, argumentsThere, allApplications}
+use Rattle.verdict.specs.State.{arities, State, withSymbol, withRow, withClause, entry, rowsOf, derivations, arityOf, rowOf, earliestOf, recordOfRow, bindingsOf, held, nextClause}
+use Rattle.verdict.specs.Step.{stands, Result, require, newApplication, newLiterals, step}
 use Rattle.verdict.specs.Tables.{Tables, symbolCells, rowCells, clauseCells, bindingCells, filled, filledTables}
 use Rattle.verdict.proofs.Acceptance.{cells-length}
 use Rattle.verdict.proofs.Advance.{RowFits}
-use Rattle.entry.proofs.Entering.{repeated-row, variable-tests, row-written, clause-written, variable-cells, application-cells, input-cells}
+use Rattle.entry.proofs.Entering.{row-found, variable-tests, row-written, clause-written, variable-cells, application-cells, input-cells}
 use Rattle.entry.proofs.Filling.{filled-set, filled-five, filled-low}
-use Rattle.verdict.proofs.Inversions.{rows-below, not-equal, entry-more, entry-none, not-below}
+use Rattle.verdict.proofs.Inversions.{all-below, rows-below, not-equal, entry-below, entry-more, entry-none, entry-some, not-below}
 use Rattle.entry.proofs.Kept.{stand, Sizes, sizes, few-records, same-rows, few-symbols, few-rows, few-clauses, rows-fit, kept-next}
 use Rattle.verdict.proofs.Resolution.{at-kind}
 use Rattle.verdict.proofs.Standing.{held-symbol, held-row, held-clause}
@@ -43,6 +46,19 @@ record-cells-more {A} k x xs = reverse-cons k (map (λ (y : ℕ × A). y .0) xs)
 
 pub record-cells-length : {A : Type 0} (xs : List (ℕ × A)) → length (reverse (map (λ (y : ℕ × A). y .0) xs)) ≡ length xs
 record-cells-length {A} xs = length-reverse (map (λ (y : ℕ × A). y .0) xs) ∙ length-map xs (λ (y : ℕ × A). y .0)
+
+-- A list that has the newest first, read from its other end.
+reversed-entry : (xs : List ℕ) (q j : ℕ) → entry xs q ≡ some j → getD (reverse xs) q 0 ≡ j
+reversed-entry [] q j e = absurd (some-not-none refl e)
+reversed-entry (x ∷ xs) q j e = try (eqb q (length xs)) refl e (λ z. reversed-entry xs q j z)
+  where
+    try : (b : Bool) → eqb q (length xs) ≡ b → pick b (some x) (entry xs q) ≡ some j → (entry xs q ≡ some j → getD (reverse xs) q 0 ≡ j) → getD (reverse (x ∷ xs)) q 0 ≡ j
+    try true p z ih =
+        let i : q ≡ length xs = eqb→eq q (length xs) (to-T (eqb q (length xs)) p) in
+        ap (λ (l : List ℕ). getD l q 0) (reverse-cons x xs) ∙ getD-at (reverse xs) x [] 0 q (length-reverse xs ∙ sym i) ∙ some-injective z
+    try false p z ih =
+        let m = entry-below xs q j z in
+        ap (λ (l : List ℕ). getD l q 0) (reverse-cons x xs) ∙ List·getD-append (reverse xs) (x ∷ []) 0 q (omega (arith, length-reverse xs, m)) ∙ ih z
 
 -- The symbol of a number, in the table.
 symbol-cell : (xs : List (ℕ × ℕ)) (P : ℕ × ℕ → Type 0) → Each P xs → (s : ℕ) → s < length xs → (x : ℕ × ℕ) × (entry (map (λ (y : ℕ × ℕ). y .1) xs) s ≡ some (x .1)) × (getD (reverse (map (λ (y : ℕ × ℕ). y .0) xs)) s 0 ≡ x .0) × P x
@@ -133,15 +149,22 @@ module _ (F : List ℕ) (t : Tables) (k : ℕ) (S : State) (n : Counts) (here : 
           (withSymbol S k (rec .count), p, kept-next F t k S n here N O A K l (withSymbol S k (rec .count)) p (moreSymbols n) (withSymbols (set (here .symbols) (n .symbols) k)) N O A (symbol-counts (rec .count)) (made (K .tables)) (K .nodes) (K .origins) (K .values))
       try false q = (outOfRange, at ∙ ap (λ (b : Bool). require b outOfRange (stands (withSymbol S k (rec .count)))) q, refl, K .tables, K .nodes, K .origins, K .values)
 
-  -- One row more.
-  row-table : (w : Row) → set (here .rows) (n .rows) k ≡ filled 4096 (rowCells (withRow S k w)) (t .rows)
-  row-table w =
-      ap₂ (λ (x : List ℕ) (i : ℕ). set x i k) rows-here (ap (λ (c : Counts). c .rows) (K .counts))
-      ∙ filled-set 4096 (rowCells S) (t .rows) (length (S .rows)) k rows-size (omega (arith, few-rows F t k S n here N O A K l, below))
-      ∙ ap (λ (x : List ℕ). filled 4096 x (t .rows)) (sym (record-cells-more k w (S .rows)))
+  -- One row more, with record j in the table of rows.
+  row-table : (j : ℕ) (w : Row) → set (here .rows) (n .rows) j ≡ filled 4096 (rowCells (withRow S j w)) (t .rows)
+  row-table j w =
+      ap₂ (λ (x : List ℕ) (i : ℕ). set x i j) rows-here (ap (λ (c : Counts). c .rows) (K .counts))
+      ∙ filled-set 4096 (rowCells S) (t .rows) (length (S .rows)) j rows-size (omega (arith, few-rows F t k S n here N O A K l, below))
+      ∙ ap (λ (x : List ℕ). filled 4096 x (t .rows)) (sym (record-cells-more j w (S .rows)))
 
-  row-counts : (w : Row) → moreRows n ≡ countsOf (withRow S k w)
-  row-counts w = ap moreRows (K .counts) ∙ (λ i. record { symbols = length (S .symbols); rows = add-one (length (S .rows)) i; clauses = length (S .clauses); bindings = sym (held-row S k w) i })
+  row-counts : (j : ℕ) (w : Row) → moreRows n ≡ countsOf (withRow S j w)
+  row-counts j w = ap moreRows (K .counts) ∙ (λ i. record { symbols = length (S .symbols); rows = add-one (length (S .rows)) i; clauses = length (S .clauses); bindings = sym (held-row S j w) i })
+
+  -- The record of a row that is there, off the table.
+  record-read : (q : ℕ) → q < length (S .rows) → (j : ℕ) → entry (map (λ (u : ℕ × Row). u .0) (S .rows)) q ≡ some j → getD (here .rows) q 0 ≡ j
+  record-read q m j e =
+      ap (λ (x : List ℕ). getD x q 0) rows-here
+      ∙ filled-low 4096 (rowCells S) (t .rows) (omega (arith, rows-size, few-rows F t k S n here N O A K l, below)) q (omega (arith, rows-size))
+      ∙ reversed-entry (map (λ (u : ℕ × Row). u .0) (S .rows)) q j e
 
   abbrev withRows : List ℕ → Tables
   withRows x = record { symbols = here .symbols; rows = x; clauses = here .clauses; bindings = here .bindings }
@@ -155,49 +178,54 @@ module _ (F : List ℕ) (t : Tables) (k : ℕ) (S : State) (n : Counts) (here : 
   rows-count : n .rows ≡ length (rowsOf S)
   rows-count = ap (λ (c : Counts). c .rows) (K .counts) ∙ sym (same-rows F t k S n here N O A K l)
 
-  row-entered : (w : Row) (code : ℕ) → nodeCells code part ≡ cellsOfRow w → RowFits w → step S k rec ≡ require (differsFromAll w (rowsOf S)) repeatedRow (stands (withRow S k w)) → RowNext (rowEntered part k code n (here .rows) N)
-  unfolding rowEntered require
-  row-entered w code c f at = try (isRepeated N (n .rows) (nodeCells code part)) refl
+  abbrev fitting : Each RowFits (rowsOf S)
+  fitting = rows-fit F t k S n here N O A K l
+
+  few : length (rowsOf S) ≤ 4096
+  few = omega (arith, many)
+
+  -- A row that is entered, with its cells or as a repeat.
+  row-entered : (w : Row) (code : ℕ) (ns : List ℕ) → code ∷ ns ≡ cellsOfRow w → step S k rec ≡ stands (withRow S (recordOfRow S k w) w) → RowNext (rowEntered ns k code n (here .rows) N)
+  unfolding rowEntered
+  row-entered w code ns c at = subst (λ (o : Option ℕ). RowNext (rowFound o ns k code n (here .rows) N)) (sym found) (try (earliestEqual w (rowsOf S)) refl)
     where
-      test : isRepeated N (n .rows) (nodeCells code part) ≡ not (differsFromAll w (rowsOf S))
-      test = ap (λ (i : ℕ). isRepeated N i (nodeCells code part)) rows-count ∙ repeated-row (rowsOf S) (rows-fit F t k S n here N O A K l) (omega (arith, many)) N (K .nodes) w (nodeCells code part) c
+      found : rowWithCells N (n .rows) (code ∷ ns) ≡ earliestEqual w (rowsOf S)
+      found = ap (λ (i : ℕ). rowWithCells N i (code ∷ ns)) rows-count ∙ row-found (rowsOf S) fitting few N (K .nodes) w (code ∷ ns) c
 
-      differ : (b : Bool) → isRepeated N (n .rows) (nodeCells code part) ≡ b → (d : Bool) → differsFromAll w (rowsOf S) ≡ d → d ≡ not b
-      differ true p true q = absurd (true-not-false p (test ∙ ap not q))
-      differ true p false q = refl
-      differ false p true q = refl
-      differ false p false q = absurd (true-not-false (test ∙ ap not q) p)
+      next : (j : ℕ) → step S k rec ≡ stands (withRow S j w) → (cells : List ℕ) → cells ≡ cellsAfter (rowsOf S) w → RowNext (rowLeft (Stands (moreRows n)) (set (here .rows) (n .rows) j) (withNode N (n .rows) cells))
+      next j s cells e = (
+        withRow S j w,
+        s,
+        kept-next F t k S n here N O A K l (withRow S j w) s (moreRows n) (withRows (set (here .rows) (n .rows) j)) (withNode N (n .rows) cells) O A (row-counts j w)
+            (λ i. record { symbols = symbols-here i; rows = row-table j w i; clauses = clauses-here i; bindings = bindings-here i })
+            (ap (λ (i : ℕ). withNode N i cells) rows-count ∙ row-written (rowsOf S) fitting few N (K .nodes) w cells e many) (K .origins) (K .values),
+      )
 
-      place : withNode N (n .rows) (nodeCells code part) ≡ nodeTableOf (rowsOf (withRow S k w))
-      place = ap (λ (i : ℕ). withNode N i (nodeCells code part)) rows-count ∙ row-written (rowsOf S) (rows-fit F t k S n here N O A K l) (omega (arith, many)) N (K .nodes) w (nodeCells code part) c many
+      counted : length (map (λ (u : ℕ × Row). u .0) (S .rows)) ≡ length (rowsOf S)
+      counted = length-map (S .rows) (λ (u : ℕ × Row). u .0) ∙ sym (same-rows F t k S n here N O A K l)
 
-      made : withRows (set (here .rows) (n .rows) k) ≡ filledTables (withRow S k w) t
-      made = λ i. record { symbols = symbols-here i; rows = row-table w i; clauses = clauses-here i; bindings = bindings-here i }
-
-      try : (b : Bool) → isRepeated N (n .rows) (nodeCells code part) ≡ b → RowNext (pick b (rowLeft (Refused (reasonNumber repeatedRow)) (here .rows) N) (rowLeft (Stands (moreRows n)) (set (here .rows) (n .rows) k) (withNode N (n .rows) (nodeCells code part))))
-      try true p = (repeatedRow, at ∙ ap (λ (b : Bool). require b repeatedRow (stands (withRow S k w))) (differ true p (differsFromAll w (rowsOf S)) refl), refl, K .tables, K .nodes, K .origins, K .values)
-      try false p =
-          let s = at ∙ ap (λ (b : Bool). require b repeatedRow (stands (withRow S k w))) (differ false p (differsFromAll w (rowsOf S)) refl) in
-          (withRow S k w, s, kept-next F t k S n here N O A K l (withRow S k w) s (moreRows n) (withRows (set (here .rows) (n .rows) k)) (withNode N (n .rows) (nodeCells code part)) O A (row-counts w) made place (K .origins) (K .values))
+      try : (o : Option ℕ) → earliestEqual w (rowsOf S) ≡ o → RowNext (rowFound o ns k code n (here .rows) N)
+      try none q =
+          next k (at ∙ ap (λ (o : Option ℕ). stands (withRow S (elim o [ none ↦ k | some q ↦ orSame k (entry (map (λ (u : ℕ × Row). u .0) (S .rows)) q) ]) w)) q) (code ∷ ns)
+          (c ∙ sym (ap (λ (o : Option ℕ). elim o [ none ↦ cellsOfRow w | some q ↦ repeatCells q ]) q))
+      try (some p) q =
+          let F′ = earliest-found w (rowsOf S) p q in
+          let e = entry-some (map (λ (u : ℕ × Row). u .0) (S .rows)) p (omega (arith, F′ .earliest .there, counted)) in
+          let r = record-read p (omega (arith, F′ .earliest .there, same-rows F t k S n here N O A K l)) (e .0) (e .1) in
+          next (getD (here .rows) p 0) (at ∙ ap (λ (o : Option ℕ). stands (withRow S (elim o [ none ↦ k | some q ↦ orSame k (entry (map (λ (u : ℕ × Row). u .0) (S .rows)) q) ]) w)) q ∙ ap (λ (j : ℕ). stands (withRow S j w)) (ap (orSame k) (e .1) ∙ sym r)) (repeatCells p)
+          (sym (ap (λ (o : Option ℕ). elim o [ none ↦ cellsOfRow w | some q ↦ repeatCells q ]) q))
 
   pub variable-read : kindOfRecord rec ≡ variableKind → (e : Entered) (rows′ N′ : List ℕ) → rowLeft e rows′ N′ ≡ variableEntered (recordPart F k) k n (here .rows) N
       → Next F t k S (record { symbols = here .symbols; rows = rows′; clauses = here .clauses; bindings = here .bindings }) N′ O A e
   unfolding variableEntered require
   variable-read kd e rows′ N′ E = subst RowNext (sym E) (try (inRange variableKind rec) refl)
     where
-      at : step S k rec ≡ require (inRange variableKind rec) outOfRange (require (differsFromAll (variable (fieldA rec)) (rowsOf S)) repeatedRow (stands (withRow S k (variable (fieldA rec)))))
+      at : step S k rec ≡ require (inRange variableKind rec) outOfRange (stands (withRow S (recordOfRow S k (variable (fieldA rec))) (variable (fieldA rec))))
       at = at-kind S k rec variableKind kd
 
-      fits : inRange variableKind rec ≡ true → fieldA rec < 64
-      fits q =
-          let c = both-true (eqb (rec .count) 0 && leb (fieldA rec) 63) (zeros (drop 1 (rec .fields))) q in
-          let d = both-true (eqb (rec .count) 0) (leb (fieldA rec) 63) (c .0) in
-          let m : fieldA rec ≤ 63 = leb→le (fieldA rec) 63 (to-T (leb (fieldA rec) 63) (d .1)) in
-          omega arith
-
-      try : (b : Bool) → inRange variableKind rec ≡ b → RowNext (pick b (rowEntered part k 1 n (here .rows) N) (rowLeft (Refused (reasonNumber outOfRange)) (here .rows) N))
-      try true q = row-entered (variable (fieldA rec)) 1 (variable-cells part q) (fits q) (at ∙ ap (λ (b : Bool). require b outOfRange (require (differsFromAll (variable (fieldA rec)) (rowsOf S)) repeatedRow (stands (withRow S k (variable (fieldA rec)))))) q)
-      try false q = (outOfRange, at ∙ ap (λ (b : Bool). require b outOfRange (require (differsFromAll (variable (fieldA rec)) (rowsOf S)) repeatedRow (stands (withRow S k (variable (fieldA rec)))))) q, refl, K .tables, K .nodes, K .origins, K .values)
+      try : (b : Bool) → inRange variableKind rec ≡ b → RowNext (pick b (rowEntered (fieldsOf part) k 1 n (here .rows) N) (rowLeft (Refused (reasonNumber outOfRange)) (here .rows) N))
+      try true q = row-entered (variable (fieldA rec)) 1 (fieldsOf part) (variable-cells part q) (at ∙ ap (λ (b : Bool). require b outOfRange (stands (withRow S (recordOfRow S k (variable (fieldA rec))) (variable (fieldA rec))))) q)
+      try false q = (outOfRange, at ∙ ap (λ (b : Bool). require b outOfRange (stands (withRow S (recordOfRow S k (variable (fieldA rec))) (variable (fieldA rec))))) q, refl, K .tables, K .nodes, K .origins, K .values)
 
   -- The arity of a symbol, off its record.
   arity-read : (s : ℕ) → arityIn F (here .symbols) (n .symbols) s ≡ arityOf S s
@@ -221,29 +249,23 @@ module _ (F : List ℕ) (t : Tables) (k : ℕ) (S : State) (n : Counts) (here : 
   unfolding applicationEntered applicationThere require
   application-read kd e rows′ N′ E = subst RowNext (sym E) (try (inRange applicationKind rec) refl)
     where
-      w : Row
-      w = application (fieldA rec) (argumentRows rec)
-
       last : Result
-      last = require (differsFromAll (application (fieldA rec) (argumentRows rec)) (rowsOf S)) repeatedRow (stands (withRow S k (application (fieldA rec) (argumentRows rec))))
+      last = stands (withRow S (recordOfRow S k (newApplication S rec)) (newApplication S rec))
 
-      at : step S k rec ≡ require (inRange applicationKind rec) outOfRange (require (argumentsThere S rec) notThere (require (differsFromAll (application (fieldA rec) (argumentRows rec)) (rowsOf S)) repeatedRow (stands (withRow S k (application (fieldA rec) (argumentRows rec))))))
+      at : step S k rec ≡ require (inRange applicationKind rec) outOfRange (require (argumentsThere S rec) notThere (stands (withRow S (recordOfRow S k (newApplication S rec)) (newApplication S rec))))
       at = at-kind S k rec applicationKind kd
 
       there : applicationThere F part n (here .symbols) ≡ argumentsThere S rec
       there = ap₂ (λ (o : Option ℕ) (m : ℕ). hasArity (countOf part) o && allBelow m (argumentRows rec)) (arity-read (fieldOf part 0)) rows-count
 
-      fits : inRange applicationKind rec ≡ true → length (argumentRows rec) ≤ 6
-      fits q =
-          let c = both-true (leb (rec .count) 6) (zeros (drop (1 + rec .count) (rec .fields))) q in
-          let m : rec .count ≤ 6 = leb→le (rec .count) 6 (to-T (leb (rec .count) 6) (c .0)) in
-          simp length-take (omega arith)
+      arguments : applicationThere F part n (here .symbols) ≡ true → Each (λ r. r < length (rowsOf S)) (argumentRows rec)
+      arguments p = all-below (length (rowsOf S)) (argumentRows rec) (both-true (hasArity (countOf part) (arityOf S (fieldA rec))) (allBelow (length (rowsOf S)) (argumentRows rec)) (sym there ∙ p) .1)
 
-      second : inRange applicationKind rec ≡ true → (b : Bool) → applicationThere F part n (here .symbols) ≡ b → RowNext (pick b (rowEntered part k (2 + countOf part) n (here .rows) N) (rowLeft (Refused (reasonNumber notThere)) (here .rows) N))
-      second q true p = row-entered w (2 + countOf part) (application-cells part q) (fits q) (at ∙ ap₂ (λ (a b : Bool). require a outOfRange (require b notThere last)) q (sym there ∙ p))
+      second : inRange applicationKind rec ≡ true → (b : Bool) → applicationThere F part n (here .symbols) ≡ b → RowNext (pick b (rowEntered (takenArguments N (fieldsOf part)) k (2 + countOf part) n (here .rows) N) (rowLeft (Refused (reasonNumber notThere)) (here .rows) N))
+      second q true p = row-entered (newApplication S rec) (2 + countOf part) (takenArguments N (fieldsOf part)) (application-cells (rowsOf S) fitting few N (K .nodes) part q (arguments p)) (at ∙ ap₂ (λ (a b : Bool). require a outOfRange (require b notThere last)) q (sym there ∙ p))
       second q false p = (notThere, at ∙ ap₂ (λ (a b : Bool). require a outOfRange (require b notThere last)) q (sym there ∙ p), refl, K .tables, K .nodes, K .origins, K .values)
 
-      try : (b : Bool) → inRange applicationKind rec ≡ b → RowNext (pick b (pick (applicationThere F part n (here .symbols)) (rowEntered part k (2 + countOf part) n (here .rows) N) (rowLeft (Refused (reasonNumber notThere)) (here .rows) N)) (rowLeft (Refused (reasonNumber outOfRange)) (here .rows) N))
+      try : (b : Bool) → inRange applicationKind rec ≡ b → RowNext (pick b (pick (applicationThere F part n (here .symbols)) (rowEntered (takenArguments N (fieldsOf part)) k (2 + countOf part) n (here .rows) N) (rowLeft (Refused (reasonNumber notThere)) (here .rows) N)) (rowLeft (Refused (reasonNumber outOfRange)) (here .rows) N))
       try true q = second q (applicationThere F part n (here .symbols)) refl
       try false q = (outOfRange, at ∙ ap (λ (b : Bool). require b outOfRange (require (argumentsThere S rec) notThere last)) q, refl, K .tables, K .nodes, K .origins, K .values)
 
@@ -274,51 +296,45 @@ module _ (F : List ℕ) (t : Tables) (k : ℕ) (S : State) (n : Counts) (here : 
   unfolding inputEntered require
   input-read kd e clauses′ O′ E = subst InputNext (sym E) (try (inRange inputKind rec) refl)
     where
-      ls : List RowLiteral
-      ls = inputLiterals (decoded (recordPart F k))
-
-      c : Derivation
-      c = input (nextClause S) (inputLiterals (decoded (recordPart F k)))
-
-      at : step S k rec ≡ require (inRange inputKind rec) outOfRange (require (allBelow (length (rowsOf S)) (map (λ (x : RowLiteral). x .1) (inputLiterals rec))) notThere (require (allApplications (rowOf S) (inputLiterals rec)) variableLiteral (stands (withClause S k (input (nextClause S) (inputLiterals rec))))))
+      at : step S k rec ≡ require (inRange inputKind rec) outOfRange (require (allBelow (length (rowsOf S)) (map (λ (x : RowLiteral). x .1) (inputLiterals rec))) notThere (require (allApplications (rowOf S) (inputLiterals rec)) variableLiteral (stands (withClause S k (input (nextClause S) (newLiterals S rec))))))
       at = at-kind S k rec inputKind kd
 
       rows : allBelow (n .rows) (map (λ (x : RowLiteral). x .1) (inputLiterals rec)) ≡ allBelow (length (rowsOf S)) (map (λ (x : RowLiteral). x .1) (inputLiterals rec))
       rows = ap (λ (m : ℕ). allBelow m (map (λ (x : RowLiteral). x .1) (inputLiterals rec))) rows-count
 
-      small : inRange inputKind rec ≡ true → countOf part ≡ length (placed 1 (inputLiterals rec))
+      small : inRange inputKind rec ≡ true → countOf part ≡ length (placed 1 (newLiterals S rec))
       small q =
           let d = both-true (leb (rec .count) 7) (zeros (drop (rec .count) (rec .fields))) q in
           let m : rec .count ≤ 7 = leb→le (rec .count) 7 (to-T (leb (rec .count) 7) (d .0)) in
-          sym (length-map (inputLiterals rec) (λ (x : RowLiteral). (x .0, (x .1, 1))) ∙ length-map (take (rec .count) (rec .fields)) literalOf ∙ length-take-le (rec .count) (rec .fields) m)
+          sym (length-map (newLiterals S rec) (λ (x : RowLiteral). (x .0, (x .1, 1))) ∙ length-map (inputLiterals rec) (λ (x : RowLiteral). (x .0, earliestOf S (x .1))) ∙ length-map (take (rec .count) (rec .fields)) literalOf ∙ length-take-le (rec .count) (rec .fields) m)
 
-      counts : moreClauses n ≡ countsOf (withClause S k (input (nextClause S) (inputLiterals rec)))
-      counts = ap moreClauses (K .counts) ∙ (λ i. record { symbols = length (S .symbols); rows = length (S .rows); clauses = add-one (length (S .clauses)) i; bindings = (sym (add-zero (held S)) ∙ sym (held-clause S k (input (nextClause S) (inputLiterals rec)))) i })
+      counts : moreClauses n ≡ countsOf (withClause S k (input (nextClause S) (newLiterals S rec)))
+      counts = ap moreClauses (K .counts) ∙ (λ i. record { symbols = length (S .symbols); rows = length (S .rows); clauses = add-one (length (S .clauses)) i; bindings = (sym (add-zero (held S)) ∙ sym (held-clause S k (input (nextClause S) (newLiterals S rec)))) i })
 
-      made : inRange inputKind rec ≡ true → withClauses (withClauseCells (here .clauses) (n .clauses) k (countOf part) 1 (n .bindings) 0) ≡ filledTables (withClause S k (input (nextClause S) (inputLiterals rec))) t
-      made q = λ i. record { symbols = symbols-here i; rows = rows-here i; clauses = clause-table (input (nextClause S) (inputLiterals rec)) (countOf part) 1 (n .bindings) 0 (small q) refl (ap (λ (x : Counts). x .bindings) (K .counts)) refl i; bindings = (bindings-here ∙ ap (λ (x : List ℕ). filled 32768 x (t .bindings)) (sym (append-nil (bindingCells (derivations S))))) i }
+      made : inRange inputKind rec ≡ true → withClauses (withClauseCells (here .clauses) (n .clauses) k (countOf part) 1 (n .bindings) 0) ≡ filledTables (withClause S k (input (nextClause S) (newLiterals S rec))) t
+      made q = λ i. record { symbols = symbols-here i; rows = rows-here i; clauses = clause-table (input (nextClause S) (newLiterals S rec)) (countOf part) 1 (n .bindings) 0 (small q) refl (ap (λ (x : Counts). x .bindings) (K .counts)) refl i; bindings = (bindings-here ∙ ap (λ (x : List ℕ). filled 32768 x (t .bindings)) (sym (append-nil (bindingCells (derivations S))))) i }
 
-      origin : inRange inputKind rec ≡ true → withNode O (n .clauses) (nodeCells 1 part) ≡ originTableOf (derivations (withClause S k (input (nextClause S) (inputLiterals rec))))
-      origin q = clause-origin (input (nextClause S) (inputLiterals rec)) (nodeCells 1 part) (input-cells part (nextClause S) q)
+      origin : inRange inputKind rec ≡ true → Each (λ (x : RowLiteral). x .1 < length (rowsOf S)) (inputLiterals rec) → withNode O (n .clauses) (1 ∷ takenLiterals N (fieldsOf part)) ≡ originTableOf (derivations (withClause S k (input (nextClause S) (newLiterals S rec))))
+      origin q h = clause-origin (input (nextClause S) (newLiterals S rec)) (1 ∷ takenLiterals N (fieldsOf part)) (input-cells (rowsOf S) fitting few N (K .nodes) part (nextClause S) q h)
 
       third : inRange inputKind rec ≡ true → allBelow (n .rows) (map (λ (x : RowLiteral). x .1) (inputLiterals rec)) ≡ true → (b : Bool) → noVariable N (inputLiterals rec) ≡ b
-          → InputNext (pick b (inputLeft (Stands (moreClauses n)) (withClauseCells (here .clauses) (n .clauses) k (countOf part) 1 (n .bindings) 0) (withNode O (n .clauses) (nodeCells 1 part))) (inputLeft (Refused (reasonNumber variableLiteral)) (here .clauses) O))
+          → InputNext (pick b (inputLeft (Stands (moreClauses n)) (withClauseCells (here .clauses) (n .clauses) k (countOf part) 1 (n .bindings) 0) (withNode O (n .clauses) (1 ∷ takenLiterals N (fieldsOf part)))) (inputLeft (Refused (reasonNumber variableLiteral)) (here .clauses) O))
       third q p b v = by b v (sym (variable-tests (rowsOf S) (rows-fit F t k S n here N O A K l) (omega (arith, many)) N (K .nodes) (inputLiterals rec) (rows-below (length (rowsOf S)) (inputLiterals rec) (sym rows ∙ p))) ∙ v)
         where
-          path : (b : Bool) → allApplications (rowOf S) (inputLiterals rec) ≡ b → step S k rec ≡ require b variableLiteral (stands (withClause S k (input (nextClause S) (inputLiterals rec))))
-          path b z = at ∙ (λ i. require (q i) outOfRange (require ((sym rows ∙ p) i) notThere (require (z i) variableLiteral (stands (withClause S k (input (nextClause S) (inputLiterals rec)))))))
+          path : (b : Bool) → allApplications (rowOf S) (inputLiterals rec) ≡ b → step S k rec ≡ require b variableLiteral (stands (withClause S k (input (nextClause S) (newLiterals S rec))))
+          path b z = at ∙ (λ i. require (q i) outOfRange (require ((sym rows ∙ p) i) notThere (require (z i) variableLiteral (stands (withClause S k (input (nextClause S) (newLiterals S rec)))))))
 
           by : (b : Bool) → noVariable N (inputLiterals rec) ≡ b → allApplications (rowOf S) (inputLiterals rec) ≡ b
-              → InputNext (pick b (inputLeft (Stands (moreClauses n)) (withClauseCells (here .clauses) (n .clauses) k (countOf part) 1 (n .bindings) 0) (withNode O (n .clauses) (nodeCells 1 part))) (inputLeft (Refused (reasonNumber variableLiteral)) (here .clauses) O))
-          by true v z = (withClause S k (input (nextClause S) (inputLiterals rec)), path true z, kept-next F t k S n here N O A K l (withClause S k (input (nextClause S) (inputLiterals rec))) (path true z) (moreClauses n) (withClauses (withClauseCells (here .clauses) (n .clauses) k (countOf part) 1 (n .bindings) 0)) N (withNode O (n .clauses) (nodeCells 1 part)) A counts (made q) (K .nodes) (origin q) (K .values))
+              → InputNext (pick b (inputLeft (Stands (moreClauses n)) (withClauseCells (here .clauses) (n .clauses) k (countOf part) 1 (n .bindings) 0) (withNode O (n .clauses) (1 ∷ takenLiterals N (fieldsOf part)))) (inputLeft (Refused (reasonNumber variableLiteral)) (here .clauses) O))
+          by true v z = (withClause S k (input (nextClause S) (newLiterals S rec)), path true z, kept-next F t k S n here N O A K l (withClause S k (input (nextClause S) (newLiterals S rec))) (path true z) (moreClauses n) (withClauses (withClauseCells (here .clauses) (n .clauses) k (countOf part) 1 (n .bindings) 0)) N (withNode O (n .clauses) (1 ∷ takenLiterals N (fieldsOf part))) A counts (made q) (K .nodes) (origin q (rows-below (length (rowsOf S)) (inputLiterals rec) (sym rows ∙ p))) (K .values))
           by false v z = (variableLiteral, path false z, refl, K .tables, K .nodes, K .origins, K .values)
 
       second : inRange inputKind rec ≡ true → (b : Bool) → allBelow (n .rows) (map (λ (x : RowLiteral). x .1) (inputLiterals rec)) ≡ b
-          → InputNext (pick b (pick (noVariable N (inputLiterals rec)) (inputLeft (Stands (moreClauses n)) (withClauseCells (here .clauses) (n .clauses) k (countOf part) 1 (n .bindings) 0) (withNode O (n .clauses) (nodeCells 1 part))) (inputLeft (Refused (reasonNumber variableLiteral)) (here .clauses) O)) (inputLeft (Refused (reasonNumber notThere)) (here .clauses) O))
+          → InputNext (pick b (pick (noVariable N (inputLiterals rec)) (inputLeft (Stands (moreClauses n)) (withClauseCells (here .clauses) (n .clauses) k (countOf part) 1 (n .bindings) 0) (withNode O (n .clauses) (1 ∷ takenLiterals N (fieldsOf part)))) (inputLeft (Refused (reasonNumber variableLiteral)) (here .clauses) O)) (inputLeft (Refused (reasonNumber notThere)) (here .clauses) O))
       second q true p = third q p (noVariable N (inputLiterals rec)) refl
-      second q false p = (notThere, at ∙ (λ i. require (q i) outOfRange (require ((sym rows ∙ p) i) notThere (require (allApplications (rowOf S) (inputLiterals rec)) variableLiteral (stands (withClause S k (input (nextClause S) (inputLiterals rec))))))), refl, K .tables, K .nodes, K .origins, K .values)
+      second q false p = (notThere, at ∙ (λ i. require (q i) outOfRange (require ((sym rows ∙ p) i) notThere (require (allApplications (rowOf S) (inputLiterals rec)) variableLiteral (stands (withClause S k (input (nextClause S) (newLiterals S rec))))))), refl, K .tables, K .nodes, K .origins, K .values)
 
       try : (b : Bool) → inRange inputKind rec ≡ b
-          → InputNext (pick b (pick (allBelow (n .rows) (map (λ (x : RowLiteral). x .1) (inputLiterals rec))) (pick (noVariable N (inputLiterals rec)) (inputLeft (Stands (moreClauses n)) (withClauseCells (here .clauses) (n .clauses) k (countOf part) 1 (n .bindings) 0) (withNode O (n .clauses) (nodeCells 1 part))) (inputLeft (Refused (reasonNumber variableLiteral)) (here .clauses) O)) (inputLeft (Refused (reasonNumber notThere)) (here .clauses) O)) (inputLeft (Refused (reasonNumber outOfRange)) (here .clauses) O))
+          → InputNext (pick b (pick (allBelow (n .rows) (map (λ (x : RowLiteral). x .1) (inputLiterals rec))) (pick (noVariable N (inputLiterals rec)) (inputLeft (Stands (moreClauses n)) (withClauseCells (here .clauses) (n .clauses) k (countOf part) 1 (n .bindings) 0) (withNode O (n .clauses) (1 ∷ takenLiterals N (fieldsOf part)))) (inputLeft (Refused (reasonNumber variableLiteral)) (here .clauses) O)) (inputLeft (Refused (reasonNumber notThere)) (here .clauses) O)) (inputLeft (Refused (reasonNumber outOfRange)) (here .clauses) O))
       try true q = second q (allBelow (n .rows) (map (λ (x : RowLiteral). x .1) (inputLiterals rec))) refl
-      try false q = (outOfRange, at ∙ ap (λ (b : Bool). require b outOfRange (require (allBelow (length (rowsOf S)) (map (λ (x : RowLiteral). x .1) (inputLiterals rec))) notThere (require (allApplications (rowOf S) (inputLiterals rec)) variableLiteral (stands (withClause S k (input (nextClause S) (inputLiterals rec))))))) q, refl, K .tables, K .nodes, K .origins, K .values)
+      try false q = (outOfRange, at ∙ ap (λ (b : Bool). require b outOfRange (require (allBelow (length (rowsOf S)) (map (λ (x : RowLiteral). x .1) (inputLiterals rec))) notThere (require (allApplications (rowOf S) (inputLiterals rec)) variableLiteral (stands (withClause S k (input (nextClause S) (newLiterals S rec))))))) q, refl, K .tables, K .nodes, K .origins, K .values)

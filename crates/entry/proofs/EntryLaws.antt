@@ -1,12 +1,12 @@
 -- Records of kind 1 to 4: one law for each way in which a function returns.
-use mathlib.Core.Path.{_≡_, refl, sym, ap, ap₂, _∙_}
+use mathlib.Core.Path.{_≡_, refl, sym, ap, ap₂, _∙_, subst}
 use mathlib.Core.Bool.{Bool, true, false, _&&_, not}
 use mathlib.Core.Option.{Option, none, some}
 use mathlib.Core.List.{List, [], _∷_, map}
 use Prim.Native.Nat.{ℕ, _+_, _≤_}
 use native.Mathlib.Omega.{arith}
 use lib.Dec.{leb}
-use lib.ListN.{drop, set}
+use lib.ListN.{getD, drop, set}
 use borrow.Author.Tests.{eq-eqb, ne-eqb, leb-true, not-true, not-false}
 use Rattle.record.specs.Record.{pick, recordPart, kindOf, countOf, fieldOf, fieldsOf, decoded, symbolKind, variableKind, applicationKind, inputKind}
 use Rattle.record.specs.Reader.{clauseLiterals}
@@ -14,7 +14,13 @@ use Rattle.record.specs.declared.ClauseLiterals.{ClauseLiterals}
 use Rattle.unification.specs.Nodes.{part}
 use Rattle.unification.proofs.Tests.{both-true}
 use Rattle.derivation.specs.Derivation.{inputLiterals}
-use Rattle.entry.specs.Program.{nodeCells, withNode, isRepeated, noVariable, moreSymbols, moreRows, moreClauses, symbolLeft, symbolEntered, RowLeft, rowLeft, rowEntered, variableEntered, applicationThere, applicationEntered, inputLeft, inputEntered}
+use Rattle.distinct.specs.Index.{Indexed, Findable, Listable}
+use Rattle.distinct.specs.Rows.{withNode, rowWithCells, foundRow}
+use Rattle.distinct.specs.declared.FoundRow.{FoundRow}
+use Rattle.distinct.specs.declared.FoundRow.the-variants.{At, Nowhere}
+use Rattle.distinct.proofs.Listing.{index-repeat, not-found-listable}
+use Rattle.distinct.proofs.Lowest.{found-nowhere, found-at}
+use Rattle.entry.specs.Program.{repeatCells, takenArguments, takenLiterals, RowReady, rowFound, noVariable, moreSymbols, moreRows, moreClauses, symbolLeft, symbolEntered, RowLeft, rowLeft, rowEntered, variableEntered, applicationThere, applicationEntered, inputLeft, inputEntered}
 use Rattle.tables.specs.Cells.{withClauseCells}
 use Rattle.fields.specs.Fields.{arityIn, arityAnswer}
 use Rattle.verdict.specs.Refusal.{zeros, inRange, argumentRows, hasArity, allBelow}
@@ -39,23 +45,41 @@ module _ (part : List ℕ) (k : ℕ) (n : Counts) (symbols : List ℕ) {b : Bool
   unfolding symbolEntered
   symbol-in h q = pass _ _ e (not-false b h) (ap (symbolLeft (Stands (moreSymbols n))) q)
 
-module _ (part : List ℕ) (k code : ℕ) (n : Counts) (rows N : List ℕ) {b : Bool} (e : b ≡ isRepeated N (n .rows) (nodeCells code part)) where
-  pub row-repeated : b ≡ true → rowLeft (Refused 6) rows N ≡ rowEntered part k code n rows N
+module _ (ns : List ℕ) (k code : ℕ) (n : Counts) (rows N : List ℕ) {f : FoundRow} (e : f ≡ foundRow (rowWithCells N (n .rows) (code ∷ ns))) where
+  pub row-again : {q v : ℕ} {R M : List ℕ} {m : Counts} → m ≡ moreRows n → f ≡ At q → v ≡ getD rows q 0 → M ≡ withNode N (n .rows) (repeatCells q) → R ≡ set rows (n .rows) v → rowLeft (Stands m) R M ≡ rowEntered ns k code n rows N
   unfolding rowEntered
-  row-repeated h = pass _ _ e h refl
+  row-again {q} {v = i} {R} {M} c h v p r =
+      ap (λ (x : Counts). rowLeft (Stands x) R M) c ∙ ap₂ (rowLeft (Stands (moreRows n))) (r ∙ ap (set rows (n .rows)) v) p
+      ∙ sym (ap (λ (o : Option ℕ). rowFound o ns k code n rows N) (found-at (rowWithCells N (n .rows) (code ∷ ns)) q e h))
 
-  pub row-new : {R M : List ℕ} → b ≡ false → M ≡ withNode N (n .rows) (nodeCells code part) → R ≡ set rows (n .rows) k → rowLeft (Stands (moreRows n)) R M ≡ rowEntered part k code n rows N
+  pub row-new : {R M : List ℕ} {m : Counts} → m ≡ moreRows n → f ≡ Nowhere → M ≡ withNode N (n .rows) (code ∷ ns) → R ≡ set rows (n .rows) k → rowLeft (Stands m) R M ≡ rowEntered ns k code n rows N
   unfolding rowEntered
-  row-new h p q = fail _ _ e h (rw (p, q))
+  row-new {R} {M} c h p r =
+      ap (λ (x : Counts). rowLeft (Stands x) R M) c ∙ ap₂ (rowLeft (Stands (moreRows n))) r p ∙ sym (ap (λ (o : Option ℕ). rowFound o ns k code n rows N) (found-nowhere (rowWithCells N (n .rows) (code ∷ ns)) e h))
+
+-- The index by the counts after the row.
+pub counted-indexed : {M H L : List ℕ} (n : Counts) {m : Counts} → m ≡ moreRows n → Indexed M (n .rows + 1) H L → Indexed M (m .rows) H L
+counted-indexed {M} {H} {L} n c I = subst (λ (x : Counts). Indexed M (x .rows) H L) (sym c) I
+
+-- What searching and listing ask, and the index that is left.
+module _ {N : List ℕ} {n : Counts} {H L : List ℕ} {code : ℕ} {ns : List ℕ} (R : RowReady N n H L code ns) where
+  pub row-findable : Findable N (n .rows) H L code ns
+  row-findable = record { index = R .index; seven = R .seven; coded = R .coded }
+
+  pub again-indexed : (q : ℕ) {M : List ℕ} → M ≡ withNode N (n .rows) (repeatCells q) → Indexed M (n .rows + 1) H L
+  again-indexed q p = subst (λ (M : List ℕ). Indexed M (n .rows + 1) H L) (sym p) (index-repeat (R .index) (repeatCells q) refl (R .room) refl)
+
+  pub new-listable : {f : FoundRow} {M : List ℕ} → f ≡ foundRow (rowWithCells N (n .rows) (code ∷ ns)) → f ≡ Nowhere → M ≡ withNode N (n .rows) (code ∷ ns) → Listable M (n .rows) H L
+  new-listable e h p = subst (λ (M : List ℕ). Listable M (n .rows) H L) (sym p) (not-found-listable row-findable (R .room) e h)
 
 module _ (part : List ℕ) (k : ℕ) (n : Counts) (rows N : List ℕ) {b : Bool} (e : b ≡ inRange variableKind (decoded part)) where
   pub variable-out : not b ≡ true → rowLeft (Refused 4) rows N ≡ variableEntered part k n rows N
   unfolding variableEntered
   variable-out h = fail _ _ e (not-true b h) refl
 
-  pub variable-in : {x : RowLeft} → not b ≡ false → x ≡ rowEntered part k 1 n rows N → x ≡ variableEntered part k n rows N
+  pub variable-in : {x : RowLeft} {ns : List ℕ} → not b ≡ false → ns ≡ fieldsOf part → x ≡ rowEntered ns k 1 n rows N → x ≡ variableEntered part k n rows N
   unfolding variableEntered
-  variable-in h q = pass _ _ e (not-false b h) q
+  variable-in h f q = pass _ _ e (not-false b h) (q ∙ ap (λ (ns : List ℕ). rowEntered ns k 1 n rows N) f)
 
 -- The arity, back from the answer.
 is-some : (o : Option ℕ) (a : ℕ) → arityAnswer o ≡ Is a → o ≡ some a
@@ -99,9 +123,9 @@ module _ (F part : List ℕ) (k : ℕ) (n : Counts) (symbols rows N : List ℕ) 
     unfolding applicationEntered
     application-missing g = pass _ _ e (not-false b h) (fail _ _ p (not-true t g) refl)
 
-    pub application-in : {m : ℕ} {x : RowLeft} → not t ≡ false → m ≡ countOf part → x ≡ rowEntered part k (2 + m) n rows N → x ≡ applicationEntered F part k n symbols rows N
+    pub application-in : {m : ℕ} {x : RowLeft} {fs ns : List ℕ} → not t ≡ false → m ≡ countOf part → fs ≡ fieldsOf part → ns ≡ takenArguments N fs → x ≡ rowEntered ns k (2 + m) n rows N → x ≡ applicationEntered F part k n symbols rows N
     unfolding applicationEntered
-    application-in g c q = pass _ _ e (not-false b h) (pass _ _ p (not-false t g) (q ∙ ap (λ (i : ℕ). rowEntered part k (2 + i) n rows N) c))
+    application-in g c f a q = pass _ _ e (not-false b h) (pass _ _ p (not-false t g) (q ∙ ap₂ (λ (ns : List ℕ) (i : ℕ). rowEntered ns k (2 + i) n rows N) (a ∙ ap (takenArguments N) f) c))
 
 module _ (part : List ℕ) (k : ℕ) (n : Counts) (clauses N O : List ℕ) {b : Bool} (e : b ≡ inRange inputKind (decoded part)) where
   pub input-out : not b ≡ true → inputLeft (Refused 4) clauses O ≡ inputEntered part k n clauses N O
@@ -121,12 +145,12 @@ module _ (part : List ℕ) (k : ℕ) (n : Counts) (clauses N O : List ℕ) {b : 
       unfolding inputEntered
       input-variable w = pass _ _ e (not-false b h) (pass _ _ p (not-false t g) (fail _ _ q (not-true v w) refl))
 
-      pub input-in : {m : ℕ} {C M ns : List ℕ} → not v ≡ false → m ≡ countOf part → ns ≡ fieldsOf part → M ≡ withNode O (n .clauses) (1 ∷ ns) → C ≡ withClauseCells clauses (n .clauses) k m 1 (n .bindings) 0
+      pub input-in : {m : ℕ} {C M fs ns : List ℕ} → not v ≡ false → m ≡ countOf part → fs ≡ fieldsOf part → ns ≡ takenLiterals N fs → M ≡ withNode O (n .clauses) (1 ∷ ns) → C ≡ withClauseCells clauses (n .clauses) k m 1 (n .bindings) 0
           → inputLeft (Stands (moreClauses n)) C M ≡ inputEntered part k n clauses N O
       unfolding inputEntered
-      input-in w c f y z =
+      input-in w c f a y z =
           pass _ _ e (not-false b h) (pass _ _ p (not-false t g) (pass _ _ q (not-false v w)
-          (ap₂ (inputLeft (Stands (moreClauses n))) (z ∙ ap (λ (i : ℕ). withClauseCells clauses (n .clauses) k i 1 (n .bindings) 0) c) (y ∙ ap (λ (l : List ℕ). withNode O (n .clauses) (1 ∷ l)) f))))
+          (ap₂ (inputLeft (Stands (moreClauses n))) (z ∙ ap (λ (i : ℕ). withClauseCells clauses (n .clauses) k i 1 (n .bindings) 0) c) (y ∙ ap (λ (l : List ℕ). withNode O (n .clauses) (1 ∷ l)) (a ∙ ap (takenLiterals N) f)))))
 
 -- What the clause reader gives of a record of kind 4.
 pub literals-read : (F : List ℕ) (k : ℕ) {r : ClauseLiterals} → r ≡ clauseLiterals F k → kindOf (recordPart F k) ≡ 4 → (r .count ≡ countOf (recordPart F k)) × (r .numbers ≡ fieldsOf (recordPart F k))

@@ -1,22 +1,21 @@
--- Rows of the node table, written and compared cell by cell.
-use mathlib.Core.Path.{_≡_, sym, ap, _∙_}
+-- Rows of the node table: written cell by cell, and what they are taken as.
+use mathlib.Core.Path.{_≡_, refl, sym, ap, _∙_}
 use mathlib.Core.Bool.{Bool, true, false}
 use mathlib.Core.List.{List, [], _∷_, _++_, append-assoc, map}
 use Prim.Native.Nat.{ℕ, zero, suc, _+_, _-_, _*_, _/_, _≤_, _<_}
 use native.Mathlib.Numerals.{add-one}
 use native.Mathlib.Omega.{arith}
-use lib.ListN.{length, getD, take, drop, set, drop-of-length-le}
-use borrow.Author.Tests.{eq-eqb, ne-eqb}
+use lib.ListN.{length, getD, take, drop, set}
+use lib.Dec.{eqb}
+use borrow.Author.Tests.{eq-eqb, ne-eqb, eqb-true}
 use Rattle.record.specs.Record.{pick, fieldOf, fieldsOf}
-use Rattle.unification.specs.Nodes.{isVariable}
+use Rattle.unification.specs.Nodes.{isVariable, part}
 use Rattle.derivation.specs.Derivation.{literalOf}
-use Rattle.entry.specs.Program.{nodeAt, withNode, isRepeated, noVariable}
+use Rattle.distinct.specs.Rows.{withNode}
+use Rattle.entry.specs.Program.{earliestNode, takenArguments, RowsReady, noVariable}
 use Rattle.fields.proofs.FieldLaws.{field-next-to}
-use Rattle.verdict.specs.Refusal.{equalLists}
 use Rattle.verdict.proofs.Tabled.{seven-numbers}
-use Rattle.verdict.proofs.Standing.{room}
-use native.Mathlib.Nat.{not-suc-le-zero}
-use lib.Seq.{drop-cons, sets-eq}
+use lib.Seq.{sets-eq}
 
 -- The first i of seven numbers stored after the code of a row whose cells start at `at`.
 abbrev pub fieldsStored : List ℕ → ℕ → List ℕ → ℕ → List ℕ
@@ -43,64 +42,30 @@ node-written N r code ns seven room =
     rw (e1, e2, e3, e4, e5, e6, e7) (sets-eq (code ∷ sevenOf ns) N (8 * r) room ∙ append-assoc (take (8 * r) N) (code ∷ sevenOf ns) (drop (8 * r + 8) N)
     ∙ ap (λ (l : List ℕ). take (8 * r) N ++ ((code ∷ l) ++ drop (8 * r + 8) N)) (seven-numbers ns seven))
 
--- The seven numbers of a row whose cells start at `at`, from number i on.
-abbrev pub numbersFrom : List ℕ → ℕ → ℕ → List ℕ
-numbersFrom N at i = take (7 - i) (drop (at + 1 + i) N)
+-- What a row is taken as, by its code.
+pub taken-repeat : (N : List ℕ) (r : ℕ) {c q : ℕ} → c ≡ getD N (8 * r) 0 → c ≡ 0 → q ≡ part N r 0 → q ≡ earliestNode N r
+taken-repeat N r e z p = p ∙ sym (ap (λ (b : Bool). pick b (part N r 0) r) (eq-eqb (getD N (8 * r) 0) 0 (sym e ∙ z)))
 
--- The eight cells of a row: its code, and seven numbers.
-module _ (N : List ℕ) (at : ℕ) (room : at + 8 ≤ length N) where
-  pub code-first : take 8 (drop at N) ≡ getD N at 0 ∷ numbersFrom N at 0
-  code-first =
-      let e : at + 1 + 0 ≡ suc at = omega arith in
-      rw (e, drop-cons N at 0 (omega arith))
+pub taken-itself : (N : List ℕ) (r : ℕ) {c : ℕ} → c ≡ getD N (8 * r) 0 → ¬ (c ≡ 0) → r ≡ earliestNode N r
+taken-itself N r e n = sym (ap (λ (b : Bool). pick b (part N r 0) r) (ne-eqb (getD N (8 * r) 0) 0 (λ z. n (e ∙ z))))
 
-  pub number-next : (i : ℕ) → i < 7 → numbersFrom N at i ≡ getD N (at + 1 + i) 0 ∷ numbersFrom N at (i + 1)
-  number-next i h =
-      let e : 7 - i ≡ suc (7 - (i + 1)) = omega arith in
-      let d : at + 1 + (i + 1) ≡ suc (at + 1 + i) = omega arith in
-      rw (e, d, drop-cons N (at + 1 + i) 0 (omega arith))
+-- The seven numbers of an application, and of an input clause, taken one by one.
+pub six-taken : (N ns : List ℕ) {a b c d e f : ℕ} → a ≡ earliestNode N (getD ns 1 0) → b ≡ earliestNode N (getD ns 2 0) → c ≡ earliestNode N (getD ns 3 0) → d ≡ earliestNode N (getD ns 4 0) → e ≡ earliestNode N (getD ns 5 0) → f ≡ earliestNode N (getD ns 6 0)
+    → getD ns 0 0 ∷ a ∷ b ∷ c ∷ d ∷ e ∷ f ∷ [] ≡ takenArguments N ns
+six-taken N ns pa pb pc pd pe pf = λ i. getD ns 0 0 ∷ pa i ∷ pb i ∷ pc i ∷ pd i ∷ pe i ∷ pf i ∷ []
 
-  module _ (code : ℕ) (numbers : List ℕ) (seven : length numbers ≡ 7) where
-    numbers-next : (i : ℕ) → i < 7 → drop i numbers ≡ getD numbers i 0 ∷ drop (i + 1) numbers
-    numbers-next i h = rw (add-one i, drop-cons numbers i 0 (omega arith))
-
-    pub code-differs : (getD N at 0 ≡ code → ⊥) → equalLists (take 8 (drop at N)) (code ∷ numbers) ≡ false
-    code-differs z = rw (code-first, ne-eqb (getD N at 0) code z)
-
-    pub code-same : getD N at 0 ≡ code → equalLists (take 8 (drop at N)) (code ∷ numbers) ≡ equalLists (numbersFrom N at 0) (drop 0 numbers)
-    code-same z = rw (code-first, eq-eqb (getD N at 0) code z)
-
-    pub number-differs : (i : ℕ) → i < 7 → (getD N (at + 1 + i) 0 ≡ getD numbers i 0 → ⊥) → equalLists (numbersFrom N at i) (drop i numbers) ≡ false
-    number-differs i h z = rw (number-next i h, numbers-next i h, ne-eqb (getD N (at + 1 + i) 0) (getD numbers i 0) z)
-
-    pub number-same : (i : ℕ) → i < 7 → getD N (at + 1 + i) 0 ≡ getD numbers i 0 → equalLists (numbersFrom N at i) (drop i numbers) ≡ equalLists (numbersFrom N at (i + 1)) (drop (i + 1) numbers)
-    number-same i h z = rw (number-next i h, numbers-next i h, eq-eqb (getD N (at + 1 + i) 0) (getD numbers i 0) z)
-
-    pub numbers-end : (i : ℕ) → i ≤ 7 → 7 ≤ i → equalLists (numbersFrom N at i) (drop i numbers) ≡ true
-    numbers-end i h l =
-        let e : 7 - i ≡ 0 = omega arith in
-        let d : length numbers ≤ i = omega arith in
-        rw (e, drop-of-length-le numbers d)
-
--- From the newest row down.
-pub repeated-next : (N : List ℕ) (r : ℕ) (cells : List ℕ) → 0 < r → isRepeated N r cells ≡ pick (equalLists (nodeAt N (r - 1)) cells) true (isRepeated N (r - 1) cells)
-repeated-next N zero cells h = absurd (not-suc-le-zero h)
-repeated-next N (suc r) cells h = let e : suc r - 1 ≡ r = omega arith in rw e
-
-module _ (N : List ℕ) (r : ℕ) (cells : List ℕ) {b : Bool} (h : 0 < r) (t : b ≡ equalLists (nodeAt N (r - 1)) cells) where
-  pub repeated-found : b ≡ true → isRepeated N r cells ≡ true
-  repeated-found z = rw (repeated-next N r cells h, ← t, z)
-
-  pub repeated-on : b ≡ false → isRepeated N r cells ≡ isRepeated N (r - 1) cells
-  repeated-on z = rw (repeated-next N r cells h, ← t, z)
-
-pub repeated-end : (N : List ℕ) (r : ℕ) (cells : List ℕ) → r ≤ 0 → isRepeated N r cells ≡ false
-repeated-end N r cells h = let e : r ≡ 0 = omega arith in rw e
+-- Where repeats name rows of the table, a literal's number stays one of 16 bits.
+pub taken-small : (N : List ℕ) → RowsReady N → (n : ℕ) → n ≤ 65535 → {q : ℕ} → q ≡ earliestNode N (n / 2) → q ≤ 32767
+taken-small N R n l {q} e = try (eqb (getD N (8 * (n / 2)) 0) 0) refl
+  where
+    try : (b : Bool) → eqb (getD N (8 * (n / 2)) 0) 0 ≡ b → q ≤ 32767
+    try true z = let h = R .repeats (n / 2) (eqb-true (getD N (8 * (n / 2)) 0) 0 z) in let p = e ∙ ap (λ (b : Bool). pick b (part N (n / 2) 0) (n / 2)) z in omega arith
+    try false z = let p = e ∙ ap (λ (b : Bool). pick b (part N (n / 2) 0) (n / 2)) z in omega arith
 
 -- Literals on variable rows, off the node table.
-module _ (N : List ℕ) (p : List ℕ) (i to : ℕ) {n : ℕ} {b : Bool} (l : i < to) (h : to ≤ 7) (e : n ≡ fieldOf p i) (t : b ≡ isVariable N (n / 2)) where
+module _ (N : List ℕ) (p : List ℕ) (i to : ℕ) {n r : ℕ} {b : Bool} (l : i < to) (h : to ≤ 7) (e : n ≡ fieldOf p i) (a : r ≡ earliestNode N (n / 2)) (t : b ≡ isVariable N r) where
   pub variable-stop : b ≡ true → noVariable N (map literalOf (take (to - i) (drop i (fieldsOf p)))) ≡ false
-  variable-stop z = rw (field-next-to p i to l h, ← e, ← t, z)
+  variable-stop z = rw (field-next-to p i to l h, ← e, ← a, ← t, z)
 
   pub variable-on : b ≡ false → noVariable N (map literalOf (take (to - i) (drop i (fieldsOf p)))) ≡ noVariable N (map literalOf (take (to - (i + 1)) (drop (i + 1) (fieldsOf p))))
-  variable-on z = rw (field-next-to p i to l h, ← e, ← t, z)
+  variable-on z = rw (field-next-to p i to l h, ← e, ← a, ← t, z)

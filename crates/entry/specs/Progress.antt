@@ -1,10 +1,12 @@
 -- The program's own tables for a state: the contracts of its inner functions. No demand needs this file.
 use mathlib.Core.Path.{_≡_}
 use mathlib.Core.Bool.{true}
+use mathlib.Core.Option.{none, some}
 use mathlib.Core.List.{List, [], _∷_, _++_}
 use Prim.Native.Nat.{ℕ, suc, _+_, _-_, _*_, _≤_, _<_}
 use lib.ListN.{length, take, replicate}
 use Rattle.record.specs.Record.{records, recordCount, recordPart, decoded}
+use Rattle.unification.specs.Repeated.{earliestEqual}
 use Rattle.unification.specs.Row.{variable, Row, application}
 use Rattle.derivation.specs.Stored.{originTableOf}
 use Rattle.verdict.specs.Refusal.{Reason, reasonNumber}
@@ -12,18 +14,22 @@ use Rattle.verdict.specs.State.{State, emptyState, rowsOf, derivations, held}
 use Rattle.verdict.specs.Step.{stands, refused, step, read, allStand}
 use Rattle.verdict.specs.Tables.{Tables, lengthsOf, filledTables}
 use Rattle.verdict.specs.Verdict.{longEnough, fittingLength}
+use Rattle.entry.specs.Program.{repeatCells}
 use Rattle.entry.specs.declared.entry.Counts.{Counts}
 use Rattle.entry.specs.declared.entry.Entered.{Entered}
 use Rattle.entry.specs.declared.entry.Entered.the-variants.{Stands, Refused}
 
--- The eight cells of a row, the cells of all rows, row 0 first, and the node table with zeros after them.
+-- The eight cells of a row, by itself and after the rows ws; the cells of all rows, row 0 first; and the node table with zeros after them.
 abbrev pub cellsOfRow : Row → List ℕ
 cellsOfRow (variable v) = 1 ∷ v ∷ 0 ∷ 0 ∷ 0 ∷ 0 ∷ 0 ∷ 0 ∷ []
 cellsOfRow (application s xs) = (2 + length xs) ∷ s ∷ (xs ++ replicate (6 - length xs) 0)
 
+abbrev pub cellsAfter : List Row → Row → List ℕ
+cellsAfter ws w = elim (earliestEqual w ws) [ none ↦ cellsOfRow w | some q ↦ repeatCells q ]
+
 abbrev pub nodeList : List Row → List ℕ
 nodeList [] = []
-nodeList (w ∷ ws) = nodeList ws ++ cellsOfRow w
+nodeList (w ∷ ws) = nodeList ws ++ cellsAfter ws w
 
 abbrev pub nodeTableOf : List Row → List ℕ
 nodeTableOf ws = nodeList ws ++ replicate (32768 - 8 * length ws) 0

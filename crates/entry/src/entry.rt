@@ -1,7 +1,13 @@
 // Records of kind 1 to 4: each is tested in the order of the numbers that it can be refused with, and then entered in the tables.
-use super::rows::is_repeated;
 use super::rows::no_variable;
 use super::rows::put_cells;
+use super::rows::taken_arguments;
+use super::rows::taken_literals;
+use distinct::FoundRow;
+use distinct::Heads;
+use distinct::Links;
+use distinct::find_row;
+use distinct::list_row;
 use fields::Arity;
 use fields::application_in_range;
 use fields::arguments_below;
@@ -17,13 +23,15 @@ use record::count;
 use record::field;
 use record::fields;
 use record::record_part;
+use tables::cell;
 use tables::put_clause;
 use tables::set_cell;
 ghost use mathlib.Core.Path.{_≡_};
 ghost use Prim.Native.Nat.{_≤_, _<_};
 ghost use lib.ListN.{length};
 ghost use Rattle.record.specs.Record.{recordPart, kindOf, countOf};
-ghost use Rattle.entry.specs.Program.{symbolLeft, symbolEntered, rowLeft, rowEntered, variableEntered, applicationThere, applicationEntered, inputLeft, inputEntered};
+ghost use Rattle.distinct.specs.Index.{Indexed};
+ghost use Rattle.entry.specs.Program.{RowsReady, RowsIndexed, RowReady, rowsAfter, moreRows, symbolLeft, symbolEntered, rowLeft, rowEntered, variableEntered, applicationThere, applicationEntered, inputLeft, inputEntered};
 
 // How many symbols, rows, clauses and bindings the records read so far have declared.
 pub struct Counts {
@@ -57,33 +65,47 @@ pub fn symbol_record(part: &[u8], k: u16, counts: Counts, symbols: &mut [u16]) -
     })
 }
 
-// A row that is not among the earlier ones goes to the node table, and its record's number to the table of rows.
+// One row more.
+fn more_rows(counts: Counts) -> Counts
+    requires { ⌜ counts .rows < 4096 ⌝ }
+    ensures { λ n. ⌜ n ≡ moreRows counts ⌝ }
+{
+    Counts {
+        symbols: counts.symbols,
+        rows: counts.rows + 1,
+        clauses: counts.clauses,
+        bindings: counts.bindings,
+    }
+}
+
+// A row goes to the node table with its record's number in the table of rows; a repeat names the earliest equal row there, and has the number of its
+// record.
 fn enter_row(
-    part: &[u8],
+    numbers: &[u16; 7],
     k: u16,
     code: u16,
     counts: Counts,
     rows: &mut [u16],
     nodes: &mut Nodes,
+    heads: &mut Heads,
+    links: &mut Links,
 ) -> Entered
-    requires { ⌜ counts .rows < 4096 ⌝ }
-    requires { ⌜ length (now nodes) ≡ 32768 ⌝ }
-    ensures { λ e. ⌜ rowLeft e (now (rows .exit)) (now (nodes .exit)) ≡ rowEntered (now (part .entry)) k code counts (now (rows .entry)) (now (nodes .entry)) ⌝ }
-    ensures { λ _. ⌜ length (now (nodes .exit)) ≡ 32768 ⌝ }
+    requires { ⌜ RowReady (now nodes) counts (now heads) (now links) code (now numbers) ⌝ }
+    ensures { λ e. ⌜ rowLeft e (now (rows .exit)) (now (nodes .exit)) ≡ rowEntered (now (numbers .entry)) k code counts (now (rows .entry)) (now (nodes .entry)) ⌝ }
+    ensures { λ e. ⌜ Indexed (now (nodes .exit)) (rowsAfter counts e) (now (heads .exit)) (now (links .exit)) ⌝ }
 {
     let n = counts.rows;
-    let numbers = fields(part);
-    if is_repeated(nodes, n, code, &numbers) {
-        return Entered::Refused(6);
-    }
-    put_cells(nodes, n, code, &numbers);
-    set_cell(rows, n as usize, k);
-    Entered::Stands(Counts {
-        symbols: counts.symbols,
-        rows: n + 1,
-        clauses: counts.clauses,
-        bindings: counts.bindings,
-    })
+    let found = find_row(nodes, heads, links, n, code, numbers);
+    let FoundRow::At(q) = found else {
+        put_cells(nodes, n, code, numbers);
+        list_row(nodes, heads, links, n);
+        set_cell(rows, n as usize, k);
+        return Entered::Stands(more_rows(counts));
+    };
+    let record = cell(rows, q as usize);
+    put_cells(nodes, n, 0, &[q, 0, 0, 0, 0, 0, 0]);
+    set_cell(rows, n as usize, record);
+    Entered::Stands(more_rows(counts))
 }
 
 // Kind 2. A variable's code in the node table is 1.
@@ -93,16 +115,18 @@ pub fn variable_record(
     counts: Counts,
     rows: &mut [u16],
     nodes: &mut Nodes,
+    heads: &mut Heads,
+    links: &mut Links,
 ) -> Entered
-    requires { ⌜ counts .rows < 4096 ⌝ }
-    requires { ⌜ length (now nodes) ≡ 32768 ⌝ }
+    requires { ⌜ RowsIndexed (now nodes) counts (now heads) (now links) ⌝ }
     ensures { λ e. ⌜ rowLeft e (now (rows .exit)) (now (nodes .exit)) ≡ variableEntered (now (part .entry)) k counts (now (rows .entry)) (now (nodes .entry)) ⌝ }
-    ensures { λ _. ⌜ length (now (nodes .exit)) ≡ 32768 ⌝ }
+    ensures { λ e. ⌜ Indexed (now (nodes .exit)) (rowsAfter counts e) (now (heads .exit)) (now (links .exit)) ⌝ }
 {
     if !variable_in_range(part) {
         return Entered::Refused(4);
     }
-    enter_row(part, k, 1, counts, rows, nodes)
+    let numbers = fields(part);
+    enter_row(&numbers, k, 1, counts, rows, nodes, heads, links)
 }
 
 // Reason 5 for an application: its symbol exists and has as many arguments, and its argument rows exist.
@@ -122,7 +146,7 @@ fn application_there(file: &[u8], part: &[u8], counts: Counts, symbols: &[u16]) 
     }
 }
 
-// Kind 3. An application's code in the node table is 2 more than the number of its arguments.
+// Kind 3. An application's code in the node table is 2 more than the number of its arguments, each of which is taken as the earliest equal row.
 pub fn application_record(
     file: &[u8],
     part: &[u8],
@@ -131,11 +155,12 @@ pub fn application_record(
     symbols: &[u16],
     rows: &mut [u16],
     nodes: &mut Nodes,
+    heads: &mut Heads,
+    links: &mut Links,
 ) -> Entered
-    requires { ⌜ counts .rows < 4096 ⌝ }
-    requires { ⌜ length (now nodes) ≡ 32768 ⌝ }
+    requires { ⌜ RowsIndexed (now nodes) counts (now heads) (now links) ⌝ }
     ensures { λ e. ⌜ rowLeft e (now (rows .exit)) (now (nodes .exit)) ≡ applicationEntered (now (file .entry)) (now (part .entry)) k counts (now (symbols .entry)) (now (rows .entry)) (now (nodes .entry)) ⌝ }
-    ensures { λ _. ⌜ length (now (nodes .exit)) ≡ 32768 ⌝ }
+    ensures { λ e. ⌜ Indexed (now (nodes .exit)) (rowsAfter counts e) (now (heads .exit)) (now (links .exit)) ⌝ }
 {
     if !application_in_range(part) {
         return Entered::Refused(4);
@@ -144,10 +169,13 @@ pub fn application_record(
         return Entered::Refused(5);
     }
     let code = 2 + (count(part) as u16);
-    enter_row(part, k, code, counts, rows, nodes)
+    let written = fields(part);
+    let numbers = taken_arguments(nodes, &written);
+    enter_row(&numbers, k, code, counts, rows, nodes, heads, links)
 }
 
-// Kind 4. An input clause has maximum index 1 and no bindings. The clause reader's seven numbers go to the table of origins.
+// Kind 4. An input clause has maximum index 1 and no bindings. The clause reader's seven numbers go to the table of origins, each row taken as the
+// earliest equal one.
 pub fn input_record(
     file: &[u8],
     k: u16,
@@ -158,7 +186,7 @@ pub fn input_record(
 ) -> Entered
     requires { ⌜ kindOf (recordPart (now file) k) ≡ 4 ⌝ }
     requires { ⌜ counts .clauses < 4096 ⌝ }
-    requires { ⌜ (length (now nodes) ≡ 32768) × (length (now origins) ≡ 32768) ⌝ }
+    requires { ⌜ RowsReady (now nodes) × (length (now origins) ≡ 32768) ⌝ }
     ensures { λ e. ⌜ inputLeft e (now (clauses .exit)) (now (origins .exit)) ≡ inputEntered (recordPart (now (file .entry)) k) k counts (now (clauses .entry)) (now (nodes .entry)) (now (origins .entry)) ⌝ }
     ensures { λ _. ⌜ length (now (origins .exit)) ≡ 32768 ⌝ }
 {
@@ -174,7 +202,8 @@ pub fn input_record(
     }
     let n = counts.clauses;
     let read = clause_literals(file, k as usize);
-    let numbers = read.numbers;
+    let written = read.numbers;
+    let numbers = taken_literals(nodes, &written);
     put_cells(origins, n, 1, &numbers);
     put_clause(clauses, n, k, read.count as u16, 1, counts.bindings, 0);
     Entered::Stands(Counts {

@@ -11,6 +11,7 @@ use Rattle.record.specs.Record.{recordCount}
 use Rattle.following.specs.Clearing.{Cleared}
 use Rattle.unification.specs.Environment.{follow, Binding, Environment, Ends}
 use Rattle.unification.specs.Nodes.{isVariable, HasRow, nodeRow, NodesOk}
+use Rattle.unification.specs.Repeated.{IsEarliest}
 use Rattle.unification.specs.Row.{variable, Row, application, Expression, noSymbol}
 use Rattle.unification.specs.Unification.{mostLinks}
 use Rattle.unification.specs.ValueArray.{InStep, Models}
@@ -20,7 +21,7 @@ use Rattle.unification.proofs.Stability.{follow-agree}
 use Rattle.derivation.specs.Derivation.{literals, input, Literal, Derivation, resolve, factor, numbered, maximumIndex, joined, lookup, clauseNumber}
 use Rattle.loading.specs.Loaded.{BindingIn, AllIn, AllFree, BindingsIn, Loadable, Loaded}
 use Rattle.derivation.specs.Stored.{originTableOf, literalsCell, indexCell, Stored}
-use Rattle.derivation.proofs.Known.{Known, KnownEnvironment, known-numbered}
+use Rattle.derivation.proofs.Known.{Known, KnownRows, KnownEnvironment, known-numbered, known-lookup}
 use Rattle.derivation.proofs.Literals.{each-numbered, LiteralIn, literals-in}
 use Rattle.loading.proofs.LoadedModels.{cleared-free, factor-models}
 use Rattle.clauses.proofs.Origins.{stored-cells}
@@ -31,11 +32,12 @@ use Rattle.verdict.specs.State.{arities, State, rowsOf, derivations, arityOf, c
 use Rattle.verdict.specs.Tables.{Tables, clauseCells, bindingCells, filled}
 use Rattle.verdict.proofs.Advance.{Standing, RowFits}
 use Rattle.entry.proofs.Entering.{node-table-length, origin-table-length}
-use Rattle.verdict.proofs.Inversions.{entry-none}
+use Rattle.verdict.proofs.Inversions.{entry-none, entry-each}
+use Rattle.verdict.proofs.Shared.{shared-arguments}
 use Rattle.entry.proofs.Kept.{standing-of, fitting-records}
 use Rattle.entry.proofs.NodeTable.{node-row, has-row, row-there-of, application-row, nodes-ok}
 use Rattle.verdict.proofs.Reading.{state-more}
-use Rattle.verdict.proofs.Standing.{below, ChainsEnd, InOrder, StateOk, order-of, known-of, held-links}
+use Rattle.verdict.proofs.Standing.{ChainsEnd, InOrder, StateOk, order-of, held-links}
 use Rattle.verdict.proofs.Sources.{number-of}
 use Rattle.verdict.proofs.Tabled.{stored-clause}
 use Rattle.entry.specs.declared.entry.Counts.{Counts}
@@ -69,7 +71,7 @@ module _ {F : List ℕ} {t : Tables} {k : ℕ} {S : State} {n : Counts} {here : 
   pub nodes-fine : NodesOk N
   nodes-fine =
       let symbols-few = ok-of .few in
-      nodes-ok (rowsOf S) fit N (K .nodes) (arityOf S) (entry-none (arities S) noSymbol (omega arith)) (ok-of .rowsOk) (stand-of .tally .distinct) rows-few
+      nodes-ok (rowsOf S) fit N (K .nodes) (arityOf S) (entry-none (arities S) noSymbol (omega arith)) (ok-of .rowsOk) (stand-of .shared .rowsShared) rows-few
 
   -- Every clause is stored in the tables.
   pub stored-of : (c : ℕ) (d : Derivation) → clauseOf S c ≡ some d → Stored O (here .clauses) (here .bindings) c d
@@ -93,17 +95,27 @@ module _ {F : List ℕ} {t : Tables} {k : ℕ} {S : State} {n : Counts} {here : 
   unfolding mostIndex
   index-fits c d q = order-in c d q .indexFits
 
-  -- The node table's rows are the state's.
-  pub agree : (r : ℕ) → r < length (rowsOf S) → nodeRow N r ≡ rowOf S r
+  -- Rows that are seen are earliest rows: arguments, the rows of clauses, and what is looked up.
+  pub earliest-below : (r s : ℕ) (xs : List ℕ) → rowOf S r ≡ application s xs → IsEarliest (rowsOf S) r → Each (IsEarliest (rowsOf S)) xs
+  earliest-below r s xs q E = shared-arguments (rowsOf S) (stand-of .shared .rowsShared) r s xs q (E .there)
+
+  pub earliest-rows : (c : ℕ) (d : Derivation) → clauseOf S c ≡ some d → KnownRows (IsEarliest (rowsOf S)) d
+  earliest-rows c d q = entry-each (KnownRows (IsEarliest (rowsOf S))) (derivations S) (stand-of .shared .clausesShared) c d q
+
+  pub earliest-lookup : (c : ℕ) (d : Derivation) → clauseOf S c ≡ some d → KnownEnvironment (IsEarliest (rowsOf S)) (lookup d)
+  earliest-lookup c d q = known-lookup (IsEarliest (rowsOf S)) (rowOf S) (rowOf S) (λ r l. refl) earliest-below d (order-in c d q .valid) (earliest-rows c d q)
+
+  -- The node table's earliest rows are the state's.
+  pub agree : (r : ℕ) → IsEarliest (rowsOf S) r → nodeRow N r ≡ rowOf S r
   agree r l = node-row (rowsOf S) fit N (K .nodes) r l
 
-  pub there : (r : ℕ) → r < length (rowsOf S) → HasRow N r
+  pub there : (r : ℕ) → IsEarliest (rowsOf S) r → HasRow N r
   there r l = has-row (rowsOf S) fit N (K .nodes) r l
 
-  pub inside-of : (r : ℕ) → HasRow N r → r < length (rowsOf S)
+  pub inside-of : (r : ℕ) → HasRow N r → IsEarliest (rowsOf S) r
   inside-of r h = row-there-of (rowsOf S) fit N (K .nodes) r h
 
-  in-binding : (m : ℕ) (b : Binding) → BindingThere (rowOf S) (length (rowsOf S)) m b → BindingIn N m b
+  in-binding : (m : ℕ) (b : Binding) → BindingThere (rowOf S) (IsEarliest (rowsOf S)) m b → BindingIn N m b
   unfolding isVariable
   in-binding m b h = record {
     bound = record { row = there (b .0 .0) (h .variableRow); low = h .variableIndex .0; high = h .variableIndex .1 };
@@ -111,7 +123,7 @@ module _ {F : List ℕ} {t : Tables} {k : ℕ} {S : State} {n : Counts} {here : 
     value = record { row = there (b .1 .0) (h .termRow); low = h .termIndex .0; high = h .termIndex .1 };
   }
     where
-      variable-node : (r : ℕ) → r < length (rowsOf S) → (v : ℕ) → rowOf S r ≡ variable v → isVariable N r ≡ true
+      variable-node : (r : ℕ) → IsEarliest (rowsOf S) r → (v : ℕ) → rowOf S r ≡ variable v → isVariable N r ≡ true
       variable-node r l v q = try (isVariable N r) refl
         where
           no : {s : ℕ} {xs : List ℕ} → variable v ≡ application s xs → ⊥
@@ -121,7 +133,7 @@ module _ {F : List ℕ} {t : Tables} {k : ℕ} {S : State} {n : Counts} {here : 
           try true p = refl
           try false p = absurd (no (sym q ∙ application-row (rowsOf S) fit N (K .nodes) r l p))
 
-  all-in : (m : ℕ) (bs : List Binding) → Each (BindingThere (rowOf S) (length (rowsOf S)) m) bs → AllIn N m bs
+  all-in : (m : ℕ) (bs : List Binding) → Each (BindingThere (rowOf S) (IsEarliest (rowsOf S)) m) bs → AllIn N m bs
   all-in m [] h = tt
   all-in m (b ∷ bs) h = (in-binding m b (h .0), all-in m bs (h .1))
 
@@ -129,7 +141,7 @@ module _ {F : List ℕ} {t : Tables} {k : ℕ} {S : State} {n : Counts} {here : 
   all-free ρ [] h = tt
   all-free ρ (b ∷ bs) h = (h .0, all-free ρ bs (h .1))
 
-  clause-in : (d : Derivation) → BindingsThere (rowOf S) (length (rowsOf S)) d → BindingsIn N d
+  clause-in : (d : Derivation) → BindingsThere (rowOf S) (IsEarliest (rowsOf S)) d → BindingsIn N d
   clause-in (input number ls) h = tt
   clause-in (resolve number l a r b bs) h = (clause-in l (h .0), clause-in r (h .1), all-in (maximumIndex l + maximumIndex r) bs (h .2 .0), all-free (joined (maximumIndex l) (lookup l) (lookup r)) bs (h .2 .1))
   clause-in (factor number d a b bs) h = (clause-in d (h .0), all-in (maximumIndex d) bs (h .1 .0), all-free (lookup d) bs (h .1 .1))
@@ -137,19 +149,19 @@ module _ {F : List ℕ} {t : Tables} {k : ℕ} {S : State} {n : Counts} {here : 
   pub bindings-in : (c : ℕ) (d : Derivation) → clauseOf S c ≡ some d → BindingsIn N d
   bindings-in c d q =
       let o = order-in c d q in
-      clause-in d (bindings-there (length (rowsOf S)) (rowOf S) (below 4096 S ok-of) d (o .valid) (o .known))
+      clause-in d (bindings-there (IsEarliest (rowsOf S)) (rowOf S) earliest-below d (o .valid) (earliest-rows c d q))
 
   -- The literals of a clause are over rows that are there, at indices up to its maximum index.
   pub literal-in-step : (c : ℕ) (d : Derivation) → clauseOf S c ≡ some d → (i : ℕ) (l : Literal) → numbered (literals d) i ≡ some l → InStep N (maximumIndex d) (l .1)
   literal-in-step c d q i l p =
       let within = each-numbered (LiteralIn (maximumIndex d)) (literals d) i l p (literals-in d) in
-      record { row = there (l .1 .0) (known-numbered (length (rowsOf S)) d (order-in c d q .known) i l p); low = within .0; high = within .1 }
+      record { row = there (l .1 .0) (known-numbered (IsEarliest (rowsOf S)) d (earliest-rows c d q) i l p); low = within .0; high = within .1 }
 
   -- Following over the node table.
-  pub node-ends : (h : ℕ) (ρ : Environment) → KnownEnvironment (length (rowsOf S)) ρ → ChainsEnd (rowsOf S) h ρ → (e : Expression) → HasRow N (e .0) → Ends (follow (nodeRow N) h ρ e)
+  pub node-ends : (h : ℕ) (ρ : Environment) → KnownEnvironment (IsEarliest (rowsOf S)) ρ → ChainsEnd (rowsOf S) h ρ → (e : Expression) → HasRow N (e .0) → Ends (follow (nodeRow N) h ρ e)
   node-ends h ρ κ c e r =
       let l = inside-of (e .0) r in
-      subst Ends (follow-agree (Known (length (rowsOf S))) (Known (length (rowsOf S))) (rowOf S) (nodeRow N) (λ d z. sym (agree (d .0) z)) h ρ κ e l) (c e l)
+      subst Ends (follow-agree (Known (IsEarliest (rowsOf S))) (Known (IsEarliest (rowsOf S))) (rowOf S) (nodeRow N) (λ d z. sym (agree (d .0) z)) h ρ κ e l) (c e (l .there))
 
   -- What a caller of `load` needs, and what it then has.
   pub load-ready : (c o : ℕ) (d : Derivation) → clauseOf S c ≡ some d → o + maximumIndex d ≤ 4096 → (Q : List ℕ) → length Q ≡ 524416 → Loadable O (here .clauses) (here .bindings) N Q c o
@@ -160,4 +172,4 @@ module _ {F : List ℕ} {t : Tables} {k : ℕ} {S : State} {n : Counts} {here : 
       let o = order-in c d q in
       let s = index-fits c d q in
       factor-models nodes-fine (stored-of c d q) (bindings-in c d q) (sym p) (omega arith) (cleared-free N A₀ A₁ top nodes-fine C) L
-      (λ e h. node-ends mostLinks (lookup d) (known-of 4096 S ok-of d o) (short-le (λ r. r < length (rowsOf S)) (rowOf S) (held S) mostLinks (lookup d) (held-links 4096 S ok-of) (o .chains)) e h)
+      (λ e h. node-ends mostLinks (lookup d) (earliest-lookup c d q) (short-le (λ r. r < length (rowsOf S)) (rowOf S) (held S) mostLinks (lookup d) (held-links 4096 S ok-of) (o .chains)) e h)

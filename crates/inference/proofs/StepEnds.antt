@@ -12,7 +12,7 @@ use Rattle.unify.specs.Unifying.{outcomeOf, Counted}
 use Rattle.unify.specs.Pairs.{failureOf}
 use Rattle.derivation.specs.Derivation.{literals, Derivation, maximumIndex, ownBindings}
 use Rattle.derivation.specs.Stored.{cellsOfOrigin}
-use Rattle.entry.specs.Program.{withNode}
+use Rattle.distinct.specs.Rows.{withNode}
 use Rattle.tables.specs.Cells.{clearedPart, withClauseCells}
 use Rattle.entry.specs.Progress.{countsOf, tablesWith}
 use Rattle.verdict.specs.Refusal.{unification}

@@ -11,12 +11,13 @@ use Rattle.following.specs.Clearing.{Cleared}
 use Rattle.unification.specs.Environment.{follow, Environment, Ends}
 use Rattle.unification.specs.Nodes.{HasRow, nodeRow, NodesOk}
 use Rattle.unification.specs.Outlines.{outlinesClash}
+use Rattle.unification.specs.Repeated.{IsEarliest}
 use Rattle.unification.specs.Row.{Row, application, Expression}
 use Rattle.unification.specs.Unification.{unify, mostWork, mostBindings, mostLinks, Outcome, unifying, noRoom}
 use Rattle.unify.specs.Unifying.{outcomeOf, Facing, Ready, Answered}
 use Rattle.unification.specs.ValueArray.{InStep, Models}
 use Rattle.unification.proofs.Chains.{short-le}
-use Rattle.unification.proofs.Rows.{Below}
+use Rattle.unification.proofs.Lists.{Each}
 use Rattle.unification.proofs.Outlines.{outlines-alike}
 use Rattle.unification.proofs.Stability.{run-agree}
 use Rattle.unification.proofs.Tests.{some-injective}
@@ -32,7 +33,7 @@ use Rattle.tables.specs.Cells.{clearedPart, withClauseCells}
 use Rattle.verdict.specs.State.{State, rowsOf, derivations, clauseOf, rowOf, held}
 use Rattle.verdict.specs.Step.{step, unifyResolve, unifyFactor}
 use Rattle.inference.specs.Stepping.{BeforeStep, AtomOf, atomNamed, Resolving, Factoring, UnifiedTables, finished, withStep, stepFinished, HeldUpTo}
-use Rattle.entry.specs.Program.{withNode}
+use Rattle.distinct.specs.Rows.{withNode}
 use Rattle.entry.specs.Progress.{tablesWith}
 use Rattle.verdict.specs.Tables.{Tables, bindingCells}
 use Rattle.verdict.proofs.Advance.{Standing}
@@ -40,7 +41,7 @@ use Rattle.entry.proofs.Declaring.{bindings-here}
 use Rattle.entry.proofs.Filling.{filled-length}
 use Rattle.entry.proofs.Kept.{sizes, few-records, few-clauses}
 use Rattle.inference.proofs.KeptClauses as kept
-use Rattle.verdict.proofs.Standing.{below, ChainsEnd, InOrder, StateOk, room, known-of, held-links}
+use Rattle.verdict.proofs.Standing.{ChainsEnd, InOrder, StateOk, room, held-links}
 use Rattle.verdict.proofs.Tabled.{all-bindings-length}
 use Rattle.unify.specs.declared.Unified.{Unified}
 use Rattle.unify.specs.declared.Unified.the-variants.{Done}
@@ -129,36 +130,36 @@ module _ {F : List ℕ} {k : ℕ} {n : Counts} {C B N O A : List ℕ} (E : Befor
   pub order-in : (c : ℕ) (d : Derivation) → clauseOf (E .state) c ≡ some d → InOrder (rowsOf (E .state)) (held (E .state)) d
   order-in c d q = kept.order-in (E .kept) few-inside c d q
 
-  agree : (r : ℕ) → r < length (rowsOf (E .state)) → nodeRow N r ≡ rowOf (E .state) r
+  agree : (r : ℕ) → IsEarliest (rowsOf (E .state)) r → nodeRow N r ≡ rowOf (E .state) r
   agree r l = kept.agree (E .kept) few-inside r l
 
-  there : (r : ℕ) → r < length (rowsOf (E .state)) → HasRow N r
+  there : (r : ℕ) → IsEarliest (rowsOf (E .state)) r → HasRow N r
   there r l = kept.there (E .kept) few-inside r l
 
   pub bindings-in : (c : ℕ) (d : Derivation) → clauseOf (E .state) c ≡ some d → BindingsIn N d
   bindings-in c d q = kept.bindings-in (E .kept) few-inside c d q
 
   -- Following and unification over the node table.
-  node-ends : (h : ℕ) (ρ : Environment) → KnownEnvironment (length (rowsOf (E .state))) ρ → ChainsEnd (rowsOf (E .state)) h ρ → (e : Expression) → HasRow N (e .0) → Ends (follow (nodeRow N) h ρ e)
+  node-ends : (h : ℕ) (ρ : Environment) → KnownEnvironment (IsEarliest (rowsOf (E .state))) ρ → ChainsEnd (rowsOf (E .state)) h ρ → (e : Expression) → HasRow N (e .0) → Ends (follow (nodeRow N) h ρ e)
   node-ends h ρ κ c e r = kept.node-ends (E .kept) few-inside h ρ κ c e r
 
-  node-below : (r s : ℕ) (xs : List ℕ) → nodeRow N r ≡ application s xs → r < length (rowsOf (E .state)) → Below (length (rowsOf (E .state))) xs
-  node-below r s xs q l = below 4096 S ok-of r s xs (sym (agree r l) ∙ q) l
+  node-below : (r s : ℕ) (xs : List ℕ) → nodeRow N r ≡ application s xs → IsEarliest (rowsOf (E .state)) r → Each (IsEarliest (rowsOf (E .state))) xs
+  node-below r s xs q l = kept.earliest-below (E .kept) few-inside r s xs (sym (agree r l) ∙ q) l
 
-  node-unify : (h : ℕ) (ρ : Environment) (e d : Expression) → KnownEnvironment (length (rowsOf (E .state))) ρ → Known (length (rowsOf (E .state))) e → Known (length (rowsOf (E .state))) d → unify (nodeRow N) h ρ e d ≡ unify (rowOf (E .state)) h ρ e d
+  node-unify : (h : ℕ) (ρ : Environment) (e d : Expression) → KnownEnvironment (IsEarliest (rowsOf (E .state))) ρ → Known (IsEarliest (rowsOf (E .state))) e → Known (IsEarliest (rowsOf (E .state))) d → unify (nodeRow N) h ρ e d ≡ unify (rowOf (E .state)) h ρ e d
   node-unify h ρ e d κ a b =
-      run-agree (Known L) (Known L) (nodeRow N) (rowOf S) (λ e l. agree (e .0) l) (known-variable L (nodeRow N) (nodeRow N) (λ r l. refl) node-below) (known-arguments L (nodeRow N) (nodeRow N) (λ r l. refl) node-below) mostLinks (noRoom h) ρ mostWork (unifying [] ((e, d) ∷ [])) (κ, (a, b, tt))
+      run-agree (Known (IsEarliest ws)) (Known (IsEarliest ws)) (nodeRow N) (rowOf S) (λ e l. agree (e .0) l) (known-variable (IsEarliest ws) (nodeRow N) (nodeRow N) (λ r l. refl) node-below) (known-arguments (IsEarliest ws) (nodeRow N) (nodeRow N) (λ r l. refl) node-below) mostLinks (noRoom h) ρ mostWork (unifying [] ((e, d) ∷ [])) (κ, (a, b, tt))
 
-  atom-known : (c r i : ℕ) (x : AtomOf (E .state) c r i) → Known (length (rowsOf (E .state))) (x .literal .1) × In (maximumIndex (x .clause)) (x .literal .1 .1)
+  atom-known : (c r i : ℕ) (x : AtomOf (E .state) c r i) → Known (IsEarliest (rowsOf (E .state))) (x .literal .1) × In (maximumIndex (x .clause)) (x .literal .1 .1)
   atom-known c r i x =
       let o = order-in c (x .clause) (x .isClause) in
-      (known-numbered L (x .clause) (o .known) (x .number) (x .literal) (x .isLiteral), each-numbered (LiteralIn (maximumIndex (x .clause))) (literals (x .clause)) (x .number) (x .literal) (x .isLiteral) (literals-in (x .clause)))
+      (known-numbered (IsEarliest ws) (x .clause) (kept.earliest-rows (E .kept) few-inside c (x .clause) (x .isClause)) (x .number) (x .literal) (x .isLiteral), each-numbered (LiteralIn (maximumIndex (x .clause))) (literals (x .clause)) (x .number) (x .literal) (x .isLiteral) (literals-in (x .clause)))
 
   -- Outlines over the node table.
   pub node-outlines : (a b c d e f : ℕ) (x : AtomOf (E .state) a b c) (y : AtomOf (E .state) d e f) → outlinesClash (nodeRow N) b e ≡ outlinesClash (rowOf (E .state)) (x .literal .1 .0) (y .literal .1 .0)
   node-outlines a b c d e f x y =
       ap₂ (outlinesClash (nodeRow N)) (sym (x .isRow)) (sym (y .isRow))
-      ∙ outlines-alike (nodeRow N) (rowOf S) L agree node-below (x .literal .1 .0) (y .literal .1 .0) (atom-known a b c x .0) (atom-known d e f y .0)
+      ∙ outlines-alike (nodeRow N) (rowOf S) (IsEarliest ws) agree node-below (x .literal .1 .0) (y .literal .1 .0) (atom-known a b c x .0) (atom-known d e f y .0)
 
   links-there : (h : ℕ) → h ≤ 8192 → h ≤ mostLinks
   unfolding mostLinks
@@ -168,10 +169,10 @@ module _ {F : List ℕ} {k : ℕ} {n : Counts} {C B N O A : List ℕ} (E : Befor
   pub load-ready : (c o : ℕ) (d : Derivation) → clauseOf (E .state) c ≡ some d → o + maximumIndex d ≤ 4096 → (Q : List ℕ) → length Q ≡ 524416 → Loadable O C B N Q c o
   load-ready c o d q f Q v = kept.load-ready (E .kept) few-inside c o d q f Q v
 
-  facing : (ρ : Environment) (top : ℕ) (Q : List ℕ) (e d : Expression) → Models N top Q ρ → KnownEnvironment (length (rowsOf (E .state))) ρ → ChainsEnd (rowsOf (E .state)) (held (E .state)) ρ → InStep N top e → InStep N top d → Facing N top Q (n .bindings) ρ e d
+  facing : (ρ : Environment) (top : ℕ) (Q : List ℕ) (e d : Expression) → Models N top Q ρ → KnownEnvironment (IsEarliest (rowsOf (E .state))) ρ → ChainsEnd (rowsOf (E .state)) (held (E .state)) ρ → InStep N top e → InStep N top d → Facing N top Q (n .bindings) ρ e d
   facing ρ top Q e d M κ c a b = record { models = M; short = subst (λ (h : ℕ). (x : Expression) → HasRow N (x .0) → Ends (follow (nodeRow N) h ρ x)) (sym held-count) (node-ends (held S) ρ κ c); left = a; right = b }
 
-  outcome-of : (ρ : Environment) (e d : Expression) → KnownEnvironment (length (rowsOf (E .state))) ρ → Known (length (rowsOf (E .state))) e → Known (length (rowsOf (E .state))) d → (o : Outcome) → unify (nodeRow N) (n .bindings) ρ e d ≡ o → unify (rowOf (E .state)) (held (E .state)) ρ e d ≡ o
+  outcome-of : (ρ : Environment) (e d : Expression) → KnownEnvironment (IsEarliest (rowsOf (E .state))) ρ → Known (IsEarliest (rowsOf (E .state))) e → Known (IsEarliest (rowsOf (E .state))) d → (o : Outcome) → unify (nodeRow N) (n .bindings) ρ e d ≡ o → unify (rowOf (E .state)) (held (E .state)) ρ e d ≡ o
   outcome-of ρ e d κ a b o q = sym (node-unify (held S) ρ e d κ a b) ∙ ap (λ (h : ℕ). unify (nodeRow N) h ρ e d) (sym held-count) ∙ q
 
   -- The two parents of a resolve.
@@ -191,8 +192,8 @@ module _ {F : List ℕ} {k : ℕ} {n : Counts} {C B N O A : List ℕ} (E : Befor
     Y : InOrder (rowsOf (E .state)) (held (E .state)) (y .clause)
     Y = order-in d r (y .isClause)
 
-    both-known : KnownEnvironment (length (rowsOf (E .state))) (joined (maximumIndex (x .clause)) (lookup (x .clause)) (lookup (y .clause)))
-    both-known = known-joined L (maximumIndex l) (lookup l) (lookup r) (known-of 4096 S ok-of l X) (known-of 4096 S ok-of r Y)
+    both-known : KnownEnvironment (IsEarliest (rowsOf (E .state))) (joined (maximumIndex (x .clause)) (lookup (x .clause)) (lookup (y .clause)))
+    both-known = known-joined (IsEarliest ws) (maximumIndex l) (lookup l) (lookup r) (kept.earliest-lookup (E .kept) few-inside a l (x .isClause)) (kept.earliest-lookup (E .kept) few-inside d r (y .isClause))
 
     both-chains : ChainsEnd (rowsOf (E .state)) (held (E .state)) (joined (maximumIndex (x .clause)) (lookup (x .clause)) (lookup (y .clause)))
     both-chains = short-joined (λ r. r < L) (rowOf S) (maximumIndex l) (maximumIndex r) (lookup l) (lookup r) (lookup-in (rowOf S) l (X .valid)) (lookup-in (rowOf S) r (Y .valid)) (held S) (X .chains) (Y .chains)
@@ -237,8 +238,8 @@ module _ {F : List ℕ} {k : ℕ} {n : Counts} {C B N O A : List ℕ} (E : Befor
     same-clause : y .clause ≡ x .clause
     same-clause = some-injective (sym (y .isClause) ∙ ap (clauseOf S) p ∙ x .isClause)
 
-    one-known : KnownEnvironment (length (rowsOf (E .state))) (lookup (x .clause))
-    one-known = known-of 4096 S ok-of m Ord
+    one-known : KnownEnvironment (IsEarliest (rowsOf (E .state))) (lookup (x .clause))
+    one-known = kept.earliest-lookup (E .kept) few-inside a m (x .isClause)
 
     parent-small : maximumIndex (x .clause) ≤ 4096
     parent-small = kept.index-fits (E .kept) few-inside a m (x .isClause)

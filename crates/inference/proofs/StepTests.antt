@@ -18,7 +18,7 @@ use Rattle.verdict.specs.Refusal.{Reason, outOfRange, notThere, wrongSigns, too
 use Rattle.verdict.specs.State.{State, entry, derivations, clauseOf}
 use Rattle.verdict.specs.Step.{refused, require, step, enter}
 use Rattle.inference.specs.Stepping.{BeforeStep, AtomOf, ClausesStored, namedAnswer, signedAtom, pairAnswer, ResolveNamed, FactorNamed, StepRead}
-use Rattle.verdict.proofs.Inversions.{literal-named, not-equal, entry-none}
+use Rattle.verdict.proofs.Inversions.{literal-named, entry-none, entry-some}
 use Rattle.verdict.proofs.Resolution.{at-kind}
 use Rattle.inference.proofs.StepLaws.{clause-count, stored-of, order-in, origins-room}
 use Rattle.clauses.specs.declared.literal.NamedLiteral.{NamedLiteral}
@@ -29,15 +29,6 @@ use Rattle.entry.specs.declared.entry.Entered.the-variants.{Refused}
 use Rattle.inference.specs.declared.SignedAtom.{SignedAtom}
 use Rattle.inference.specs.declared.NamedPair.{NamedPair}
 use Rattle.inference.specs.declared.NamedPair.the-variants as pair
-
--- A clause below the number of clauses exists.
-entry-some : {A : Type 0} (xs : List A) (n : ℕ) → n < length xs → (a : A) × (entry xs n ≡ some a)
-entry-some [] n l = absurd (omega arith)
-entry-some {A} (x ∷ xs) n l = try (eqb n (length xs)) refl (λ m. entry-some xs n m)
-  where
-    try : (b : Bool) → eqb n (length xs) ≡ b → (n < length xs → (a : A) × (entry xs n ≡ some a)) → (a : A) × (pick b (some x) (entry xs n) ≡ some a)
-    try true q ih = (x, refl)
-    try false q ih = let m : ¬ (n ≡ length xs) = not-equal n (length xs) (rw q) in ih (omega arith)
 
 named-in : (n : ℕ) (d : Derivation) (o : Option Derivation) → o ≡ some d → namedLiteral (numbered (literals d) n) ≡ namedAnswer (literalIn n o)
 named-in n d o q = rw q (try (numbered (literals d) n))

@@ -10,7 +10,7 @@ use Rattle.unify.specs.Unifying.{Counted}
 use Rattle.derivation.specs.Derivation.{literals, Literal, Derivation, numbered, maximumIndex}
 use Rattle.derivation.specs.Stored.{Stored}
 use Rattle.tables.specs.Cells.{clearedPart, withClauseCells}
-use Rattle.entry.specs.Program.{withNode}
+use Rattle.distinct.specs.Rows.{withNode}
 use Rattle.entry.specs.Progress.{Kept, Next, tablesWith}
 use Rattle.verdict.specs.Refusal.{inRange, leftOf, rightOf, deletedOf, fittingSigns}
 use Rattle.verdict.specs.State.{State, clauseOf}

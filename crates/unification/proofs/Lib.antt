@@ -3,6 +3,7 @@ pub mod Tests
 pub mod Lists
 pub mod Terms
 pub mod Rows
+pub mod Repeats
 pub mod Meaning
 pub mod Turns
 pub mod Outlines

@@ -305,16 +305,16 @@ module _ (row : ℕ → Row) where
     unfolding Equal
     clash-apart r q z e = true-not-false z (equal-agree mostOutlinePairs ((r, q) ∷ []) (e, tt))
 
--- Two tables that agree on the rows below a number, whose arguments are below it too: outlines there are the same.
-module _ (row row′ : ℕ → Row) (n : ℕ) (alike : (r : ℕ) → r < n → row r ≡ row′ r) (below : (r s : ℕ) (xs : List ℕ) → row r ≡ application s xs → r < n → Each (λ a. a < n) xs) where
+-- Two tables that agree on the rows of which P holds, whose arguments are such rows too: outlines there are the same.
+module _ (row row′ : ℕ → Row) (P : ℕ → Type 0) (alike : (r : ℕ) → P r → row r ≡ row′ r) (below : (r s : ℕ) (xs : List ℕ) → row r ≡ application s xs → P r → Each P xs) where
   Inside : RowPair → Type 0
-  Inside p = (p .0 < n) × (p .1 < n)
+  Inside p = P (p .0) × P (p .1)
 
   abbrev InsideAfter : OutlineTurn → Type 0
   InsideAfter (agree ps) = Each Inside ps
   InsideAfter differ = Unit {0}
 
-  arguments-inside : (xs ys : List ℕ) (ps : List RowPair) → Each (λ a. a < n) xs → Each (λ a. a < n) ys → Each Inside ps → Each Inside (argumentRowPairs xs ys ps)
+  arguments-inside : (xs ys : List ℕ) (ps : List RowPair) → Each P xs → Each P ys → Each Inside ps → Each Inside (argumentRowPairs xs ys ps)
   unfolding Inside
   arguments-inside [] ys ps h k m = m
   arguments-inside (x ∷ xs) [] ps h k m = m
@@ -344,6 +344,6 @@ module _ (row row′ : ℕ → Row) (n : ℕ) (alike : (r : ℕ) → r < n → r
       try (agree qs) k ih = ih qs k
       try differ k ih = refl
 
-  pub outlines-alike : (r q : ℕ) → r < n → q < n → outlinesClash row r q ≡ outlinesClash row′ r q
+  pub outlines-alike : (r q : ℕ) → P r → P q → outlinesClash row r q ≡ outlinesClash row′ r q
   unfolding Inside
   outlines-alike r q h k = clash-alike mostOutlinePairs ((r, q) ∷ []) ((h, k), tt)

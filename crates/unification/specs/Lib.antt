@@ -1,5 +1,6 @@
 pub mod Term
 pub mod Row
+pub mod Repeated
 pub mod Environment
 pub mod Substitution
 pub mod Unification

@@ -1,5 +1,5 @@
--- The node table: the rows of a file, decoded into eight cells a row, as the program keeps them. Cell 0 is 0 for no row, 1 for a
--- variable, and 2 more than the number of arguments for an application; cell 1 is the variable's number or the symbol; then the
+-- The node table: the rows of a file, decoded into eight cells a row, as the program keeps them. Cell 0 is 0 for no row and for a repeated
+-- one, 1 for a variable, and 2 more than the number of arguments for an application; cell 1 is the variable's number or the symbol; then the
 -- arguments.
 use mathlib.Core.Path.{_≡_}
 use mathlib.Core.Bool.{Bool, true, false}

@@ -12,8 +12,8 @@ pub data Row : Type 0 where
   variable : ℕ → Row
   application : ℕ → List ℕ → Row
 
--- An expression is a row with an index. A variable at an index is one whose row is a variable: two rows are two variables, and
--- one row at two indices is two variables as well.
+-- An expression is a row with an index. A variable at an index is one whose row is a variable: two rows are two variables (repeated rows are in no
+-- expression), and one row at two indices is two variables as well.
 abbrev pub Expression : Type 0
 Expression = ℕ × ℕ
 

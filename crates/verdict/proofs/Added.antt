@@ -1,24 +1,30 @@
 -- A record that stands adds what the table of kinds says.
-use mathlib.Core.Path.{_≡_, refl, sym, ap, _∙_, subst}
+use mathlib.Core.Path.{_≡_, refl, sym, ap, _∙_, subst, subst₂}
 use mathlib.Core.Bool.{Bool, true, false}
-use mathlib.Core.Option.{some}
+use mathlib.Core.Option.{Option, none, some}
 use mathlib.Core.List.{List, [], _∷_, map}
 use Prim.Native.Nat.{ℕ, zero, suc, _+_, _*_, _/_, _%_, _≤_, _<_}
 use native.Mathlib.Omega.{arith}
 use lib.Dec.{eqb}
 use lib.ListN.{length, getD, take, drop, length-take, length-drop, length-map}
 use lib.Seq.{getD-take, getD-drop}
-use Rattle.record.specs.Record.{pick, Record, otherKind, Kind, symbolKind, variableKind, applicationKind, inputKind, resolveKind, factorKind, fieldB, fieldC, fieldD}
-use Rattle.unification.proofs.Tests.{some-not-none, some-injective}
+use Rattle.record.specs.Record.{pick, Record, otherKind, Kind, symbolKind, variableKind, applicationKind, inputKind, resolveKind, factorKind, fieldA, fieldB, fieldC, fieldD}
+use Rattle.unification.specs.Repeated.{earliestEqual, orSame}
+use Rattle.unification.specs.Row.{variable, Row}
+use Rattle.unification.proofs.Lists.{Each}
+use Rattle.unification.proofs.Repeats.{FoundEqual, earliest-none, earliest-found, earliest-equal}
+use Rattle.unification.proofs.Rows.{Below}
+use Rattle.unification.proofs.Tests.{both-true, some-not-none, some-injective}
+use Rattle.derivation.proofs.Literals.{each-numbered}
 use Rattle.derivation.specs.Derivation.{RowLiteral, literalOf, inputLiterals, resolve, factor, numbered}
 use Rattle.verdict.specs.Conditions.{fieldNumbered, ofApplication, ofInput}
-use Rattle.verdict.specs.Demands.{Adds, addsSymbol, addsVariable, addsApplication, addsInput, addsResolvent, addsFactor}
-use Rattle.verdict.specs.Refusal.{tests, kindOfRecord, inRange, argumentRows, leftOf, rightOf, deletedOf}
-use Rattle.verdict.specs.State.{State, nextClause}
-use Rattle.verdict.specs.Step.{stands, step, unifyResolve, unifyFactor, enter}
+use Rattle.verdict.specs.Demands.{EarliestEqual, RecordOfRow, ownRecord, earliestRecord, Adds, addsSymbol, addsVariable, addsApplication, addsInput, addsResolvent, addsFactor}
+use Rattle.verdict.specs.Refusal.{kindOfRecord, inRange, hasArity, allBelow, argumentRows, leftOf, rightOf, deletedOf}
+use Rattle.verdict.specs.State.{State, entry, rowsOf, arityOf, earliestOf, recordOfRow, nextClause}
+use Rattle.verdict.specs.Step.{stands, step, unifyResolve, unifyFactor, newApplication, newLiterals, enter}
 use Rattle.verdict.proofs.RangeTests.{of-kind, range-fits, equal, unequal}
 use Rattle.verdict.proofs.StepTests.{resolves, factors}
-use Rattle.verdict.proofs.Inversions.{tests-passed, stands-same, step-stands, named-stands, clause-added, Passed}
+use Rattle.verdict.proofs.Inversions.{tests-passed, stands-same, step-stands, named-stands, clause-added, all-below, rows-below, entry-some, Passed}
 
 -- The number of a literal is the field that it is read off.
 number-back : (n : ℕ) → 2 * literalOf n .1 + pick (literalOf n .0) 1 0 ≡ n
@@ -38,6 +44,38 @@ numbered-few [] i l q = absurd (some-not-none refl q)
 numbered-few (x ∷ xs) zero l q = omega arith
 numbered-few (x ∷ xs) (suc i) l q = let z = numbered-few xs i l q in omega arith
 
+-- Elements of a list that is mapped.
+element-of : (P : ℕ → Type 0) (xs : List ℕ) → Each P xs → (i : ℕ) → i < length xs → P (getD xs i 0)
+element-of P [] h i l = absurd (omega arith)
+element-of P (x ∷ xs) h zero l = h .0
+element-of P (x ∷ xs) h (suc i) l = element-of P xs (h .1) i (omega arith)
+
+element-mapped : (f : ℕ → ℕ) (xs : List ℕ) (i : ℕ) → i < length xs → getD (map f xs) i 0 ≡ f (getD xs i 0)
+element-mapped f [] i l = absurd (omega arith)
+element-mapped f (x ∷ xs) zero l = refl
+element-mapped f (x ∷ xs) (suc i) l = element-mapped f xs i (omega arith)
+
+numbered-mapped : (f : RowLiteral → RowLiteral) (xs : List RowLiteral) (i : ℕ) (l : RowLiteral) → numbered (map f xs) (suc i) ≡ some l → (x : RowLiteral) × (numbered xs (suc i) ≡ some x) × (f x ≡ l)
+numbered-mapped f [] i l q = absurd (some-not-none refl q)
+numbered-mapped f (x ∷ xs) zero l q = (x, refl, some-injective q)
+numbered-mapped f (x ∷ xs) (suc i) l q = numbered-mapped f xs i l q
+
+-- The record that the table of rows has for a new row.
+record-of-row : (S : State) (k : ℕ) (w : Row) → RecordOfRow S k w (recordOfRow S k w)
+record-of-row S k w = try (earliestEqual w (rowsOf S)) refl
+  where
+    counted : length (map (λ (u : ℕ × Row). u .0) (S .rows)) ≡ length (rowsOf S)
+    counted = length-map (S .rows) (λ (u : ℕ × Row). u .0) ∙ sym (length-map (S .rows) (λ (u : ℕ × Row). u .1))
+
+    found : (q : ℕ) → FoundEqual w (rowsOf S) q → (e : (j : ℕ) × (entry (map (λ (u : ℕ × Row). u .0) (S .rows)) q ≡ some j)) → RecordOfRow S k w (orSame k (entry (map (λ (u : ℕ × Row). u .0) (S .rows)) q))
+    found q F e = subst (RecordOfRow S k w) (sym (ap (orSame k) (e .1))) (earliestRecord (F .earliest) (F .equals) (e .1))
+
+    try : (o : Option ℕ) → earliestEqual w (rowsOf S) ≡ o → RecordOfRow S k w (elim o [ none ↦ k | some q ↦ orSame k (entry (map (λ (u : ℕ × Row). u .0) (S .rows)) q) ])
+    try none e = ownRecord (λ q l z. earliest-none w (rowsOf S) e q (omega (arith, l, length-map (S .rows) (λ (u : ℕ × Row). u .1))) z)
+    try (some q) e =
+        let F = earliest-found w (rowsOf S) q e in
+        found q F (entry-some (map (λ (u : ℕ × Row). u .0) (S .rows)) q (omega (arith, F .earliest .there, counted)))
+
 module _ (S : State) (k : ℕ) (r : Record) (T : State) (seven : length (r .fields) ≡ 7) where
   literal-read : (i : ℕ) (l : RowLiteral) → numbered (inputLiterals r) (1 + i) ≡ some l → 2 * l .1 + pick (l .0) 1 0 ≡ fieldNumbered r i
   literal-read i l q =
@@ -47,19 +85,39 @@ module _ (S : State) (k : ℕ) (r : Record) (T : State) (seven : length (r .fiel
       let c : i < r .count = let w = length-take (r .count) (r .fields) in omega arith in
       ap (λ (x : RowLiteral). 2 * x .1 + pick (x .0) 1 0) (numbered-literal (take (r .count) (r .fields)) i l p) ∙ number-back (getD (take (r .count) (r .fields)) i 0) ∙ getD-take (r .count) (r .fields) i 0 c
 
+  -- Rows that are named, and the earliest equal ones that are taken for them.
+  earliest-taken : (row : ℕ) → row < length (rowsOf S) → EarliestEqual S row (earliestOf S row)
+  earliest-taken row l = let F = earliest-equal (rowsOf S) row l in record { earliest = F .earliest; equals = F .equals }
+
+  argument-read : (i : ℕ) → i < r .count → length (argumentRows r) ≡ r .count → Below (length (rowsOf S)) (argumentRows r) → EarliestEqual S (fieldNumbered r (1 + i)) (getD (map (earliestOf S) (argumentRows r)) i 0)
+  argument-read i c l h =
+      let m : i < length (argumentRows r) = omega arith in
+      subst₂ (EarliestEqual S) (getD-take (r .count) (drop 1 (r .fields)) i 0 c ∙ getD-drop 1 (r .fields) i 0) (sym (element-mapped (earliestOf S) (argumentRows r) i m)) (earliest-taken (getD (argumentRows r) i 0) (element-of (λ a. a < length (rowsOf S)) (argumentRows r) h i m))
+
+  literal-taken : (i : ℕ) (l : RowLiteral) → numbered (newLiterals S r) (1 + i) ≡ some l → Each (λ (x : RowLiteral). x .1 < length (rowsOf S)) (inputLiterals r)
+      → (row : ℕ) × (2 * row + pick (l .0) 1 0 ≡ fieldNumbered r i) × EarliestEqual S row (l .1)
+  literal-taken i l q h =
+      let e : 1 + i ≡ suc i = omega arith in
+      let m = numbered-mapped (λ (x : RowLiteral). (x .0, earliestOf S (x .1))) (inputLiterals r) i l (subst (λ (n : ℕ). numbered (newLiterals S r) n ≡ some l) e q) in
+      let x = m .0 in
+      let s : x .0 ≡ l .0 = ap (λ (y : RowLiteral). y .0) (m .2) in
+      let below = each-numbered (λ (y : RowLiteral). y .1 < length (rowsOf S)) (inputLiterals r) (suc i) x (m .1) h in
+      (x .1, ap (λ (b : Bool). 2 * x .1 + pick b 1 0) (sym s) ∙ literal-read i x (subst (λ (n : ℕ). numbered (inputLiterals r) n ≡ some x) (sym e) (m .1)), subst (EarliestEqual S (x .1)) (ap (λ (y : RowLiteral). y .1) (m .2)) (earliest-taken (x .1) below))
+
   adds : (kind : Kind) → kindOfRecord r ≡ kind → Passed S kind r → enter S k kind r ≡ stands T → Adds S k r T
   adds symbolKind e a q = addsSymbol (of-kind r symbolKind e) (sym (stands-same q))
-  adds variableKind e a q = addsVariable (of-kind r variableKind e) (sym (stands-same q))
+  adds variableKind e a q = addsVariable (of-kind r variableKind e) (record-of-row S k (variable (fieldA r))) (sym (stands-same q))
   adds applicationKind e a q =
       let n = of-kind r applicationKind e in
       let h : r .count ≤ 6 = range-fits r (ofApplication n) (subst (λ (x : Kind). inRange x r ≡ true) (sym e) (a .ranged)) .0 in
       let l : length (argumentRows r) ≡ r .count = simp (length-take, length-drop) (omega arith) in
-      addsApplication n l (λ i c. getD-take (r .count) (drop 1 (r .fields)) i 0 c ∙ getD-drop 1 (r .fields) i 0) (sym (stands-same q))
+      let t = both-true (hasArity (r .count) (arityOf S (fieldA r))) (allBelow (length (rowsOf S)) (argumentRows r)) (a .there) in
+      addsApplication n (length-map (argumentRows r) (earliestOf S) ∙ l) (λ i c. argument-read i c l (all-below (length (rowsOf S)) (argumentRows r) (t .1))) (record-of-row S k (newApplication S r)) (sym (stands-same q))
   adds inputKind e a q =
       let n = of-kind r inputKind e in
       let h : r .count ≤ 7 = range-fits r (ofInput n) (subst (λ (x : Kind). inRange x r ≡ true) (sym e) (a .ranged)) .0 in
-      let l : length (inputLiterals r) ≡ r .count = simp (length-map, length-take) (omega arith) in
-      addsInput n l literal-read (sym (stands-same q))
+      let l : length (newLiterals S r) ≡ r .count = simp (length-map, length-take) (omega arith) in
+      addsInput n l (λ i l p. literal-taken i l p (rows-below (length (rowsOf S)) (inputLiterals r) (a .there))) (sym (stands-same q))
   adds resolveKind e a q =
       let s = named-stands _ (leftOf S r) (rightOf S r) T q in
       let c = clause-added S k (resolve (nextClause S) (s .0 .0) (fieldB r) (s .1 .0) (fieldD r)) (unifyResolve S (s .0) (s .1)) T (s .4) in

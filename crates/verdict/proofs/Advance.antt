@@ -1,12 +1,12 @@
 -- Reading record by record, as a program does it: the state after k records, and what the next record makes of it.
 use mathlib.Core.Path.{_≡_, refl, sym, ap, _∙_, subst}
 use mathlib.Core.Bool.{true, _&&_}
-use mathlib.Core.List.{List, [], _∷_, _++_}
+use mathlib.Core.List.{List, [], _∷_, _++_, map}
 use Prim.Native.Nat.{ℕ, zero, suc, _+_, _≤_, _<_}
 use native.Mathlib.Nat.{zero-add}
 use native.Mathlib.Omega.{arith}
 use lib.Dec.{eqb, leb, leb→le}
-use lib.ListN.{length, take, drop, length-take, take-append-drop}
+use lib.ListN.{length, take, drop, length-take, length-map, take-append-drop}
 use lib.Seq.{take-length}
 use Rattle.record.specs.Record.{Record, records, recordCount, recordPart, countOf, decoded, otherKind, Kind, symbolKind, variableKind, applicationKind, inputKind, resolveKind, factorKind, fieldA, fieldB, fieldC, fieldD}
 use Rattle.record.proofs.Records.{records-length, record-numbered}
@@ -14,12 +14,13 @@ use Rattle.unification.specs.Row.{variable, Row, application}
 use Rattle.unification.proofs.Lists.{Each}
 use Rattle.unification.proofs.Tests.{to-T, both-true}
 use Rattle.derivation.specs.Derivation.{input, inputLiterals, Derivation, resolve, factor}
-use Rattle.verdict.specs.Refusal.{tests, Reason, kindOfRecord, zeros, argumentRows, leftOf, rightOf, deletedOf, differsFromAll}
-use Rattle.verdict.specs.State.{State, emptyState, withRow, withClause, rowsOf, derivations, nextClause}
-use Rattle.verdict.specs.Step.{stands, refused, Result, step, unifyResolve, unifyFactor, enter, read, allStand, refusedAt}
+use Rattle.verdict.specs.Refusal.{tests, Reason, kindOfRecord, zeros, argumentRows, leftOf, rightOf, deletedOf}
+use Rattle.verdict.specs.State.{State, emptyState, withRow, withClause, rowsOf, earliestOf, recordOfRow, derivations, nextClause}
+use Rattle.verdict.specs.Step.{stands, refused, Result, step, unifyResolve, unifyFactor, newApplication, newLiterals, enter, read, allStand, refusedAt}
 use Rattle.verdict.specs.Verdict.{ending}
 use Rattle.verdict.proofs.Inversions.{tests-passed, stands-same, step-stands, named-stands, clause-added, Passed}
 use Rattle.verdict.proofs.Reading.{start-ok, read-on}
+use Rattle.verdict.proofs.Shared.{Shared, shared-start, step-shared}
 use Rattle.verdict.proofs.Sources.{Sourced, step-sourced}
 use Rattle.verdict.proofs.Standing.{StateOk}
 use Rattle.verdict.proofs.Steps.{step-ok}
@@ -29,26 +30,21 @@ abbrev pub RowFits : Row → Type 0
 RowFits (variable v) = v < 64
 RowFits (application s xs) = length xs ≤ 6
 
--- No two rows are equal.
-abbrev pub Distinct : List Row → Type 0
-Distinct [] = Unit {0}
-Distinct (w ∷ ws) = (differsFromAll w ws ≡ true) × Distinct ws
-
 -- What the records read so far add up to; each adds one thing at most.
 pub record Tally (F : List ℕ) (k : ℕ) (S : State) : Type 0 where
   pub total : length (S .symbols) + (length (S .rows) + length (S .clauses)) ≤ k
   pub aritiesRead : Each (λ (s : ℕ × ℕ). countOf (recordPart F (s .0)) ≡ s .1) (S .symbols)
   pub rowsFit : Each RowFits (rowsOf S)
-  pub distinct : Distinct (rowsOf S)
 
 pub record Standing (F : List ℕ) (k : ℕ) (S : State) : Type 0 where
   pub before : read emptyState 0 (take k (records F)) ≡ allStand S
   pub ok : StateOk k S
   pub sourced : Sourced (derivations S)
+  pub shared : Shared S
   pub tally : Tally F k S
 
 pub standing-start : (F : List ℕ) → Standing F 0 emptyState
-standing-start F = record { before = refl; ok = start-ok; sourced = tt; tally = record { total = omega arith; aritiesRead = tt; rowsFit = tt; distinct = tt } }
+standing-start F = record { before = refl; ok = start-ok; sourced = tt; shared = shared-start; tally = record { total = omega arith; aritiesRead = tt; rowsFit = tt } }
 
 pub take-next : (k : ℕ) (rs : List Record) (r : Record) (rest : List Record) → drop k rs ≡ r ∷ rest → take (suc k) rs ≡ take k rs ++ (r ∷ [])
 take-next zero [] r rest q = absurd (let z : _≡_ {A = ℕ} 0 1 = cc in omega arith)
@@ -82,25 +78,25 @@ module _ (F : List ℕ) (k : ℕ) (S : State) (H : Standing F k S) (l : k < reco
 
     -- One entry more: a clause, a row, a symbol.
     clause-more : (c : Derivation) → withClause S k c ≡ T → Tally F (suc k) T
-    clause-more c e = subst (Tally F (suc k)) e (record { total = let t = G .total in omega arith; aritiesRead = G .aritiesRead; rowsFit = G .rowsFit; distinct = G .distinct })
+    clause-more c e = subst (Tally F (suc k)) e (record { total = let t = G .total in omega arith; aritiesRead = G .aritiesRead; rowsFit = G .rowsFit })
 
-    row-more : (w : Row) → RowFits w → differsFromAll w (rowsOf S) ≡ true → withRow S k w ≡ T → Tally F (suc k) T
-    row-more w f d e = subst (Tally F (suc k)) e (record { total = let t = G .total in omega arith; aritiesRead = G .aritiesRead; rowsFit = (f, G .rowsFit); distinct = (d, G .distinct) })
+    row-more : (j : ℕ) (w : Row) → RowFits w → withRow S j w ≡ T → Tally F (suc k) T
+    row-more j w f e = subst (Tally F (suc k)) e (record { total = let t = G .total in omega arith; aritiesRead = G .aritiesRead; rowsFit = (f, G .rowsFit) })
 
-    few-arguments : rec .count ≤ 6 → length (argumentRows rec) ≤ 6
-    few-arguments h = simp length-take (omega arith)
+    few-arguments : rec .count ≤ 6 → length (map (earliestOf S) (argumentRows rec)) ≤ 6
+    few-arguments h = simp (length-map, length-take) (omega arith)
 
     one-more : (kind : Kind) → Passed S kind rec → enter S k kind rec ≡ stands T → Tally F (suc k) T
-    one-more symbolKind a z = subst (Tally F (suc k)) (stands-same z) (record { total = let t = G .total in omega arith; aritiesRead = (refl, G .aritiesRead); rowsFit = G .rowsFit; distinct = G .distinct })
+    one-more symbolKind a z = subst (Tally F (suc k)) (stands-same z) (record { total = let t = G .total in omega arith; aritiesRead = (refl, G .aritiesRead); rowsFit = G .rowsFit })
     one-more variableKind a z =
-        let c = both-true (eqb (rec .count) 0 && leb (fieldA rec) 63) (zeros (drop 1 (rec .fields))) (a .ranged) in
+        let c = both-true (eqb (rec .count) 0 && leb (fieldA rec) 63) (zeros (drop 1 (rec .fields))) a in
         let d = both-true (eqb (rec .count) 0) (leb (fieldA rec) 63) (c .0) in
         let l : fieldA rec ≤ 63 = leb→le (fieldA rec) 63 (to-T (leb (fieldA rec) 63) (d .1)) in
-        row-more (variable (fieldA rec)) (omega arith) (a .fresh) (stands-same z)
+        row-more (recordOfRow S k (variable (fieldA rec))) (variable (fieldA rec)) (omega arith) (stands-same z)
     one-more applicationKind a z =
         let c = both-true (leb (rec .count) 6) (zeros (drop (1 + rec .count) (rec .fields))) (a .ranged) in
-        row-more (application (fieldA rec) (argumentRows rec)) (few-arguments (leb→le (rec .count) 6 (to-T (leb (rec .count) 6) (c .0)))) (a .fresh) (stands-same z)
-    one-more inputKind a z = clause-more (input (nextClause S) (inputLiterals rec)) (stands-same z)
+        row-more (recordOfRow S k (newApplication S rec)) (newApplication S rec) (few-arguments (leb→le (rec .count) 6 (to-T (leb (rec .count) 6) (c .0)))) (stands-same z)
+    one-more inputKind a z = clause-more (input (nextClause S) (newLiterals S rec)) (stands-same z)
     one-more resolveKind a z =
         let s = named-stands _ (leftOf S rec) (rightOf S rec) T z in
         let c = clause-added S k (resolve (nextClause S) (s .0 .0) (fieldB rec) (s .1 .0) (fieldD rec)) (unifyResolve S (s .0) (s .1)) T (s .4) in
@@ -115,7 +111,7 @@ module _ (F : List ℕ) (k : ℕ) (S : State) (H : Standing F k S) (l : k < reco
     advance =
         let a = step-stands S k rec T q in
         let o = one-more (kindOfRecord rec) (tests-passed S (kindOfRecord rec) rec (a .0)) (a .1) in
-        record { before = before-next; ok = step-ok k S (H .ok) k rec T seven q; sourced = step-sourced S k rec T seven q (H .sourced); tally = o }
+        record { before = before-next; ok = step-ok k S (H .ok) k rec T seven q; sourced = step-sourced S k rec T seven q (H .sourced); shared = step-shared S k rec T (H .shared) q; tally = o }
 
   pub refused-there : (p : Reason) → step S k (decoded (recordPart F k)) ≡ refused p → ending F ≡ refusedAt S p k
   unfolding ending

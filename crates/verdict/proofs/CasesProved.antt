@@ -1,10 +1,10 @@
 -- The case sheet and the edges of the limits, by computing; and the lengths, for every file.
-use mathlib.Core.Path.{_≡_, refl, _∙_, ap, fun-ext}
+use mathlib.Core.Path.{_≡_, refl, sym, _∙_, ap, fun-ext}
 use mathlib.Core.Bool.{Bool, true, false}
 use mathlib.Core.List.{List, [], _∷_, _++_, map}
 use Prim.Native.Nat.{ℕ, zero, suc, _+_, _-_}
 use native.Mathlib.Omega.{arith}
-use lib.ListN.{length, drop, replicate, length-replicate}
+use lib.ListN.{length, take, drop, replicate, length-replicate, take-append-drop}
 use Rattle.record.specs.Bytes.{recordBytes, fileBytes}
 use Rattle.record.specs.Record.{pick, Record, records}
 use Rattle.unification.specs.Environment.{Binding, Environment}
@@ -15,7 +15,8 @@ use Rattle.unification.proofs.Failures.{reached-run}
 use Rattle.unification.proofs.Limits.{work-16384}
 use Rattle.unification.proofs.Tests.{true-not-false}
 use Rattle.unification.proofs.Trees as trees
-use Rattle.verdict.specs.Cases.{nines, holding, Case, works, caseOf, cases, CasesHold, refusedForLength, LengthsHold}
+use Rattle.derivation.specs.Derivation.{input, inputLiterals}
+use Rattle.verdict.specs.Cases.{recordOf, inputClause, nines, holding, Case, works, caseOf, cases, CasesHold, refusedForLength, LengthsHold}
 use Rattle.verdict.specs.Edges.{answerTo, ranges, unusedFields, outlines, indexEdge, literalEdge, workEdge, eights, EdgesHold, ShortTablesHold, TextsHold}
 use Rattle.verdict.specs.Readout.{linesOf, joinedLines, readout, readoutLines}
 use Rattle.verdict.specs.Refusal.{unification, mostLiterals, mostIndex}
@@ -24,7 +25,7 @@ use Rattle.verdict.specs.Step.{Ending, allStand, refusedAt, require, req
 use Rattle.verdict.specs.Tables.{Tables, lengthsOf, symbolCells, rowCells, clauseCells, bindingCells, filled, filledTables, tablesGiven, tablesAfter}
 use Rattle.verdict.specs.Verdict.{refusal, verdictOf, named, check, answerNumbers, longEnough, answerOf, verdictGiven, stateGiven, Lengths, fittingLength, ending, Reading, untouched, readTo, reading}
 use Rattle.verdict.proofs.Demanded.{length-only}
-use Rattle.verdict.proofs.Reading.{reading-records}
+use Rattle.verdict.proofs.Reading.{reading-records, read-on}
 
 -- ── The case sheet: its tables are compared by the cells that they start with ──
 
@@ -145,9 +146,43 @@ unfolding check
 answered rs fits =
     ap (λ r. answerNumbers (answerOf (verdictGiven r) (stateGiven r))) (reading-records (fileBytes rs) named fits refl) ∙ numbers (ending (fileBytes rs))
 
+-- The state before the two steps of `workEdge`.
+abbrev edgeState : State
+edgeState = record {
+  symbols = (2, 1) ∷ (1, 0) ∷ (0, 2) ∷ [];
+  rows =
+      (18, application 2 (14 ∷ [])) ∷ (17, application 2 (13 ∷ []))
+      ∷ (map (λ n. (n + 4, application 0 (n ∷ n ∷ []))) (12 ∷ 11 ∷ 10 ∷ 9 ∷ 8 ∷ 7 ∷ 6 ∷ 5 ∷ 4 ∷ 3 ∷ 2 ∷ 1 ∷ 0 ∷ []) ++ ((3, application 1 []) ∷ []));
+  clauses =
+      (22, input 3 (inputLiterals (inputClause (30 ∷ [])))) ∷ (21, input 2 (inputLiterals (inputClause (31 ∷ []))))
+      ∷ (20, input 1 (inputLiterals (inputClause (28 ∷ [])))) ∷ (19, input 0 (inputLiterals (inputClause (29 ∷ [])))) ∷ [];
+}
+
+-- Its two steps, with the fields that they do not use.
+abbrev lastSteps : List Record
+lastSteps = recordOf 5 0 (0 ∷ 1 ∷ 1 ∷ 1 ∷ 0 ∷ 0 ∷ 0 ∷ []) ∷ recordOf 5 0 (2 ∷ 1 ∷ 3 ∷ 1 ∷ 0 ∷ 0 ∷ 0 ∷ []) ∷ []
+
+edge-declared : read emptyState 0 (take 23 (records (fileBytes workEdge))) ≡ allStand edgeState
+unfolding fileBytes recordBytes records held require addClause
+edge-declared = refl
+
+edge-steps : drop 23 (records (fileBytes workEdge)) ≡ lastSteps
+unfolding fileBytes recordBytes records
+edge-steps = refl
+
+edge-ending : ending (fileBytes workEdge) ≡ read edgeState 23 lastSteps
+unfolding fileBytes recordBytes records ending
+edge-ending =
+    ap (read emptyState 0) (sym (take-append-drop 23 (records (fileBytes workEdge))))
+    ∙ read-on emptyState 0 (take 23 (records (fileBytes workEdge))) (drop 23 (records (fileBytes workEdge))) edgeState edge-declared
+    ∙ ap (read edgeState 23) edge-steps
+
+steps-numbers : numbersOf (read edgeState 23 lastSteps) ≡ 2 ∷ 12 ∷ 24 ∷ 3 ∷ 16 ∷ 5 ∷ 0 ∷ []
+unfolding held require addClause clashWithin mostOutlinePairs mostBindings mostLinks mostLiterals mostIndex numbersOf
+steps-numbers = rw (last-work, read, step, enter, requireAll, require, onNamed, no-further-work)
+
 work-numbers : numbersOf (ending (fileBytes workEdge)) ≡ 2 ∷ 12 ∷ 24 ∷ 3 ∷ 16 ∷ 5 ∷ 0 ∷ []
-unfolding fileBytes recordBytes records check ending held require addClause clashWithin mostOutlinePairs mostBindings mostLinks mostLiterals mostIndex numbersOf
-work-numbers = rw (last-work, read, step, enter, requireAll, require, onNamed, no-further-work)
+work-numbers = ap numbersOf edge-ending ∙ steps-numbers
 
 work-fits : fittingLength (length (fileBytes workEdge)) ≡ true
 unfolding fileBytes recordBytes

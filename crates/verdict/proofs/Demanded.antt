@@ -19,10 +19,10 @@ use Rattle.unification.proofs.Tests.{both-true, true-not-false}
 use Rattle.derivation.specs.Derivation.{literals, Derivation, maximumIndex, lookup, uses}
 use Rattle.derivation.specs.Ground.{valueIn}
 use Rattle.derivation.proofs.Forms.{instances-formed}
-use Rattle.derivation.proofs.Known.{known-uses}
+use Rattle.derivation.proofs.Known.{Under, known-uses}
 use Rattle.derivation.proofs.Literals.{uses-length, leb-false-lt}
 use Rattle.derivation.proofs.Values.{refutes, writes-out, writes-out-unique, values-exist, values-unique}
-use Rattle.verdict.specs.Conditions.{OneOf, LengthUnfit, lengthOver, notMultiple, TableShort, symbolsShort, rowsShort, clausesShort, bindingsShort, Condition, unknownKind, outsideRange, nothingThere, rowAgain, variableAsLiteral, unfitSigns, largeResult, clashingOutlines, clashing, occurring, overworking, overfull}
+use Rattle.verdict.specs.Conditions.{OneOf, LengthUnfit, lengthOver, notMultiple, TableShort, symbolsShort, rowsShort, clausesShort, bindingsShort, Condition, unknownKind, outsideRange, nothingThere, variableAsLiteral, unfitSigns, largeResult, clashingOutlines, clashing, occurring, overworking, overfull}
 use Rattle.verdict.specs.Demands.{Reached, ComesTo, Untouched, LeftBefore, Demand1, ConditionAt, ofLength, ofTables, ofRecord, Due, LowestEmpty, NoneEmpty, Demand2, Refutation, Demand3}
 use Rattle.verdict.specs.Refusal.{Reason, badLength, shortTable, reasonNumber}
 use Rattle.verdict.specs.State.{State, emptyState, rowsOf, derivations, arityOf, clauseOf, rowOf, termOf, held}
@@ -160,7 +160,7 @@ module _ (file : List ℕ) (tables : Tables) where
       try true f false l = let w = refusal-injective (sym (ap (λ (a : Answer). a .verdict) (check-tables f l)) ∙ z) in forTables (sym (w .0)) (sym (w .1)) f l
       try true f true l = forRecord f l (found f (ending file) refl q k (sym (ap (λ (a : Answer). a .verdict) (check-reads f l)) ∙ z))
 
-  found-condition : (q : Reason) (k : ℕ) (F : Found q k) → Condition (take k (records file)) (F .state) (F .refusedRecord) (reasonNumber q)
+  found-condition : (q : Reason) (k : ℕ) (F : Found q k) → Condition (F .state) (F .refusedRecord) (reasonNumber q)
   found-condition q k F = refused-condition file k (F .state) (F .refusedRecord) (F .reached) q (F .refusedBy)
 
   -- Reason 1 is given only for the length.
@@ -284,26 +284,25 @@ module _ (file : List ℕ) (tables : Tables) where
   }
 
   -- The numbers stated.
-  abbrev thirteen : List ℕ
-  thirteen = 1 ∷ 2 ∷ 3 ∷ 4 ∷ 5 ∷ 6 ∷ 7 ∷ 8 ∷ 9 ∷ 10 ∷ 11 ∷ 12 ∷ 13 ∷ []
+  abbrev numbers : List ℕ
+  numbers = 1 ∷ 2 ∷ 3 ∷ 4 ∷ 5 ∷ 7 ∷ 8 ∷ 9 ∷ 10 ∷ 11 ∷ 12 ∷ 13 ∷ []
 
-  condition-stated : {earlier : List Record} {S : State} {r : Record} (n : ℕ) → Condition earlier S r n → OneOf n thirteen
-  condition-stated n (unknownKind h) = one-of 3 thirteen refl
-  condition-stated n (outsideRange h) = one-of 4 thirteen refl
-  condition-stated n (nothingThere h) = one-of 5 thirteen refl
-  condition-stated n (rowAgain h) = one-of 6 thirteen refl
-  condition-stated n (variableAsLiteral h) = one-of 7 thirteen refl
-  condition-stated n (unfitSigns h) = one-of 8 thirteen refl
-  condition-stated n (largeResult h) = one-of 9 thirteen refl
-  condition-stated n (clashingOutlines h) = one-of 10 thirteen refl
-  condition-stated n (clashing h) = one-of 10 thirteen refl
-  condition-stated n (occurring h) = one-of 11 thirteen refl
-  condition-stated n (overworking h) = one-of 12 thirteen refl
-  condition-stated n (overfull h) = one-of 13 thirteen refl
+  condition-stated : {S : State} {r : Record} (n : ℕ) → Condition S r n → OneOf n numbers
+  condition-stated n (unknownKind h) = one-of 3 numbers refl
+  condition-stated n (outsideRange h) = one-of 4 numbers refl
+  condition-stated n (nothingThere h) = one-of 5 numbers refl
+  condition-stated n (variableAsLiteral h) = one-of 7 numbers refl
+  condition-stated n (unfitSigns h) = one-of 8 numbers refl
+  condition-stated n (largeResult h) = one-of 9 numbers refl
+  condition-stated n (clashingOutlines h) = one-of 10 numbers refl
+  condition-stated n (clashing h) = one-of 10 numbers refl
+  condition-stated n (occurring h) = one-of 11 numbers refl
+  condition-stated n (overworking h) = one-of 12 numbers refl
+  condition-stated n (overfull h) = one-of 13 numbers refl
 
-  stated : (n k : ℕ) → ConditionAt file tables n k → OneOf n thirteen
-  stated n k (ofLength h) = one-of 1 thirteen refl
-  stated n k (ofTables h) = one-of 2 thirteen refl
+  stated : (n k : ℕ) → ConditionAt file tables n k → OneOf n numbers
+  stated n k (ofLength h) = one-of 1 numbers refl
+  stated n k (ofTables h) = one-of 2 numbers refl
   stated n k (ofRecord {number} R C) = condition-stated number C
 
   -- A file that is not refused stands, and its verdict goes by the first empty clause.
@@ -406,7 +405,7 @@ module _ (file : List ℕ) (tables : Tables) where
         values = v;
         valuesUnique = values-unique (rowOf S) (termOf S) law c (O .valid);
         formed = instances-formed (arityOf S) (rowOf S) (termOf S) law (λ r. r < length (rowsOf S)) (λ r s xs l p. (row-there (arityOf S) (rowsOf S) (H .rowsOk) r s xs l p, below 4096 S H r s xs p l))
-            (lookup c) mostLinks (λ x e p. known-of 4096 S H c O x e p .1) (short-le (λ r. r < length (rowsOf S)) (rowOf S) (held S) mostLinks (lookup c) (held-links 4096 S H) (O .chains)) (valueIn (termOf S) c) v 1 (uses c) (known-uses (length (rowsOf S)) c (O .known));
+            (lookup c) mostLinks (λ x e p. known-of 4096 S H c O x e p .1) (short-le (λ r. r < length (rowsOf S)) (rowOf S) (held S) mostLinks (lookup c) (held-links 4096 S H) (O .chains)) (valueIn (termOf S) c) v 1 (uses c) (known-uses (Under (length (rowsOf S))) c (O .known));
         unsatisfiable = refutes (rowOf S) (termOf S) law c (O .valid) (one-arity S H) (L .empty) (valueIn (termOf S) c) v;
       }
 

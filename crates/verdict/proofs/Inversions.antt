@@ -16,7 +16,7 @@ use Rattle.unification.proofs.Rows.{Below, eqb-below}
 use Rattle.unification.proofs.Tests.{to-T, from-T, both-true, true-not-false, some-not-none, some-injective}
 use Rattle.derivation.specs.Derivation.{literals, Literal, RowLiteral, inputLiterals, Derivation, numbered}
 use Rattle.derivation.proofs.Literals.{leb-false-lt}
-use Rattle.verdict.specs.Refusal.{tests, outlineTests, Reason, reasonNumber, unification, kindOfRecord, inRange, literalIn, literalNamed, leftOf, rightOf, deletedOf, isThere, hasArity, allBelow, argumentsThere, literalRowsThere, bothThere, newRow, differsFromAll, allApplications, equalSigns, fittingSigns, resolventFits, factorFits}
+use Rattle.verdict.specs.Refusal.{tests, outlineTests, Reason, reasonNumber, unification, kindOfRecord, inRange, literalIn, literalNamed, leftOf, rightOf, deletedOf, isThere, hasArity, allBelow, argumentsThere, literalRowsThere, bothThere, allApplications, equalSigns, fittingSigns, resolventFits, factorFits}
 use Rattle.verdict.specs.State.{State, withClause, entry, rowsOf, clauseOf, rowOf}
 use Rattle.verdict.specs.Step.{stands, refused, Result, require, requireAll, enter, step, addClause, onNamed}
 
@@ -153,6 +153,14 @@ entry-more x xs n a q = rw (eqb-below n (length xs) (entry-below xs n a q)) q
 pub entry-new : {A : Type 0} (x : A) (xs : List A) → entry (x ∷ xs) (length xs) ≡ some x
 entry-new x xs = rw (from-T (eqb (length xs) (length xs)) (eqb-refl (length xs)))
 
+pub entry-some : {A : Type 0} (xs : List A) (n : ℕ) → n < length xs → (a : A) × (entry xs n ≡ some a)
+entry-some [] n l = absurd (omega arith)
+entry-some {A} (x ∷ xs) n l = try (eqb n (length xs)) refl (λ m. entry-some xs n m)
+  where
+    try : (b : Bool) → eqb n (length xs) ≡ b → (n < length xs → (a : A) × (entry xs n ≡ some a)) → (a : A) × (pick b (some x) (entry xs n) ≡ some a)
+    try true q ih = (x, refl)
+    try false q ih = let m : ¬ (n ≡ length xs) = not-equal n (length xs) (rw q) in ih (omega arith)
+
 pub entry-none : {A : Type 0} (xs : List A) (n : ℕ) → length xs ≤ n → entry xs n ≡ none
 entry-none {A} xs n h = try (entry xs n) refl
   where
@@ -183,14 +191,9 @@ pub never-both : {q : Reason} {S : State} (o : Result) → o ≡ stands S → o 
 never-both o p e = stands-not-refused (sym p ∙ e)
 
 -- The tests of a record of each kind have passed, by name.
-pub record PassedVariable (S : State) (r : Record) : Type 0 where
-  pub ranged : inRange variableKind r ≡ true
-  pub fresh : differsFromAll (newRow variableKind r) (rowsOf S) ≡ true
-
 pub record PassedApplication (S : State) (r : Record) : Type 0 where
   pub ranged : inRange applicationKind r ≡ true
   pub there : argumentsThere S r ≡ true
-  pub fresh : differsFromAll (newRow applicationKind r) (rowsOf S) ≡ true
 
 pub record PassedInput (S : State) (r : Record) : Type 0 where
   pub ranged : inRange inputKind r ≡ true
@@ -211,7 +214,7 @@ pub record PassedFactor (S : State) (r : Record) : Type 0 where
 
 abbrev pub Passed : State → Kind → Record → Type 0
 Passed S symbolKind r = inRange symbolKind r ≡ true
-Passed S variableKind r = PassedVariable S r
+Passed S variableKind r = inRange variableKind r ≡ true
 Passed S applicationKind r = PassedApplication S r
 Passed S inputKind r = PassedInput S r
 Passed S resolveKind r = PassedResolve S r
@@ -233,10 +236,10 @@ passed-for (t ∷ ts) a n = try (eqb (reasonNumber (t .1)) n) (passed-for ts (a 
 
 pub tests-passed : (S : State) (kind : Kind) (r : Record) → AllPass (tests S kind r) → Passed S kind r
 tests-passed S symbolKind r a = passed-for (tests S symbolKind r) a 4
-tests-passed S variableKind r a = record { ranged = passed-for (tests S variableKind r) a 4; fresh = passed-for (tests S variableKind r) a 6 }
+tests-passed S variableKind r a = passed-for (tests S variableKind r) a 4
 tests-passed S applicationKind r a =
     let p = passed-for (tests S applicationKind r) a in
-    record { ranged = p 4; there = p 5; fresh = p 6 }
+    record { ranged = p 4; there = p 5 }
 tests-passed S inputKind r a =
     let p = passed-for (tests S inputKind r) a in
     record { ranged = p 4; there = p 5; applications = p 7 }

@@ -21,18 +21,16 @@ use Rattle.unification.proofs.Outlines.{clash-found, found-clash}
 use Rattle.unification.proofs.Tests.{to-T, true-not-false, some-injective}
 use Rattle.derivation.specs.Derivation.{Literal, Derivation, resolve, factor, raise, maximumIndex, joined, lookup}
 use Rattle.derivation.specs.Written.{renamed}
-use Rattle.verdict.specs.Conditions.{OneOf, RowRepeated, OutlinesClash, resolveOutlines, factorOutlines, Fails, StepFails, resolveFails, factorFails, Condition, unknownKind, outsideRange, nothingThere, rowAgain, variableAsLiteral, unfitSigns, largeResult, clashingOutlines, clashing, occurring, overworking, overfull}
+use Rattle.verdict.specs.Conditions.{OneOf, OutlinesClash, resolveOutlines, factorOutlines, Fails, StepFails, resolveFails, factorFails, Condition, unknownKind, outsideRange, nothingThere, variableAsLiteral, unfitSigns, largeResult, clashingOutlines, clashing, occurring, overworking, overfull}
 use Rattle.verdict.specs.Demands.{Reached, atomOf, StepAtoms, resolveAtoms, factorAtoms}
-use Rattle.verdict.specs.Refusal.{tests, outlineTests, outlinesAgree, onBoth, Reason, unification, reasonNumber, kindOfRecord, inRange, leftOf, rightOf, deletedOf, newRow, differsFromAll}
+use Rattle.verdict.specs.Refusal.{tests, outlineTests, outlinesAgree, onBoth, Reason, unification, reasonNumber, kindOfRecord, inRange, leftOf, rightOf, deletedOf}
 use Rattle.verdict.specs.State.{State, emptyState, rowsOf, rowOf, held, nextClause}
 use Rattle.verdict.specs.Step.{stands, refused, Result, require, requireAll, step, addClause, unifyResolve, unifyFactor, enter}
 use Rattle.verdict.proofs.RangeTests.{of-kind, other-kind, range-over, out-of-range}
 use Rattle.verdict.proofs.ExistenceTests.{arguments-absent, literal-rows-absent, resolve-absent, factor-absent, not-there}
-use Rattle.verdict.proofs.RowTests.{row-repeated, repeated-fails}
 use Rattle.verdict.proofs.StepTests.{literal-on-variable, on-variable-fails, resolves-left, resolves-right, factors-kept, factors-deleted, resolves, factors, both-named, resolve-signs, factor-signs, signs-fail, resolvent-over, factor-over, result-fails}
-use Rattle.verdict.proofs.Declared.{IsRow, variableRow, applicationRow, all-declared, declared-there}
 use Rattle.verdict.proofs.Inversions.{FirstFailing, failsHere, passesHere, AllPass, all-refused, all-passed, clause-refused, never-both, refused-injective, Passed, tests-passed, testFor}
-use Rattle.verdict.proofs.Reading.{reached-shaped, reached-seven, reached-ok}
+use Rattle.verdict.proofs.Reading.{reached-seven, reached-ok}
 use Rattle.verdict.proofs.Resolution.{at-kind, enter-resolve, enter-factor, resolve-no-unifier, factor-no-unifier, resolve-outlines-apart, factor-outlines-apart, resolve-not-endless, factor-not-endless}
 use Rattle.verdict.proofs.Steps.{signs-resolve, signs-factor}
 
@@ -43,8 +41,8 @@ Rising m (t ∷ ts) = (m ≤ reasonNumber (t .1)) × (reasonNumber (t .1) < 10) 
 
 pub tests-rising : (S : State) (kind : Kind) (r : Record) → Rising 3 (tests S kind r)
 tests-rising S symbolKind r = (omega arith, omega arith, tt)
-tests-rising S variableKind r = (omega arith, omega arith, (omega arith, omega arith, tt))
-tests-rising S applicationKind r = (omega arith, omega arith, (omega arith, omega arith, (omega arith, omega arith, tt)))
+tests-rising S variableKind r = (omega arith, omega arith, tt)
+tests-rising S applicationKind r = (omega arith, omega arith, (omega arith, omega arith, tt))
 tests-rising S inputKind r = (omega arith, omega arith, (omega arith, omega arith, (omega arith, omega arith, tt)))
 tests-rising S resolveKind r = (omega arith, omega arith, (omega arith, omega arith, (omega arith, omega arith, (omega arith, omega arith, tt))))
 tests-rising S factorKind r = (omega arith, omega arith, (omega arith, omega arith, (omega arith, omega arith, (omega arith, omega arith, tt))))
@@ -113,14 +111,11 @@ unstated : (S : State) (ρ : Environment) (pairs : List Pair) (f : Failure) → 
 unstated S ρ pairs f h = subst₂ (λ (b w : ℕ). Failing (rowOf S) mostLinks (λ bs. leb b (held S + length bs)) ρ w (unifying [] pairs) f) (sym bindings-8192) (sym work-16384) h
 
 module _ (file : List ℕ) (k : ℕ) (S : State) (r : Record) (R : Reached file k S r) where
-  abbrev earlier : List Record
-  earlier = take k (records file)
-
   seven : length (r .fields) ≡ 7
   seven = reached-seven file k S r R
 
   abbrev Holds : ℕ → Type 0
-  Holds n = Condition (take k (records file)) S r n
+  Holds n = Condition S r n
 
   -- ── A test that is the first to fail: its condition holds ──
   abbrev Sound : List (Bool × Reason) → Type 0
@@ -131,13 +126,10 @@ module _ (file : List ℕ) (k : ℕ) (S : State) (r : Record) (R : Reached file 
   sound-first ts q h (failsHere p) = h .0 p
   sound-first ts q h (passesHere {ts = us} p f) = sound-first us q (h .1 p) f
 
-  again : (kind : Kind) → kindOfRecord r ≡ kind → IsRow kind → inRange kind r ≡ true → differsFromAll (newRow kind r) (rowsOf S) ≡ false → RowRepeated earlier r
-  again = row-repeated earlier (reached-shaped file k S r R) S (all-declared emptyState 0 earlier S refl (R .before)) r seven
-
   tests-sound : (kind : Kind) → kindOfRecord r ≡ kind → Sound (tests S kind r)
   tests-sound symbolKind e = (λ p. outsideRange (range-over r symbolKind e p), λ ranged. tt)
-  tests-sound variableKind e = (λ p. outsideRange (range-over r variableKind e p), λ ranged. (λ p. rowAgain (again variableKind e variableRow ranged p), λ fresh. tt))
-  tests-sound applicationKind e = (λ p. outsideRange (range-over r applicationKind e p), λ ranged. (λ p. nothingThere (arguments-absent S r seven e p), λ there. (λ p. rowAgain (again applicationKind e applicationRow ranged p), λ fresh. tt)))
+  tests-sound variableKind e = (λ p. outsideRange (range-over r variableKind e p), λ ranged. tt)
+  tests-sound applicationKind e = (λ p. outsideRange (range-over r applicationKind e p), λ ranged. (λ p. nothingThere (arguments-absent S r seven e p), λ there. tt))
   tests-sound inputKind e = (λ p. outsideRange (range-over r inputKind e p), λ ranged. (λ p. nothingThere (literal-rows-absent S r seven e p), λ there. (λ p. variableAsLiteral (literal-on-variable S r seven e p), λ _. tt)))
   tests-sound resolveKind e = (λ p. outsideRange (range-over r resolveKind e p), λ ranged. (λ p. nothingThere (resolve-absent S r seven e p), λ there. (λ p. unfitSigns (resolve-signs S r seven e there p), λ signs. (λ p. largeResult (resolvent-over S r seven e there p), λ fits. tt))))
   tests-sound factorKind e = (λ p. outsideRange (range-over r factorKind e p), λ ranged. (λ p. nothingThere (factor-absent S r seven e p), λ there. (λ p. unfitSigns (factor-signs S r seven e there p), λ signs. (λ p. largeResult (factor-over S r seven e there p), λ fits. tt))))
@@ -223,7 +215,7 @@ module _ (file : List ℕ) (k : ℕ) (S : State) (r : Record) (R : Reached file 
       try (inl f) = byTest f
       try (inr a) = passed (tests-passed S (kindOfRecord r) r (a .0)) (all-refused (outlineTests S (kindOfRecord r) r) (enter S k (kindOfRecord r) r) q (a .1))
 
-  pub refused-condition : (q : Reason) → step S k r ≡ refused q → Condition (take k (records file)) S r (reasonNumber q)
+  pub refused-condition : (q : Reason) → step S k r ≡ refused q → Condition S r (reasonNumber q)
   refused-condition q z = try (refused-by q z)
     where
       try : RefusedBy q → Holds (reasonNumber q)
@@ -304,11 +296,10 @@ module _ (file : List ℕ) (k : ℕ) (S : State) (r : Record) (R : Reached file 
   ranges-differ factorKind q = q
   ranges-differ otherKind q = absurd (true-not-false refl q)
 
-  pub condition-refused : (n : ℕ) → Condition (take k (records file)) S r n → (q : Reason) × (step S k r ≡ refused q) × (reasonNumber q ≤ n)
+  pub condition-refused : (n : ℕ) → Condition S r n → (q : Reason) × (step S k r ≡ refused q) × (reasonNumber q ≤ n)
   condition-refused n (unknownKind h) = test-refuses 3 (subst (λ (kind : Kind). testFor (tests S kind r) 3 ≡ false) (sym (other-kind r h)) refl)
   condition-refused n (outsideRange h) = test-refuses 4 (ranges-differ (kindOfRecord r) (out-of-range r h))
   condition-refused n (nothingThere h) = two-refuse 4 5 (omega arith) (not-there S r seven h)
-  condition-refused n (rowAgain h) = test-refuses 6 (repeated-fails earlier (reached-shaped file k S r R) S (all-declared emptyState 0 earlier S refl (R .before)) r seven (declared-there emptyState 0 earlier S (R .before)) h)
   condition-refused n (variableAsLiteral h) = two-refuse 4 7 (omega arith) (on-variable-fails S r seven h)
   condition-refused n (unfitSigns h) = test-refuses 8 (signs-fail S r seven h)
   condition-refused n (largeResult h) = test-refuses 9 (result-fails S r seven h)
@@ -319,7 +310,7 @@ module _ (file : List ℕ) (k : ℕ) (S : State) (r : Record) (R : Reached file 
   condition-refused n (overfull h) = failure-refuses 13 (omega arith) full refl h
 
   -- A refused record's number is that of no later condition.
-  pub refused-lowest : (q : Reason) → step S k r ≡ refused q → (n : ℕ) → Condition (take k (records file)) S r n → reasonNumber q ≤ n
+  pub refused-lowest : (q : Reason) → step S k r ≡ refused q → (n : ℕ) → Condition S r n → reasonNumber q ≤ n
   refused-lowest q z n h =
       let w = condition-refused n h in
       subst (λ (p : Reason). reasonNumber p ≤ n) (refused-injective (sym (w .1) ∙ z)) (w .2)
@@ -382,11 +373,10 @@ module _ (file : List ℕ) (k : ℕ) (S : State) (r : Record) (R : Reached file 
       try (byFailure {f} e b) = atoms-apart Y f (clash-or-occurs f (subst (λ (p : Reason). OneOf (reasonNumber p) (10 ∷ 11 ∷ [])) (sym e) m)) b pairs A
 
 -- The numbers of conditions.
-pub condition-number : {earlier : List Record} {S : State} {r : Record} (n : ℕ) → Condition earlier S r n → (3 ≤ n) × (n ≤ 13)
+pub condition-number : {S : State} {r : Record} (n : ℕ) → Condition S r n → (3 ≤ n) × (n ≤ 13)
 condition-number n (unknownKind h) = omega arith
 condition-number n (outsideRange h) = omega arith
 condition-number n (nothingThere h) = omega arith
-condition-number n (rowAgain h) = omega arith
 condition-number n (variableAsLiteral h) = omega arith
 condition-number n (unfitSigns h) = omega arith
 condition-number n (largeResult h) = omega arith

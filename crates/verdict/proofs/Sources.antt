@@ -9,10 +9,10 @@ use lib.Dec.{eqb, eqb→eq}
 use lib.ListN.{length, length-map, length-take}
 use Rattle.record.specs.Record.{pick, Record, otherKind, Kind, symbolKind, variableKind, applicationKind, inputKind, resolveKind, factorKind, fieldA, fieldB, fieldC, fieldD}
 use Rattle.unification.proofs.Tests.{to-T, some-not-none, some-injective}
-use Rattle.derivation.specs.Derivation.{input, inputLiterals, Derivation, resolve, factor, clauseNumber}
+use Rattle.derivation.specs.Derivation.{input, Derivation, resolve, factor, clauseNumber}
 use Rattle.verdict.specs.Refusal.{tests, kindOfRecord, leftOf, rightOf, deletedOf}
 use Rattle.verdict.specs.State.{State, entry, derivations, nextClause}
-use Rattle.verdict.specs.Step.{stands, step, unifyResolve, unifyFactor, enter}
+use Rattle.verdict.specs.Step.{stands, step, unifyResolve, unifyFactor, newLiterals, enter}
 use Rattle.verdict.proofs.Inversions.{tests-passed, stands-same, step-stands, named-stands, clause-added, Passed}
 use Rattle.verdict.proofs.Steps.{named-resolve, named-factor}
 
@@ -63,8 +63,8 @@ module _ (S : State) (k : ℕ) (rec : Record) (T : State) (seven : length (rec .
   at-own : Sourced (derivations S) → (n : ℕ) (c : Derivation) → entry (derivations S) n ≡ some c → entry (derivations S) (clauseNumber c) ≡ some c
   at-own h n c q = ap (entry (derivations S)) (number-of (derivations S) h n c q) ∙ q
 
-  few : length (inputLiterals rec) ≤ 7
-  few = rw length-map (rw length-take (omega (arith, seven)))
+  few : length (newLiterals S rec) ≤ 7
+  few = rw length-map (rw length-map (rw length-take (omega (arith, seven))))
 
   source-entered : (kind : Kind) → Passed S kind rec → enter S k kind rec ≡ stands T → Sourced (derivations S) → Sourced (derivations T)
   source-entered symbolKind a q h = subst Kept (stands-same q) h

@@ -20,7 +20,7 @@ use Rattle.unification.proofs.Stability.{follow-agree}
 use Rattle.unification.proofs.Tests.{to-T}
 use Rattle.derivation.specs.Derivation.{literals, input, Literal, Derivation, numbered, raise, maximumIndex, ownBindings, joined, lookup, Use, uses}
 use Rattle.derivation.proofs.Chains.{short-joined}
-use Rattle.derivation.proofs.Known.{Known, KnownRows, KnownEnvironment, known-numbered, known-joined, known-variable, known-arguments, known-lookup, valid-stable, known-more}
+use Rattle.derivation.proofs.Known.{Under, Known, KnownRows, KnownEnvironment, known-numbered, known-joined, known-variable, known-arguments, known-lookup, valid-stable, known-more}
 use Rattle.derivation.proofs.Literals.{leb-false-lt}
 use Rattle.derivation.proofs.Validity.{Valid, lookup-in}
 use Rattle.verdict.specs.Demands.{InputsOf}
@@ -34,7 +34,7 @@ ChainsEnd ws h ρ = Short (λ r. r < length ws) (rowAt ws) h ρ
 
 pub record InOrder (ws : List Row) (h : ℕ) (c : Derivation) : Type 0 where
   pub valid : Valid (rowAt ws) c
-  pub known : KnownRows (length ws) c
+  pub known : KnownRows (Under (length ws)) c
   pub chains : ChainsEnd ws h (lookup c)
   pub literalsFit : length (literals c) ≤ mostLiterals
   pub indexFits : maximumIndex c ≤ mostIndex
@@ -95,7 +95,7 @@ rows-more ar ar′ f (variable v ∷ ws) h = (h .0, rows-more ar ar′ f ws (h .
 rows-more ar ar′ f (application s xs ∷ ws) h = ((f s (length xs) (h .0 .0), h .0 .1), rows-more ar ar′ f ws (h .1))
 
 -- A new row makes no chain longer.
-chains-more : (ar : ℕ → Option ℕ) (w : Row) (ws : List Row) → RowOk ar ws w → (h : ℕ) (ρ : Environment) → KnownEnvironment (length ws) ρ → ChainsEnd ws h ρ → ChainsEnd (w ∷ ws) h ρ
+chains-more : (ar : ℕ → Option ℕ) (w : Row) (ws : List Row) → RowOk ar ws w → (h : ℕ) (ρ : Environment) → KnownEnvironment (Under (length ws)) ρ → ChainsEnd ws h ρ → ChainsEnd (w ∷ ws) h ρ
 chains-more ar w ws R h ρ κ c e l = try (eqb (e .0) (length ws)) refl
   where
     free : e .0 ≡ length ws → (o : Option Expression) → ρ e ≡ o → o ≡ none
@@ -111,7 +111,7 @@ chains-more ar w ws R h ρ κ c e l = try (eqb (e .0) (length ws)) refl
     try false q =
         let m : ¬ (e .0 ≡ length ws) = not-equal (e .0) (length ws) (rw q) in
         let k : e .0 < length ws = omega arith in
-        subst Ends (follow-agree (Known (length ws)) (Known (length ws)) (rowAt ws) (rowAt (w ∷ ws)) (λ d z. rw (eqb-below (d .0) (length ws) z)) h ρ κ e k) (c e k)
+        subst Ends (follow-agree (Known (Under (length ws))) (Known (Under (length ws))) (rowAt ws) (rowAt (w ∷ ws)) (λ d z. rw (eqb-below (d .0) (length ws) z)) h ρ κ e k) (c e k)
 
 pub no-chains : (ws : List Row) (h : ℕ) (ρ : Environment) → ((x : Variable) → ρ x ≡ none) → ChainsEnd ws h ρ
 no-chains ws h ρ f = short-le (λ r. r < length ws) (rowAt ws) 0 h ρ (omega arith) (λ e l. try e (rowAt ws (e .0)))
@@ -122,9 +122,9 @@ no-chains ws h ρ f = short-le (λ r. r < length ws) (rowAt ws) 0 h ρ (omega ar
 
 order-more : (ar : ℕ → Option ℕ) (w : Row) (ws : List Row) → RowsOk ar ws → RowOk ar ws w → (h : ℕ) (c : Derivation) → InOrder ws h c → InOrder (w ∷ ws) h c
 order-more ar w ws R r h c k = record {
-  valid = valid-stable (length ws) (rowAt ws) (rowAt (w ∷ ws)) (λ r l. rw (eqb-below r (length ws) l)) below c (k .known) (k .valid);
-  known = known-more (length ws) (suc (length ws)) (omega arith) c (k .known);
-  chains = chains-more ar w ws r h (lookup c) (known-lookup (length ws) (rowAt ws) (rowAt ws) (λ r l. refl) below c (k .valid) (k .known)) (k .chains);
+  valid = valid-stable (Under (length ws)) (rowAt ws) (rowAt (w ∷ ws)) (λ r l. rw (eqb-below r (length ws) l)) below c (k .known) (k .valid);
+  known = known-more (Under (length ws)) (Under (suc (length ws))) (λ r l. omega arith) c (k .known);
+  chains = chains-more ar w ws r h (lookup c) (known-lookup (Under (length ws)) (rowAt ws) (rowAt ws) (λ r l. refl) below c (k .valid) (k .known)) (k .chains);
   literalsFit = k .literalsFit;
   indexFits = k .indexFits;
 }
@@ -178,8 +178,8 @@ module _ (n : ℕ) (S : State) (H : StateOk n S) where
   pub inputs-of : (i : ℕ) (c : Derivation) → clauseOf S i ≡ some c → InputsOf (derivations S) (uses c)
   inputs-of i c q = entry-each (λ (c : Derivation). InputsOf (derivations S) (uses c)) (derivations S) (H .inputsOk) i c q
 
-  pub known-of : (c : Derivation) → InOrder (rowsOf S) (held S) c → KnownEnvironment (length (rowsOf S)) (lookup c)
-  known-of c o = known-lookup (length ws) row row (λ r l. refl) below c (o .valid) (o .known)
+  pub known-of : (c : Derivation) → InOrder (rowsOf S) (held S) c → KnownEnvironment (Under (length (rowsOf S))) (lookup c)
+  known-of c o = known-lookup (Under (length ws)) row row (λ r l. refl) below c (o .valid) (o .known)
 
   pub held-links : held S ≤ mostLinks
   held-links = omega (arith, H .heldOk, links-enough)
@@ -189,11 +189,11 @@ module _ (n : ℕ) (S : State) (H : StateOk n S) where
   room bs q = omega (arith, leb-false-lt mostBindings (held S + length bs) q, links-enough)
 
   abbrev pub ChainsAfter : Environment → Outcome → Type 0
-  ChainsAfter base o = ChainEnd (λ r. r < length (rowsOf S)) (Known (length (rowsOf S))) (rowOf S) (known-variable (length (rowsOf S)) (rowOf S) (rowOf S) (λ r l. refl) below) (known-arguments (length (rowsOf S)) (rowOf S) (rowOf S) (λ r l. refl) below) mostLinks (noRoom (held S)) base (held S) room o
+  ChainsAfter base o = ChainEnd (λ r. r < length (rowsOf S)) (Known (Under (length (rowsOf S)))) (rowOf S) (known-variable (Under (length (rowsOf S))) (rowOf S) (rowOf S) (λ r l. refl) below) (known-arguments (Under (length (rowsOf S))) (rowOf S) (rowOf S) (λ r l. refl) below) mostLinks (noRoom (held S)) base (held S) room o
 
-  unify-chains : (base : Environment) (e d : Expression) → ChainsEnd ws (held S) base → KnownEnvironment (length ws) base → Known (length ws) e → Known (length ws) d → ChainsAfter base (unify row (held S) base e d)
+  unify-chains : (base : Environment) (e d : Expression) → ChainsEnd ws (held S) base → KnownEnvironment (Under (length ws)) base → Known (Under (length ws)) e → Known (Under (length ws)) d → ChainsAfter base (unify row (held S) base e d)
   unify-chains base e d c κ a b =
-      chain-run (λ r. r < length ws) (Known (length ws)) row (known-variable (length ws) row row (λ r l. refl) below) (known-arguments (length ws) row row (λ r l. refl) below) mostLinks (noRoom (held S)) base (held S) room mostWork (unifying [] ((e, d) ∷ [])) (κ, (a, b, tt))
+      chain-run (λ r. r < length ws) (Known (Under (length ws))) row (known-variable (Under (length ws)) row row (λ r l. refl) below) (known-arguments (Under (length ws)) row row (λ r l. refl) below) mostLinks (noRoom (held S)) base (held S) room mostWork (unifying [] ((e, d) ∷ [])) (κ, (a, b, tt))
       (rw add-zero (c, omega (arith, H .heldOk, links-enough)))
 
   pub resolve-chains : (x y : Derivation × Literal) → InOrder (rowsOf S) (held S) (x .0) → InOrder (rowsOf S) (held S) (y .0) → (a b : ℕ) → numbered (literals (x .0)) a ≡ some (x .1) → numbered (literals (y .0)) b ≡ some (y .1)
@@ -201,10 +201,10 @@ module _ (n : ℕ) (S : State) (H : StateOk n S) where
   resolve-chains x y X Y a b p q =
       unify-chains (joined (maximumIndex (x .0)) (lookup (x .0)) (lookup (y .0))) (x .1 .1) (raise (maximumIndex (x .0)) (y .1 .1))
       (short-joined (λ r. r < length ws) row (maximumIndex (x .0)) (maximumIndex (y .0)) (lookup (x .0)) (lookup (y .0)) (lookup-in row (x .0) (X .valid)) (lookup-in row (y .0) (Y .valid)) (held S) (X .chains) (Y .chains))
-      (known-joined (length ws) (maximumIndex (x .0)) (lookup (x .0)) (lookup (y .0)) (known-of (x .0) X) (known-of (y .0) Y))
-      (known-numbered (length ws) (x .0) (X .known) a (x .1) p) (known-numbered (length ws) (y .0) (Y .known) b (y .1) q)
+      (known-joined (Under (length ws)) (maximumIndex (x .0)) (lookup (x .0)) (lookup (y .0)) (known-of (x .0) X) (known-of (y .0) Y))
+      (known-numbered (Under (length ws)) (x .0) (X .known) a (x .1) p) (known-numbered (Under (length ws)) (y .0) (Y .known) b (y .1) q)
 
   pub factor-chains : (x y : Derivation × Literal) → InOrder (rowsOf S) (held S) (x .0) → (a b : ℕ) → numbered (literals (x .0)) a ≡ some (x .1) → numbered (literals (x .0)) b ≡ some (y .1) → ChainsAfter (lookup (x .0)) (unifyFactor S x y)
   factor-chains x y X a b p q =
       unify-chains (lookup (x .0)) (x .1 .1) (y .1 .1) (X .chains) (known-of (x .0) X)
-      (known-numbered (length ws) (x .0) (X .known) a (x .1) p) (known-numbered (length ws) (x .0) (X .known) b (y .1) q)
+      (known-numbered (Under (length ws)) (x .0) (X .known) a (x .1) p) (known-numbered (Under (length ws)) (x .0) (X .known) b (y .1) q)

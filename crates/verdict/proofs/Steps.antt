@@ -2,22 +2,26 @@
 use mathlib.Core.Path.{_≡_, refl, sym, ap, _∙_, subst}
 use mathlib.Core.Bool.{Bool, true, _&&_, not}
 use mathlib.Core.Option.{some}
-use mathlib.Core.List.{List, [], _++_}
-use Prim.Native.Nat.{ℕ, suc, _+_, _≤_}
+use mathlib.Core.List.{List, [], _∷_, _++_, map}
+use Prim.Native.Nat.{ℕ, suc, _+_, _≤_, _<_}
 use native.Mathlib.Omega.{arith}
 use lib.Dec.{eqb, leb, leb→le}
 use lib.ListN.{length, drop, length-take, length-drop, length-map}
 use Rattle.record.specs.Record.{Record, otherKind, Kind, symbolKind, variableKind, applicationKind, inputKind, resolveKind, factorKind, fieldA, fieldB, fieldC, fieldD}
 use Rattle.unification.specs.Environment.{Binding}
-use Rattle.unification.specs.Row.{variable, Row, application}
+use Rattle.unification.specs.Repeated.{IsEarliest}
+use Rattle.unification.specs.Row.{variable, Row}
 use Rattle.unification.specs.Unification.{mostBindings, unified}
+use Rattle.unification.proofs.Lists.{Each, each-more}
+use Rattle.unification.proofs.Repeats.{earliest-equal, all-earliest}
 use Rattle.unification.proofs.Room.{bindings-fit}
+use Rattle.unification.proofs.Rows.{Below}
 use Rattle.unification.proofs.Tests.{to-T, both-true, some-injective}
-use Rattle.derivation.specs.Derivation.{literals, input, Literal, inputLiterals, Derivation, resolve, factor, numbered, raise, placed, maximumIndex, joined, lookup, uses}
+use Rattle.derivation.specs.Derivation.{literals, input, Literal, RowLiteral, inputLiterals, Derivation, resolve, factor, numbered, raise, placed, maximumIndex, joined, lookup, uses}
 use Rattle.derivation.proofs.Validity.{Valid}
 use Rattle.verdict.specs.Refusal.{tests, mostLiterals, mostIndex, kindOfRecord, zeros, argumentRows, leftOf, rightOf, deletedOf, hasArity, allBelow, equalSigns, fittingSigns, resultFits}
-use Rattle.verdict.specs.State.{State, rowsOf, derivations, arityOf, clauseOf, rowOf, held, nextClause}
-use Rattle.verdict.specs.Step.{stands, step, addClause, unifyResolve, unifyFactor, enter}
+use Rattle.verdict.specs.State.{State, rowsOf, derivations, arityOf, clauseOf, rowOf, earliestOf, recordOfRow, held, nextClause}
+use Rattle.verdict.specs.Step.{stands, step, addClause, unifyResolve, unifyFactor, newApplication, newLiterals, enter}
 use Rattle.verdict.proofs.Inversions.{tests-passed, stands-same, step-stands, named-stands, literal-named, has-arity, all-below, rows-below, opposite-signs, equal-signs, not-equal, entry-new, clause-added, PassedResolve, PassedFactor, Passed}
 use Rattle.verdict.proofs.Standing.{StateOk, literals-enough, index-enough, inputs-append, inputs-kept, no-chains, symbol-added, row-added, clause-entered, order-of, inputs-of, ChainsAfter, resolve-chains, factor-chains}
 
@@ -122,25 +126,33 @@ module _ (n : ℕ) (S : State) (H : StateOk n S) (k : ℕ) (r : Record) (T : Sta
   argument-count : length (r .fields) ≡ 7 → r .count ≤ 6 → length (argumentRows r) ≡ r .count
   argument-count l h = simp (length-take, length-drop) (omega arith)
 
-  few-literals : r .count ≤ 7 → length (placed 1 (inputLiterals r)) ≤ 7
+  few-literals : r .count ≤ 7 → length (placed 1 (newLiterals S r)) ≤ 7
   few-literals h = simp (length-map, length-take) (omega arith)
+
+  -- The rows that a record names, taken as the earliest equal ones, are there.
+  arguments-below : (xs : List ℕ) → Below (length (rowsOf S)) xs → Below (length (rowsOf S)) (map (earliestOf S) xs)
+  arguments-below xs h = each-more (IsEarliest ws) (λ r. r < length ws) (λ r E. E .there) (map (earliestOf S) xs) (all-earliest ws xs h)
+
+  literals-below : (ls : List RowLiteral) → Each (λ (l : RowLiteral). l .1 < length (rowsOf S)) ls → Each (λ (l : RowLiteral). l .1 < length (rowsOf S)) (map (λ (l : RowLiteral). (l .0, earliestOf S (l .1))) ls)
+  literals-below [] h = tt
+  literals-below (l ∷ ls) h = (earliest-equal ws (l .1) (h .0) .earliest .there, literals-below ls (h .1))
 
   entered : (kind : Kind) → length (r .fields) ≡ 7 → Passed S kind r → enter S k kind r ≡ stands T → StateOk (suc n) T
   entered symbolKind l a q = subst (StateOk (suc n)) (stands-same q) (symbol-added n S H k (r .count))
-  entered variableKind l a q = subst (StateOk (suc n)) (stands-same q) (row-added n S H k (variable (fieldA r)) tt)
+  entered variableKind l a q = subst (StateOk (suc n)) (stands-same q) (row-added n S H (recordOfRow S k (variable (fieldA r))) (variable (fieldA r)) tt)
   entered applicationKind l a q =
       let c = both-true (leb (r .count) 6) (zeros (drop (1 + r .count) (r .fields))) (a .ranged) in
       let t = both-true (hasArity (r .count) (arityOf S (fieldA r))) (allBelow (length ws) (argumentRows r)) (a .there) in
       let z = argument-count l (leb→le (r .count) 6 (to-T (leb (r .count) 6) (c .0))) in
-      subst (StateOk (suc n)) (stands-same q) (row-added n S H k (application (fieldA r) (argumentRows r))
-      (has-arity (r .count) (arityOf S (fieldA r)) (t .0) ∙ ap some (sym z), all-below (length ws) (argumentRows r) (t .1)))
+      subst (StateOk (suc n)) (stands-same q) (row-added n S H (recordOfRow S k (newApplication S r)) (newApplication S r)
+      (has-arity (r .count) (arityOf S (fieldA r)) (t .0) ∙ ap some (sym (length-map (argumentRows r) (earliestOf S) ∙ z)), arguments-below (argumentRows r) (all-below (length ws) (argumentRows r) (t .1))))
   entered inputKind l a q =
       let c = both-true (leb (r .count) 7) (zeros (drop (r .count) (r .fields))) (a .ranged) in
       let f = few-literals (leb→le (r .count) 7 (to-T (leb (r .count) 7) (c .0))) in
       let h = H .heldOk in
-      subst (StateOk (suc n)) (stands-same q) (clause-entered n S H k (input (nextClause S) (inputLiterals r)) (omega arith)
-      (record { valid = tt; known = rows-below (length ws) (inputLiterals r) (a .there); chains = no-chains ws (held S + 0) (lookup (input (nextClause S) (inputLiterals r))) (λ x. refl); literalsFit = omega (arith, literals-enough, f); indexFits = index-enough })
-      (entry-new (input (nextClause S) (inputLiterals r)) (derivations S), tt))
+      subst (StateOk (suc n)) (stands-same q) (clause-entered n S H k (input (nextClause S) (newLiterals S r)) (omega arith)
+      (record { valid = tt; known = literals-below (inputLiterals r) (rows-below (length ws) (inputLiterals r) (a .there)); chains = no-chains ws (held S + 0) (lookup (input (nextClause S) (newLiterals S r))) (λ x. refl); literalsFit = omega (arith, literals-enough, f); indexFits = index-enough })
+      (entry-new (input (nextClause S) (newLiterals S r)) (derivations S), tt))
   entered resolveKind l a q =
       let s = named-stands _ (leftOf S r) (rightOf S r) T q in
       resolve-entered (s .0) (s .1) (named-resolve S r (s .0) (s .1) (s .2) (s .3) a) (s .4)

@@ -260,14 +260,26 @@ caseI = record {
   readout = lines ("refused 7 at 1" ∷ []);
 }
 
--- J: v0 declared twice.
+-- J: v0 declared twice. It stands since document 02's Q-2: the second row is taken as the first, whose record the table has twice.
 abbrev pub caseJ : Case
 caseJ = record {
   file = fileBytes (variableRow 0 ∷ variableRow 0 ∷ []);
-  answer = 2 ∷ 6 ∷ 1 ∷ 0 ∷ 1 ∷ 0 ∷ 0 ∷ [];
-  tables = holding [] (0 ∷ []) [] [];
+  answer = 0 ∷ 0 ∷ 0 ∷ 0 ∷ 2 ∷ 0 ∷ 0 ∷ [];
+  tables = holding [] (0 ∷ 0 ∷ []) [] [];
   work = [];
-  readout = lines ("refused 6 at 1" ∷ []);
+  readout = lines ("open" ∷ []);
+}
+
+-- Document 02, Q-2: rows v0, v0, s1(row 1), s1(row 0), s0(row 3), s0(row 1), s0(row 2), of which 1, 3 and 6 are repeats, of 0, 2 and 4. Clauses +row 6
+-- and -row 5, resolved. The binding names earliest rows: row 0 at index 2 is bound to row 2 at index 1.
+abbrev pub caseRepeats : Case
+caseRepeats = record {
+  file = fileBytes (symbolOf 1 ∷ symbolOf 1 ∷ variableRow 0 ∷ variableRow 0 ∷ applicationRow 1 (1 ∷ []) ∷ applicationRow 1 (0 ∷ []) ∷ applicationRow 0 (3 ∷ [])
+      ∷ applicationRow 0 (1 ∷ []) ∷ applicationRow 0 (2 ∷ []) ∷ inputClause (13 ∷ []) ∷ inputClause (10 ∷ []) ∷ resolveStep 0 1 1 1 ∷ []);
+  answer = 1 ∷ 2 ∷ 0 ∷ 2 ∷ 7 ∷ 3 ∷ 1 ∷ [];
+  tables = holding (0 ∷ 1 ∷ []) (2 ∷ 2 ∷ 4 ∷ 4 ∷ 6 ∷ 7 ∷ 6 ∷ []) (9 ∷ 1 ∷ 1 ∷ 0 ∷ 0 ∷ 10 ∷ 1 ∷ 1 ∷ 0 ∷ 0 ∷ 11 ∷ 0 ∷ 2 ∷ 0 ∷ 1 ∷ []) (0 ∷ 2 ∷ 2 ∷ 1 ∷ []);
+  work = 4 ∷ [];
+  readout = lines ("accepted 2" ∷ "0 1 +s0(s1(v0.1))" ∷ "1 1 -s0(v0.1)" ∷ "2 2" ∷ []);
 }
 
 -- K: -s0 +s0, 2 resolved with 1 on itself, and so on: twelve steps reach index 4,096, the thirteenth gives 9.
@@ -292,7 +304,7 @@ caseK = record {
 
 abbrev pub cases : List Case
 cases =
-    caseA ∷ caseB ∷ caseC ∷ caseLongest ∷ caseTooLong ∷ caseD ∷ caseE ∷ caseF ∷ caseG ∷ caseGBad ∷ caseH ∷ caseI ∷ caseJ ∷ caseK ∷ []
+    caseA ∷ caseB ∷ caseC ∷ caseLongest ∷ caseTooLong ∷ caseD ∷ caseE ∷ caseF ∷ caseG ∷ caseGBad ∷ caseH ∷ caseI ∷ caseJ ∷ caseRepeats ∷ caseK ∷ []
 
 -- The definitions give what is written.
 abbrev pub CasesHold : Type 0

@@ -70,15 +70,6 @@ pub data NotThere (S : State) (r : Record) : Type 0 where
   noClause : {c n : ℕ} → Names r c n → length (S .clauses) ≤ c → NotThere S r
   noLiteral : {c n : ℕ} {d : Derivation} → Names r c n → clauseOf S c ≡ some d → (n ≡ 0) ⊎ (length (literals d) < n) → NotThere S r
 
--- 6: a row equal to an earlier row in kind, byte 1 and every field.
-pub record RowRepeated (earlier : List Record) (r : Record) : Type 0 where
-  pub isRow : (r .kind ≡ 2) ⊎ (r .kind ≡ 3)
-  pub other : Record
-  pub isEarlier : OneOf other earlier
-  pub sameKind : other .kind ≡ r .kind
-  pub sameCount : other .count ≡ r .count
-  pub sameFields : (i : ℕ) → fieldNumbered other i ≡ fieldNumbered r i
-
 -- 7: a literal whose row is a variable.
 pub record LiteralOnVariable (S : State) (r : Record) : Type 0 where
   pub isInput : r .kind ≡ 4
@@ -130,22 +121,21 @@ pub data StepFails (S : State) (r : Record) (f : Failure) : Type 0 where
       → Fails S (joined (maximumIndex left) (lookup left) (lookup right)) ((l .1, raise (maximumIndex left) (m .1)) ∷ []) f → StepFails S r f
   factorFails : {parent : Derivation} {l m : Literal} → Factors S r parent l m → Fails S (lookup parent) ((l .1, m .1) ∷ []) f → StepFails S r f
 
--- The conditions of a record, by their numbers. `earlier` are the records before it in the file, and S is the state that they leave.
-pub data Condition (earlier : List Record) (S : State) (r : Record) : ℕ → Type 0 where
+-- The conditions of a record, by their numbers; S is the state that the records before it leave. There is none for 6 (document 02, Q-2).
+pub data Condition (S : State) (r : Record) : ℕ → Type 0 where
   -- kind not 1 to 6
-  unknownKind : (r .kind < 1) ⊎ (6 < r .kind) → Condition earlier S r 3
-  outsideRange : OutOfRange r → Condition earlier S r 4
-  nothingThere : NotThere S r → Condition earlier S r 5
-  rowAgain : RowRepeated earlier r → Condition earlier S r 6
-  variableAsLiteral : LiteralOnVariable S r → Condition earlier S r 7
-  unfitSigns : SignsUnfit S r → Condition earlier S r 8
-  largeResult : ResultOver S r → Condition earlier S r 9
+  unknownKind : (r .kind < 1) ⊎ (6 < r .kind) → Condition S r 3
+  outsideRange : OutOfRange r → Condition S r 4
+  nothingThere : NotThere S r → Condition S r 5
+  variableAsLiteral : LiteralOnVariable S r → Condition S r 7
+  unfitSigns : SignsUnfit S r → Condition S r 8
+  largeResult : ResultOver S r → Condition S r 9
   -- symbols differ: in the outlines, or in a pair that unification takes up
-  clashingOutlines : OutlinesClash S r → Condition earlier S r 10
-  clashing : StepFails S r clash → Condition earlier S r 10
+  clashingOutlines : OutlinesClash S r → Condition S r 10
+  clashing : StepFails S r clash → Condition S r 10
   -- the variable occurs in what it would be bound to
-  occurring : StepFails S r occurs → Condition earlier S r 11
+  occurring : StepFails S r occurs → Condition S r 11
   -- work 16,385 would begin
-  overworking : StepFails S r overwork → Condition earlier S r 12
+  overworking : StepFails S r overwork → Condition S r 12
   -- a binding is to be added and 8,192 are held
-  overfull : StepFails S r full → Condition earlier S r 13
+  overfull : StepFails S r full → Condition S r 13

@@ -3,12 +3,13 @@ use mathlib.Core.Path.{_≡_}
 use mathlib.Core.Logic.{_⊎_}
 use mathlib.Core.Bool.{Bool, true}
 use mathlib.Core.Option.{some}
-use mathlib.Core.List.{List, [], _∷_}
+use mathlib.Core.List.{List, [], _∷_, map}
 use Prim.Native.Nat.{ℕ, _+_, _*_, _≤_, _<_}
 use lib.ListN.{length, getD, take, drop}
 use Rattle.record.specs.Record.{pick, Record, records, fieldA, fieldB, fieldC, fieldD}
 use Rattle.unification.specs.Environment.{follow, Binding, Ends}
-use Rattle.unification.specs.Row.{variable, application, Expression, Variable, writtenOut}
+use Rattle.unification.specs.Repeated.{IsEarliest}
+use Rattle.unification.specs.Row.{variable, Row, application, Expression, Variable, writtenOut}
 use Rattle.unification.specs.Term.{Term, apply}
 use Rattle.unification.specs.Unification.{mostLinks}
 use Rattle.unification.specs.Unifier.{TermPair, Unifies, NoUnifier}
@@ -68,15 +69,25 @@ pub record Demand1 (file : List ℕ) (tables : Tables) : Type 0 where
 
 -- ── Demand 2: the textbook's resolution, and refusals only where they are due ──
 
+-- Row q is the earliest that equals row r (document 02, Q-2), and the record that the table of rows has for a new row w: that of the earliest equal
+-- row, and where no row equals it the record k itself.
+pub record EarliestEqual (S : State) (r q : ℕ) : Type 0 where
+  pub earliest : IsEarliest (rowsOf S) q
+  pub equals : rowOf S q ≡ rowOf S r
+
+pub data RecordOfRow (S : State) (k : ℕ) (w : Row) : ℕ → Type 0 where
+  ownRecord : ((q : ℕ) → q < length (S .rows) → ¬ (rowOf S q ≡ w)) → RecordOfRow S k w k
+  earliestRecord : {q j : ℕ} → IsEarliest (rowsOf S) q → rowOf S q ≡ w → entry (map (λ u. u .0) (S .rows)) q ≡ some j → RecordOfRow S k w j
+
 -- What a record that stands adds to the state, as the table of kinds has it: a symbol with its arity; a row; an input clause with its
--- literals, each 2 × row, plus 1 if positive; the clause of a step, over its parents.
+-- literals, each 2 × row, plus 1 if positive; the clause of a step, over its parents. Arguments and literals are on earliest rows.
 pub data Adds (S : State) (k : ℕ) (r : Record) (T : State) : Type 0 where
   addsSymbol : r .kind ≡ 1 → T ≡ withSymbol S k (r .count) → Adds S k r T
-  addsVariable : r .kind ≡ 2 → T ≡ withRow S k (variable (fieldA r)) → Adds S k r T
-  addsApplication : {xs : List ℕ} → r .kind ≡ 3 → length xs ≡ r .count → ((i : ℕ) → i < r .count → getD xs i 0 ≡ fieldNumbered r (1 + i))
-      → T ≡ withRow S k (application (fieldA r) xs) → Adds S k r T
+  addsVariable : {j : ℕ} → r .kind ≡ 2 → RecordOfRow S k (variable (fieldA r)) j → T ≡ withRow S j (variable (fieldA r)) → Adds S k r T
+  addsApplication : {xs : List ℕ} {j : ℕ} → r .kind ≡ 3 → length xs ≡ r .count → ((i : ℕ) → i < r .count → EarliestEqual S (fieldNumbered r (1 + i)) (getD xs i 0))
+      → RecordOfRow S k (application (fieldA r) xs) j → T ≡ withRow S j (application (fieldA r) xs) → Adds S k r T
   addsInput : {ls : List RowLiteral} → r .kind ≡ 4 → length ls ≡ r .count
-      → ((i : ℕ) (l : RowLiteral) → numbered ls (1 + i) ≡ some l → 2 * l .1 + pick (l .0) 1 0 ≡ fieldNumbered r i)
+      → ((i : ℕ) (l : RowLiteral) → numbered ls (1 + i) ≡ some l → (row : ℕ) × (2 * row + pick (l .0) 1 0 ≡ fieldNumbered r i) × EarliestEqual S row (l .1))
       → T ≡ withClause S k (input (nextClause S) ls) → Adds S k r T
   addsResolvent : {left right : Derivation} {l m : Literal} {bs : List Binding} → Resolves S r left right l m
       → T ≡ withClause S k (resolve (nextClause S) left (fieldB r) right (fieldD r) bs) → Adds S k r T
@@ -121,7 +132,7 @@ pub data StandsOrLimit (S : State) (k : ℕ) (r : Record) : Type 0 where
 pub data ConditionAt (file : List ℕ) (tables : Tables) : (number k : ℕ) → Type 0 where
   ofLength : LengthUnfit file → ConditionAt file tables 1 0
   ofTables : TableShort tables → ConditionAt file tables 2 0
-  ofRecord : {number k : ℕ} {S : State} {r : Record} → Reached file k S r → Condition (take k (records file)) S r number → ConditionAt file tables number k
+  ofRecord : {number k : ℕ} {S : State} {r : Record} → Reached file k S r → Condition S r number → ConditionAt file tables number k
 
 -- It does, and that of no lower number holds, of whatever it may be.
 pub record Due (file : List ℕ) (tables : Tables) (number k : ℕ) : Type 0 where
@@ -162,12 +173,12 @@ pub record Demand2 (Y : Type 0) (file : List ℕ) (tables : Tables) : Type 0 whe
       → (τ : Variable → Term Y) → Unifies τ pairs → StandsOrLimit S k r
   -- (d) No record and no file is refused unless the condition stated for the number given holds of it, and none with a lower number.
   pub recordDue : (k : ℕ) (S : State) (r : Record) (reason : Reason) → Reached file k S r → step S k r ≡ refused reason
-      → Condition (take k (records file)) S r (reasonNumber reason) × ((other : ℕ) → Condition (take k (records file)) S r other → reasonNumber reason ≤ other)
+      → Condition S r (reasonNumber reason) × ((other : ℕ) → Condition S r other → reasonNumber reason ≤ other)
   pub refusals : (reason : Reason) (k : ℕ) → check file (lengthsOf tables) .verdict ≡ refusal reason k → Due file tables (reasonNumber reason) k
   pub statedNumbers : (reason : Reason) (k : ℕ) → check file (lengthsOf tables) .verdict ≡ refusal reason k
-      → OneOf (reasonNumber reason) (1 ∷ 2 ∷ 3 ∷ 4 ∷ 5 ∷ 6 ∷ 7 ∷ 8 ∷ 9 ∷ 10 ∷ 11 ∷ 12 ∷ 13 ∷ [])
+      → OneOf (reasonNumber reason) (1 ∷ 2 ∷ 3 ∷ 4 ∷ 5 ∷ 7 ∷ 8 ∷ 9 ∷ 10 ∷ 11 ∷ 12 ∷ 13 ∷ [])
   -- Where a condition holds, the record is refused, and the file too, with a number no higher.
-  pub recordRefused : (k : ℕ) (S : State) (r : Record) → Reached file k S r → (number : ℕ) → Condition (take k (records file)) S r number
+  pub recordRefused : (k : ℕ) (S : State) (r : Record) → Reached file k S r → (number : ℕ) → Condition S r number
       → (reason : Reason) × (step S k r ≡ refused reason) × (reasonNumber reason ≤ number)
   pub fileRefused : (number k : ℕ) → ConditionAt file tables number k → (reason : Reason) × (j : ℕ) × (check file (lengthsOf tables) .verdict ≡ refusal reason j) × (reasonNumber reason ≤ number)
   -- (e) With length and tables as stated, a file is accepted exactly if every record stands and some clause is empty; it is open exactly if

@@ -8,5 +8,6 @@ pub mod Readout
 pub mod Conditions
 pub mod Demands
 pub mod Outlines
+pub mod Repeats
 pub mod Cases
 pub mod Edges

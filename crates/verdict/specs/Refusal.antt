@@ -8,14 +8,14 @@ use lib.Dec.{eqb, leb, ltb}
 use lib.ListN.{length, take, drop}
 use Rattle.record.specs.Record.{Record, otherKind, Kind, symbolKind, variableKind, applicationKind, inputKind, resolveKind, factorKind, kindNumbered, fieldA, fieldB, fieldC, fieldD}
 use Rattle.unification.specs.Outlines.{outlinesClash}
-use Rattle.unification.specs.Row.{variable, Row, application, noSymbol}
+use Rattle.unification.specs.Row.{variable, Row, application}
 use Rattle.unification.specs.Unification.{Failure, failureNumber, clash}
 use Rattle.derivation.specs.Derivation.{literals, Literal, RowLiteral, inputLiterals, Derivation, resolve, factor, numbered, maximumIndex}
 use Rattle.verdict.specs.State.{State, rowsOf, arityOf, clauseOf, rowOf, nextClause}
 
--- Reasons 1 to 9. What unification gives is in the crate unification.
+-- Reasons 1 to 9; 6, a repeated row, is not given any more (document 02, Q-2). What unification gives is in the crate unification.
 pub data Reason : Type 0 where
-  badLength shortTable badKind outOfRange notThere repeatedRow variableLiteral wrongSigns tooLarge : Reason
+  badLength shortTable badKind outOfRange notThere variableLiteral wrongSigns tooLarge : Reason
   unification : Failure → Reason
 
 abbrev pub reasonNumber : Reason → ℕ
@@ -24,7 +24,6 @@ reasonNumber shortTable = 2
 reasonNumber badKind = 3
 reasonNumber outOfRange = 4
 reasonNumber notThere = 5
-reasonNumber repeatedRow = 6
 reasonNumber variableLiteral = 7
 reasonNumber wrongSigns = 8
 reasonNumber tooLarge = 9
@@ -100,33 +99,6 @@ literalRowsThere S r = allBelow (length (rowsOf S)) (map (λ l. l .1) (inputLite
 abbrev pub bothThere : Option (Derivation × Literal) → Option (Derivation × Literal) → Bool
 bothThere x y = isThere x && isThere y
 
--- The row that a record of kind 2 or 3 declares; records of other kinds declare none.
-abbrev pub newRow : Kind → Record → Row
-newRow variableKind r = variable (fieldA r)
-newRow applicationKind r = application (fieldA r) (argumentRows r)
-newRow symbolKind r = application noSymbol []
-newRow inputKind r = application noSymbol []
-newRow resolveKind r = application noSymbol []
-newRow factorKind r = application noSymbol []
-newRow otherKind r = application noSymbol []
-
--- 6: the row differs from every earlier row.
-abbrev pub equalLists : List ℕ → List ℕ → Bool
-equalLists [] [] = true
-equalLists [] (y ∷ ys) = false
-equalLists (x ∷ xs) [] = false
-equalLists (x ∷ xs) (y ∷ ys) = eqb x y && equalLists xs ys
-
-abbrev pub equalRows : Row → Row → Bool
-equalRows (variable v) (variable w) = eqb v w
-equalRows (variable v) (application t ys) = false
-equalRows (application s xs) (variable w) = false
-equalRows (application s xs) (application t ys) = eqb s t && equalLists xs ys
-
-abbrev pub differsFromAll : Row → List Row → Bool
-differsFromAll w [] = true
-differsFromAll w (u ∷ us) = not (equalRows u w) && differsFromAll w us
-
 -- 7: no literal's row is a variable.
 abbrev pub isApplication : Row → Bool
 isApplication (variable v) = false
@@ -170,12 +142,10 @@ factorFits S r = onBoth (λ x y. resultFits (factor (nextClause S) (x .0) (field
 abbrev pub tests : State → Kind → Record → List (Bool × Reason)
 tests S symbolKind r = (inRange symbolKind r, outOfRange) ∷ []
 tests S variableKind r =
-    (inRange variableKind r, outOfRange)
-    ∷ (differsFromAll (newRow variableKind r) (rowsOf S), repeatedRow) ∷ []
+    (inRange variableKind r, outOfRange) ∷ []
 tests S applicationKind r =
     (inRange applicationKind r, outOfRange)
-    ∷ (argumentsThere S r, notThere)
-    ∷ (differsFromAll (newRow applicationKind r) (rowsOf S), repeatedRow) ∷ []
+    ∷ (argumentsThere S r, notThere) ∷ []
 tests S inputKind r =
     (inRange inputKind r, outOfRange)
     ∷ (literalRowsThere S r, notThere)

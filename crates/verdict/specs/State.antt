@@ -5,11 +5,12 @@ use Prim.Native.Nat.{ℕ, _+_}
 use lib.Dec.{eqb}
 use lib.ListN.{length}
 use Rattle.record.specs.Record.{pick}
+use Rattle.unification.specs.Repeated.{earliestEqual, orSame, earliestRow}
 use Rattle.unification.specs.Row.{Row, rowAt, termAt}
 use Rattle.unification.specs.Term.{Term}
 use Rattle.derivation.specs.Derivation.{Derivation, ownBindings}
 
--- Symbols with their arities, rows, and clauses, each with the number of its record.
+-- Symbols with their arities, rows, and clauses, each with the number of its record; a repeated row with that of the earliest equal one.
 pub record State : Type 0 where
   pub symbols : List (ℕ × ℕ)
   pub rows : List (ℕ × Row)
@@ -59,6 +60,14 @@ rowOf S r = rowAt (rowsOf S) r
 
 abbrev pub termOf : State → ℕ → Term ℕ
 termOf S r = termAt (rowsOf S) r
+
+-- Document 02, Q-2: a row is taken as the earliest equal one, wherever it is named; and the record that the table of rows has for a new row, that of
+-- the earliest equal one or, where there is none, its own.
+abbrev pub earliestOf : State → ℕ → ℕ
+earliestOf S r = earliestRow (rowsOf S) r
+
+abbrev pub recordOfRow : State → ℕ → Row → ℕ
+recordOfRow S k w = elim (earliestEqual w (rowsOf S)) [ none ↦ k | some q ↦ orSame k (entry (map (λ u. u .0) (S .rows)) q) ]
 
 -- How many bindings the clauses hold: the sum of what their steps added.
 abbrev pub bindingsOf : List Derivation → ℕ

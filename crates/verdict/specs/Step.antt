@@ -1,14 +1,15 @@
 -- Document 01, "Verdict, tables and refusals": one record on a state, and all records of a file.
 use mathlib.Core.Bool.{Bool, true, false}
 use mathlib.Core.Option.{Option, none, some}
-use mathlib.Core.List.{List, [], _∷_}
+use mathlib.Core.List.{List, [], _∷_, map}
 use Prim.Native.Nat.{ℕ, suc}
-use Rattle.record.specs.Record.{Record, otherKind, Kind, symbolKind, variableKind, applicationKind, inputKind, resolveKind, factorKind, fieldB, fieldC, fieldD}
+use Rattle.record.specs.Record.{Record, otherKind, Kind, symbolKind, variableKind, applicationKind, inputKind, resolveKind, factorKind, fieldA, fieldB, fieldC, fieldD}
 use Rattle.unification.specs.Environment.{Binding}
+use Rattle.unification.specs.Row.{variable, Row, application}
 use Rattle.unification.specs.Unification.{unify, Outcome, unified, failed}
-use Rattle.derivation.specs.Derivation.{input, Literal, inputLiterals, Derivation, resolve, factor, raise, maximumIndex, joined, lookup}
-use Rattle.verdict.specs.Refusal.{tests, outlineTests, Reason, unification, badKind, notThere, kindOfRecord, leftOf, rightOf, deletedOf, newRow}
-use Rattle.verdict.specs.State.{State, withSymbol, withRow, withClause, rowOf, held, nextClause}
+use Rattle.derivation.specs.Derivation.{input, Literal, RowLiteral, inputLiterals, Derivation, resolve, factor, raise, maximumIndex, joined, lookup}
+use Rattle.verdict.specs.Refusal.{tests, outlineTests, Reason, unification, badKind, notThere, kindOfRecord, leftOf, rightOf, deletedOf, argumentRows}
+use Rattle.verdict.specs.State.{State, withSymbol, withRow, withClause, rowOf, earliestOf, recordOfRow, held, nextClause}
 
 -- A record that stands gives the next state; a refused one its reason.
 pub data Result : Type 0 where
@@ -43,12 +44,24 @@ onNamed step none y = refused notThere
 onNamed step (some x) none = refused notThere
 onNamed step (some x) (some y) = step x y
 
+-- Document 02, Q-2: here, where a record is entered, every row that it names is taken as the earliest equal one, the arguments of an application
+-- and the rows of an input clause's literals. Nothing else ever sees a repeated row.
+abbrev pub newApplication : State → Record → Row
+newApplication S r = application (fieldA r) (map (earliestOf S) (argumentRows r))
+
+abbrev pub newLiterals : State → Record → List RowLiteral
+newLiterals S r = map (λ l. (l .0, earliestOf S (l .1))) (inputLiterals r)
+
+-- A row with the record that the table of rows has for it.
+abbrev pub enterRow : State → ℕ → Row → Result
+enterRow S k w = stands (withRow S (recordOfRow S k w) w)
+
 -- What a record that has passed all tests adds.
 abbrev pub enter : State → ℕ → Kind → Record → Result
 enter S k symbolKind r = stands (withSymbol S k (r .count))
-enter S k variableKind r = stands (withRow S k (newRow variableKind r))
-enter S k applicationKind r = stands (withRow S k (newRow applicationKind r))
-enter S k inputKind r = stands (withClause S k (input (nextClause S) (inputLiterals r)))
+enter S k variableKind r = enterRow S k (variable (fieldA r))
+enter S k applicationKind r = enterRow S k (newApplication S r)
+enter S k inputKind r = stands (withClause S k (input (nextClause S) (newLiterals S r)))
 enter S k resolveKind r =
     onNamed (λ x y. addClause S k (resolve (nextClause S) (x .0) (fieldB r) (y .0) (fieldD r)) (unifyResolve S x y)) (leftOf S r) (rightOf S r)
 enter S k factorKind r =

@@ -18,7 +18,7 @@ pub record Tables : Type 0 where
 abbrev pub lengthsOf : Tables → Lengths
 lengthsOf t = record { symbols = length (t .symbols); rows = length (t .rows); clauses = length (t .clauses); bindings = length (t .bindings) }
 
--- The record of each symbol and of each row.
+-- The record of each symbol and of each row; for a repeated row, that of the earliest equal one.
 abbrev pub symbolCells : State → List ℕ
 symbolCells S = reverse (map (λ s. s .0) (S .symbols))
 

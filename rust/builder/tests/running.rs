@@ -1,11 +1,14 @@
 //! The running builder beside the second implementation: each step's literals, or its refusal.
 
+use std::collections::HashSet;
+
 use yestrwyn_builder::{neg, pos, BuildError, Clause, Derived, Row, RunningBuilder, Standing, Symbol, Value};
 use yestrwyn_second::checker::Checker;
 use yestrwyn_second::readout;
+use yestrwyn_types::limits::RECORD_BYTES;
 use yestrwyn_types::record::{kind, read, Record};
 use yestrwyn_vectors::examples::{cases, deep, edges, published, refusals, Example};
-use yestrwyn_vectors::{clashing_file, damage, random_file, random_file_of};
+use yestrwyn_vectors::{clashing_file, damage, random_file, random_file_of, repeating_file};
 
 /// A file's records given to the running builder one by one, as far as its types can say them.
 #[derive(Default)]
@@ -83,22 +86,26 @@ impl Replay {
     }
 }
 
+/// The lines of a file's clauses in its readout, without their numbers.
+fn clause_lines(file: &[u8]) -> Vec<String> {
+    let text = String::from_utf8(readout(file)).expect("text");
+    text.lines().skip(1).map(|line| line.splitn(3, ' ').nth(2).unwrap_or("").to_string()).collect()
+}
+
 /// Runs a file up to its first refused record, and compares every line; returns how many steps there
 /// were and how many of them were refused.
 fn same(name: &str, file: &[u8]) -> (usize, usize) {
     let mut replay = Replay::default();
-    for number in 0.. {
-        let Some(record) = read(file, number) else { break };
-        if !replay.record(&record) {
-            break;
-        }
+    let mut records = 0;
+    while read(file, records).is_some_and(|record| replay.record(&record)) {
+        records += 1;
     }
-    let text = String::from_utf8(readout(replay.running.bytes())).expect("text");
-    let lines: Vec<&str> =
-        text.lines().skip(1).map(|line| line.splitn(3, ' ').nth(2).unwrap_or("")).collect();
-    assert_eq!(replay.text(), lines, "{name}");
-    let standing = replay.running.bytes();
-    assert_eq!(standing, &file[..standing.len()], "{name}");
+    let (written, standing) = (replay.running.bytes(), &file[..RECORD_BYTES * usize::from(records)]);
+    assert_eq!(replay.text(), clause_lines(standing), "{name}");
+    // A row that is written again is none of the builder's, which has the same clauses all the same.
+    assert_eq!(clause_lines(written), clause_lines(standing), "{name}");
+    let rows: HashSet<Row> = replay.rows.iter().copied().collect();
+    assert!(rows.len() < replay.rows.len() || written == standing, "{name}");
     (replay.steps, replay.refused)
 }
 
@@ -148,6 +155,13 @@ fn clashing_files() {
         refused += same(&format!("clashing {seed}"), &clashing_file(seed)).1;
     }
     assert!(refused > 800, "{refused} refused");
+}
+
+#[test]
+fn files_with_repeated_rows() {
+    for seed in 0..1000 {
+        same(&format!("repeating {seed}"), &repeating_file(seed));
+    }
 }
 
 #[test]

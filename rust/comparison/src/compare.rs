@@ -6,7 +6,7 @@ use std::fmt;
 use yestrwyn::exported::check_numbers;
 use yestrwyn_types::{Tables, ANSWER_CELLS, LENGTHS};
 use yestrwyn_vectors::random::SplitMix64;
-use yestrwyn_vectors::{clashing_file, damage, random_file, random_file_of};
+use yestrwyn_vectors::{clashing_file, damage, random_file, random_file_of, repeating_file};
 
 use crate::services::Services;
 
@@ -128,11 +128,12 @@ pub(crate) fn differ(part: &'static str, proved: &[u16], second: &[u16]) -> Resu
     Err(Difference { part, cell, proved: proved[cell], second: second[cell] })
 }
 
-/// The file of a number within a run: random files, damaged ones, longer ones, clashing ones and any bytes.
+/// The file of a number within a run: random files, damaged ones, longer ones, clashing ones, ones with repeated
+/// rows, and any bytes.
 pub fn file_of(seed: u64) -> Vec<u8> {
     let mut random = SplitMix64::new(seed);
     let own = random.next_u64();
-    match random.below(18) {
+    match random.below(20) {
         0..=6 => random_file(own),
         7..=10 => damage(&random_file(own), random.next_u64()),
         11 | 12 => damage(&damage(&random_file(own), random.next_u64()), random.next_u64()),
@@ -140,6 +141,8 @@ pub fn file_of(seed: u64) -> Vec<u8> {
         14 => damage(&random_file_of(own, random.between(60, 300)), random.next_u64()),
         15 => clashing_file(own),
         16 => damage(&clashing_file(own), random.next_u64()),
+        17 => repeating_file(own),
+        18 => damage(&repeating_file(own), random.next_u64()),
         _ => any_bytes(&mut random),
     }
 }

@@ -3,7 +3,7 @@
 use std::fs;
 use std::path::Path;
 
-use yestrwyn_vectors::examples::{cases, deep, edges, Example};
+use yestrwyn_vectors::examples::{cases, deep, edges, repeats, Example};
 use yestrwyn_vectors::sketch::{app, neg, pos, var, FileBuilder};
 
 /// The files by what they do.
@@ -16,6 +16,7 @@ pub fn measured() -> Vec<Example> {
         Example::new("3,900 steps that unify two terms of 4,096 leaves", leaves(12)),
         Example::new("3,900 steps that compare 4,096 pairs of outlines", leaves(11)),
         Example::new("4,095 rows", edges::many_rows(4095).finish()),
+        Example::new("one row written 4,093 times", repeats::one_row(4093)),
     ]
 }
 

@@ -74,23 +74,40 @@ fn expected(file: &[u8], second: &Lent, before: [Vec<u16>; 2]) -> [Vec<u16>; 2] 
         None | Some([2, 1 | 2, ..]) => before,
         Some(answer) => {
             let (row_count, clause_count) = (usize::from(answer[4]), usize::from(answer[5]));
-            let rows = rows.iter().take(row_count);
+            let rows = &rows[..row_count];
             let clauses = clauses.iter().step_by(5).take(clause_count);
-            let cells = |record: &u16| cells_of(file, usize::from(*record));
+            let earliest = earliest_rows(file, rows);
+            let cells = |record: &u16| cells_of(file, usize::from(*record), &earliest);
             let mut parts: [Vec<u16>; 2] =
-                [rows.flat_map(cells).collect(), clauses.flat_map(cells).collect()];
+                [rows.iter().flat_map(cells).collect(), clauses.flat_map(cells).collect()];
             parts.iter_mut().zip(&before).for_each(|(part, before)| part.resize(before.len(), 0));
             parts
         }
     }
 }
 
-/// The eight cells of a row or a clause: what it is, and the seven fields of its record.
-fn cells_of(file: &[u8], record: usize) -> [u16; PART] {
+/// For each row the number of the earliest that equals it, whose record the row table holds.
+fn earliest_rows(file: &[u8], rows: &[u16]) -> Vec<u16> {
+    let records = file.chunks_exact(RECORD_BYTES).zip(0u16..);
+    let own: Vec<u16> =
+        records.filter(|(bytes, _)| matches!(bytes[0], 2 | 3)).map(|(_, record)| record).collect();
+    rows.iter().map(|record| own.partition_point(|earlier| earlier < record) as u16).collect()
+}
+
+/// The eight cells of a row or a clause: what it is, and the seven fields of its record, in which each row is
+/// replaced by the earliest that equals it.
+fn cells_of(file: &[u8], record: usize, earliest: &[u16]) -> [u16; PART] {
     let bytes = &file[RECORD_BYTES * record..RECORD_BYTES * (record + 1)];
     let mut cells = [0; PART];
     for (cell, field) in cells.iter_mut().zip(bytes.chunks_exact(2)) {
         *cell = u16::from_le_bytes([field[0], field[1]]);
+    }
+    let count = usize::from(bytes[1]);
+    let replaced = |row: u16| earliest[usize::from(row)];
+    match bytes[0] {
+        3 => cells[2..2 + count].iter_mut().for_each(|row| *row = replaced(*row)),
+        4 => cells[1..=count].iter_mut().for_each(|code| *code = 2 * replaced(*code / 2) + *code % 2),
+        _ => {}
     }
     cells[0] = match bytes[0] {
         // A variable; an application, by its arguments.

@@ -5,7 +5,7 @@ use yestrwyn_types::record::{kind, Record};
 use yestrwyn_types::{Answer, Reason, Verdict};
 
 use crate::clause::{literal, Clause, Literal, Loader, Origin};
-use crate::distinct::Distinct;
+use crate::earliest::Earliest;
 use crate::environment::Environment;
 use crate::expression::{Binding, Expression, Node};
 use crate::outline::Outlines;
@@ -25,7 +25,7 @@ pub struct Checker {
     symbols: Vec<Symbol>,
     row_records: Vec<u16>,
     nodes: Vec<Node>,
-    distinct: Distinct,
+    earliest: Earliest,
     clauses: Vec<Clause>,
     bindings: Vec<Binding>,
     empty: Option<u16>,
@@ -74,12 +74,12 @@ impl Checker {
         &self.symbols
     }
 
-    /// The record of each row that stands.
+    /// For each row that stands its record, or that of the earliest row that equals it.
     pub fn row_records(&self) -> &[u16] {
         &self.row_records
     }
 
-    /// The rows that stand.
+    /// The rows that stand, each with the earliest rows for its arguments.
     pub fn nodes(&self) -> &[Node] {
         &self.nodes
     }
@@ -130,7 +130,8 @@ impl Checker {
         let number = record.fields[0];
         let in_range = record.count == 0 && usize::from(number) < VARIABLES;
         require(in_range && record.zero_from(1), Reason::Range)?;
-        self.row(record, Node::Variable(number))
+        self.row(record, Node::Variable(number));
+        Ok(())
     }
 
     /// Kind 3: a row that is an application of a symbol to earlier rows.
@@ -138,30 +139,36 @@ impl Checker {
         let count = usize::from(record.count);
         require(record.count <= ARITY && record.zero_from(1 + count), Reason::Range)?;
         let symbol = record.fields[0];
-        let arguments = &record.fields[1..1 + count];
         let known = self.symbols.get(usize::from(symbol)).is_some_and(|known| known.arity == record.count);
-        let rows = self.nodes.len();
-        require(known && arguments.iter().all(|&row| usize::from(row) < rows), Reason::Missing)?;
-        self.row(record, Node::application(symbol, arguments))
-    }
-
-    /// Adds a row that is new as a record.
-    fn row(&mut self, record: &Record, node: Node) -> Result<(), Reason> {
-        require(self.distinct.insert(&record.to_bytes()), Reason::Repeated)?;
-        self.row_records.push(self.records);
-        self.nodes.push(node);
+        require(known, Reason::Missing)?;
+        let mut replaced = *record;
+        for argument in &mut replaced.fields[1..1 + count] {
+            *argument = self.earliest.of(*argument).ok_or(Reason::Missing)?;
+        }
+        self.row(&replaced, Node::application(symbol, &replaced.fields[1..1 + count]));
         Ok(())
     }
 
-    /// Kind 4: an input clause.
+    /// Adds a row, its arguments replaced. One that equals an earlier row gets that row's record.
+    fn row(&mut self, replaced: &Record, node: Node) {
+        let earliest = self.earliest.add(replaced);
+        let record = self.row_records.get(usize::from(earliest)).copied().unwrap_or(self.records);
+        self.row_records.push(record);
+        self.nodes.push(node);
+    }
+
+    /// Kind 4: an input clause, of which each literal is on the earliest row.
     fn input(&mut self, record: &Record) -> Result<(), Reason> {
         let count = usize::from(record.count);
         require(record.count <= INPUT_LITERALS && record.zero_from(count), Reason::Range)?;
-        let atoms = || record.fields[..count].iter().map(|code| self.nodes.get(usize::from(code / 2)));
-        require(atoms().all(|node| node.is_some()), Reason::Missing)?;
-        let no_variable = atoms().all(|node| !matches!(node, Some(Node::Variable(_))));
-        require(no_variable, Reason::VariableLiteral)?;
-        self.clause(Origin::Input(record.fields), u16::from(record.count), 1, self.bindings.len());
+        let mut codes = record.fields;
+        for code in &mut codes[..count] {
+            *code = 2 * self.earliest.of(*code / 2).ok_or(Reason::Missing)? + *code % 2;
+        }
+        let is_variable =
+            |code: &u16| matches!(self.nodes.get(usize::from(code / 2)), Some(Node::Variable(_)));
+        require(!codes[..count].iter().any(is_variable), Reason::VariableLiteral)?;
+        self.clause(Origin::Input(codes), u16::from(record.count), 1, self.bindings.len());
         Ok(())
     }
 

@@ -6,7 +6,7 @@ use crate::expression::{Binding, Expression};
 /// Where a clause comes from. Clauses are named by number, always a smaller one.
 #[derive(Clone, Copy, PartialEq, Eq, Debug)]
 pub enum Origin {
-    /// The fields of an input clause: 2 × row, plus 1 if positive.
+    /// The literals of an input clause: 2 × row, plus 1 if positive, where the row is the earliest of its equals.
     Input([u16; 7]),
     /// The resolvent on two literals.
     Resolve { left: u16, left_literal: u16, right: u16, right_literal: u16 },

@@ -10,7 +10,7 @@
 pub mod check;
 pub mod checker;
 pub mod clause;
-pub mod distinct;
+pub mod earliest;
 pub mod environment;
 pub mod expression;
 pub mod filling;

@@ -114,7 +114,10 @@ fn i_a_literal_on_a_variable_row() {
 
 #[test]
 fn j_one_variable_declared_twice() {
-    assert_eq!(outcome(&case_j()).answer.numbers(), [2, 6, 1, 0, 1, 0, 0]);
+    let j = outcome(&case_j());
+    assert_eq!(j.answer.numbers(), [0, 0, 0, 0, 2, 0, 0]);
+    assert_eq!(j.used()[1], [0, 0], "both rows have the record of the first");
+    assert_eq!(text(&j), "open\n");
 }
 
 #[test]

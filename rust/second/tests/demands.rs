@@ -8,7 +8,7 @@ use reference::{Clause as Shared, Expr, From, Reference, Row};
 use textbook::{canonical, factor, resolvent, size, unsatisfiable, Clause, Term};
 use yestrwyn_vectors::examples::{cases, published};
 use yestrwyn_vectors::outcome::outcome;
-use yestrwyn_vectors::{clashing_file, random_file};
+use yestrwyn_vectors::{clashing_file, random_file, repeating_file};
 
 /// Terms larger than this are not written out.
 const LARGEST: usize = 3000;
@@ -17,7 +17,7 @@ const LARGEST: usize = 3000;
 fn value(state: &Reference, clause: &Shared, at: Expr, room: &mut usize) -> Option<Term> {
     *room = room.checked_sub(1)?;
     let (row, index) = state.follow(clause, at);
-    match &state.rows[usize::from(row)].1 {
+    match &state.taken(row) {
         Row::Variable(_) => Some(Term::Variable(usize::from(row) * 4097 + usize::from(index))),
         Row::Application(symbol, arguments) => {
             let inner: Option<Vec<Term>> =
@@ -138,6 +138,15 @@ fn clashing_files() {
     let refused = (0..600).filter(|&seed| hold(&format!("clashing {seed}"), &clashing_file(seed)).1).count();
     // Many atoms of these files are too large to be written out.
     assert!(refused > 150, "{refused} refusals compared");
+}
+
+#[test]
+fn files_with_repeated_rows() {
+    let mut compared = 0;
+    for seed in 0..600 {
+        compared += hold(&format!("repeating {seed}"), &repeating_file(seed)).0;
+    }
+    assert!(compared > 6000, "{compared} clauses compared");
 }
 
 #[test]

@@ -9,7 +9,7 @@ use yestrwyn_second::expression::Node;
 use yestrwyn_second::outline::Outlines;
 use yestrwyn_vectors::examples::{cases, edges, outlines, published, refusals};
 use yestrwyn_vectors::outcome::outcome;
-use yestrwyn_vectors::{clashing_file, damage, random_file, random_file_of};
+use yestrwyn_vectors::{clashing_file, damage, random_file, random_file_of, repeating_file};
 
 /// Rows of a test, numbered as they are added.
 #[derive(Default)]
@@ -137,7 +137,7 @@ fn atoms_agree(name: &str, file: &[u8]) {
         (0..state.clauses.len()).flat_map(|clause| state.literals(clause)).map(|(_, (row, _))| row).collect();
     atoms.sort();
     atoms.dedup();
-    let nodes: Vec<Node> = state.rows.iter().map(|(_, row, _)| node(row)).collect();
+    let nodes: Vec<Node> = (0..state.rows.len() as u16).map(|row| node(&state.taken(row))).collect();
     let mut outlines = Outlines::default();
     for (&left, &right) in atoms.iter().flat_map(|left| atoms.iter().map(move |right| (left, right))) {
         let outline = state.outline(left, right);
@@ -154,6 +154,7 @@ fn all_atoms_of_random_files() {
     for seed in 0..1000 {
         atoms_agree(&format!("random {seed}"), &random_file(seed));
         atoms_agree(&format!("clashing {seed}"), &clashing_file(seed));
+        atoms_agree(&format!("repeating {seed}"), &repeating_file(seed));
     }
     for seed in 0..20 {
         atoms_agree(&format!("long {seed}"), &random_file_of(seed, 200));
@@ -184,6 +185,7 @@ fn only_11_12_and_13_become_10_in_random_files() {
     for seed in 0..3000 {
         altered(&format!("random {seed}"), &random_file(seed));
         altered(&format!("damaged {seed}"), &damage(&random_file(seed), seed));
+        altered(&format!("repeating {seed}"), &repeating_file(seed));
     }
     for seed in 0..100 {
         altered(&format!("long {seed}"), &random_file_of(seed, 150));

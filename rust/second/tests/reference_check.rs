@@ -6,7 +6,7 @@ use reference::Reference;
 use yestrwyn_vectors::examples::{cases, deep, edges, published, refusals, Example};
 use yestrwyn_vectors::outcome::outcome;
 use yestrwyn_vectors::random::random_file_of;
-use yestrwyn_vectors::{clashing_file, damage, random_file};
+use yestrwyn_vectors::{clashing_file, damage, random_file, repeating_file};
 
 /// Answer, all table cells, works and readout agree.
 fn agree(name: &str, file: &[u8]) {
@@ -83,5 +83,13 @@ fn clashing_files() {
     for seed in 0..1500 {
         agree(&format!("clashing {seed}"), &clashing_file(seed));
         agree(&format!("clashing {seed}, damaged"), &damage(&clashing_file(seed), seed));
+    }
+}
+
+#[test]
+fn files_with_repeated_rows() {
+    for seed in 0..2000 {
+        agree(&format!("repeating {seed}"), &repeating_file(seed));
+        agree(&format!("repeating {seed}, damaged"), &damage(&repeating_file(seed), seed));
     }
 }

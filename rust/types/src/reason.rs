@@ -18,7 +18,8 @@ pub enum Reason {
     Range,
     /// A symbol, row, clause or literal that does not exist, or an argument count that is not the arity.
     Missing,
-    /// A row equal to an earlier row.
+    /// A row equal to an earlier row. No check gives this any more, since such a row is taken as the earlier one;
+    /// the number stays reserved, so that an answer stored by an earlier version can still be read.
     Repeated,
     /// A literal whose row is a variable.
     VariableLiteral,

@@ -6,7 +6,7 @@ use crate::limits::{BINDING_CELLS, CLAUSE_CELLS, ROW_CELLS, SYMBOL_CELLS};
 pub struct Tables<'a> {
     /// For each symbol its record; at least 4,096 cells.
     pub symbols: &'a mut [u16],
-    /// For each row its record; at least 4,096 cells.
+    /// For each row its record, or that of the earliest row that equals it; at least 4,096 cells.
     pub rows: &'a mut [u16],
     /// For each clause its record, number of literals, maximum index, first binding and number of
     /// bindings; at least 20,480 cells.
@@ -33,7 +33,7 @@ pub const LENGTHS: [usize; 4] = [SYMBOL_CELLS, ROW_CELLS, CLAUSE_CELLS, BINDING_
 pub struct Cells {
     /// For each symbol its record.
     pub symbols: Vec<u16>,
-    /// For each row its record.
+    /// For each row its record, or that of the earliest row that equals it.
     pub rows: Vec<u16>,
     /// For each clause five cells.
     pub clauses: Vec<u16>,

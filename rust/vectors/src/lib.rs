@@ -8,9 +8,11 @@ pub mod clashing;
 pub mod examples;
 pub mod outcome;
 pub mod random;
+pub mod repeating;
 pub mod shapes;
 pub mod sketch;
 pub mod stored;
 
 pub use clashing::clashing_file;
 pub use random::{damage, random_file, random_file_of};
+pub use repeating::repeating_file;

@@ -78,7 +78,8 @@ struct Maker {
     functions: Vec<(u16, u8)>,
     atoms: Vec<u16>,
     terms: Vec<u16>,
-    refused: bool,
+    /// Is all that comes now written, whether it stands or not?
+    careless: bool,
 }
 
 impl Maker {
@@ -92,7 +93,7 @@ impl Maker {
             functions: Vec::new(),
             atoms: Vec::new(),
             terms: Vec::new(),
-            refused: false,
+            careless: false,
         }
     }
 
@@ -101,21 +102,26 @@ impl Maker {
         usize::from(self.file.records()) < self.wanted
     }
 
-    /// Should a refused record be written? Once in `n` times; in long files much more seldom.
+    /// Should a record be written that is refused, or a row again? Once in `n` times; in long files much more seldom.
     fn keep(&mut self, n: usize) -> bool {
         self.random.one_in(if self.wanted > 60 { n * self.wanted } else { n })
     }
 
-    /// Writes a record if it stands. A refused one ends the meaningful part of the file and is written
-    /// only if `keep`, or at times if a variable would have occurred in its own value.
+    /// Writes a record if it stands and is no row that is there already. Any other is written only if `keep`, or at
+    /// times if a variable would have occurred in its own value; it ends the part of the file that is looked
+    /// after, and all that comes after it is written.
     fn write(&mut self, kind: u8, count: u8, given: &[u16], keep: bool) -> Option<u16> {
         let record = Record::new(kind, count, given);
+        let again = self.file.has_row(&record);
+        if again && !keep && !self.careless {
+            return None;
+        }
         let result = self.checker.record(&record.to_bytes());
-        if result.is_ok() && !self.refused {
+        if result.is_ok() && !again && !self.careless {
             return Some(self.file.raw(record));
         }
-        if keep || self.refused || (self.occurs(&record, result) && self.keep(4)) {
-            self.refused = true;
+        if keep || self.careless || (self.occurs(&record, result) && self.keep(4)) {
+            self.careless = true;
             self.file.raw(record);
         }
         None

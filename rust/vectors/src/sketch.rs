@@ -122,6 +122,11 @@ impl FileBuilder {
         own
     }
 
+    /// Has a row with the same bytes been written?
+    pub fn has_row(&self, record: &Record) -> bool {
+        self.shared.contains_key(record)
+    }
+
     /// A record of some kind with the fields given from `a` on and zeros after them.
     pub fn fields(&mut self, kind: u8, count: u8, given: &[u16]) -> u16 {
         self.raw(Record::new(kind, count, given))

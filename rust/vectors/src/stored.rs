@@ -8,6 +8,7 @@ use crate::clashing::clashing_file;
 use crate::examples::{cases, deep, edges, published, refusals, Example};
 use crate::outcome::{outcome, Outcome};
 use crate::random::{damage, random_file, random_file_of};
+use crate::repeating::repeating_file;
 
 /// Tables with at most this many used cells are written in full.
 const CELLS_IN_FULL: usize = 400;
@@ -15,9 +16,10 @@ const CELLS_IN_FULL: usize = 400;
 const READOUT_IN_FULL: usize = 4096;
 /// At most this many works are written in full.
 const WORKS_IN_FULL: usize = 400;
-/// Number of random files, of those made to clash, and of longer ones.
+/// Number of random files, of those made to clash, of those with repeated rows, and of longer ones.
 const RANDOM_FILES: u64 = 1000;
 const CLASHING_FILES: u64 = 40;
+const REPEATING_FILES: u64 = 20;
 const LONG_FILES: u64 = 40;
 
 /// A group of vectors: the name of its two files, and the proof files in order.
@@ -60,10 +62,16 @@ fn repository() -> &'static Path {
     package.ancestors().nth(2).unwrap_or(package)
 }
 
-/// Random files, then files made to clash.
+/// Random files, then files made to clash, then files with repeated rows.
 fn random_examples() -> Vec<Example> {
-    let clashing = |seed: u64| Example::new(&format!("clashing-{seed}"), clashing_file(seed));
-    (0..RANDOM_FILES).map(random_example).chain((0..CLASHING_FILES).map(clashing)).collect()
+    let mut all: Vec<Example> = (0..RANDOM_FILES).map(random_example).collect();
+    all.extend(
+        (0..CLASHING_FILES).map(|seed| Example::new(&format!("clashing-{seed}"), clashing_file(seed))),
+    );
+    all.extend(
+        (0..REPEATING_FILES).map(|seed| Example::new(&format!("repeating-{seed}"), repeating_file(seed))),
+    );
+    all
 }
 
 /// The random file of a seed; each fourth one is damaged with the same seed.

@@ -59,22 +59,23 @@ fn the_vectors_are_small() {
     let paths = |name| [pack_path(name), results_path(name)];
     let total: usize =
         groups().iter().flat_map(|group| paths(group.name)).map(|path| stored(path).len()).sum();
-    assert!(total < 3_600_000, "{total} bytes");
+    assert!(total < 4_000_000, "{total} bytes");
 }
 
 #[test]
-fn every_reason_but_2_has_vectors() {
-    // Reason 2 depends on the caller's tables, not on the file.
+fn every_reason_but_2_and_6_has_vectors() {
+    // Reason 2 depends on the caller's tables, not on the file; 6 is never given.
     let text: String = groups().iter().map(expected).collect();
     let answers: Vec<Vec<&str>> = text
         .lines()
         .filter(|line| line.starts_with("answer"))
         .map(|line| line.split(' ').collect())
         .collect();
-    for reason in (1..=13).filter(|&reason| reason != 2) {
+    for reason in 1..=13 {
         let number = reason.to_string();
         let count = answers.iter().filter(|answer| answer[1] == "2" && answer[2] == number).count();
-        assert!(count >= 3, "{count} vectors are refused with {reason}");
+        let right = if [2, 6].contains(&reason) { count == 0 } else { count >= 3 };
+        assert!(right, "{count} vectors are refused with {reason}");
     }
     assert!(answers.iter().filter(|answer| answer[1] == "1").count() > 200);
     assert!(answers.iter().filter(|answer| answer[1] == "0").count() > 200);

@@ -1,18 +1,14 @@
 //! A slow check by the words of the format description, which shares no code with the library: every
 //! variable is looked up by recursion through the parents, literals are listed by recursion, and so are
-//! outlines compared. It can also check without outlines, for what these alter.
+//! outlines compared. Rows are kept as the file has them; what each is taken as is found where it is used. It
+//! can also check without outlines, for what these alter.
 #![allow(dead_code)]
 
 mod outlines;
+mod rows;
 
 pub use outlines::Outline;
-
-/// What a record of a row says.
-#[derive(Clone, Debug, PartialEq)]
-pub enum Row {
-    Variable(u16),
-    Application(u16, Vec<u16>),
-}
+pub use rows::Row;
 
 /// Where a clause comes from; literals count from 1.
 #[derive(Clone, Debug)]
@@ -37,7 +33,8 @@ pub struct Reference {
     /// Are steps unified at once, as if they had no outlines?
     only_unify: bool,
     pub symbols: Vec<(u16, u8)>,
-    pub rows: Vec<(u16, Row, Vec<u8>)>,
+    /// Rows as written, each with its record and the earliest row that equals it.
+    pub rows: Vec<(u16, Row, u16)>,
     pub clauses: Vec<Clause>,
     pub refusal: Option<(u16, u16)>,
     pub works: Vec<(u16, u32)>,
@@ -122,10 +119,8 @@ impl Reference {
             }
             Row::Application(symbol, arguments)
         };
-        if self.rows.iter().any(|(_, _, earlier)| earlier == bytes) {
-            return Err(6);
-        }
-        self.rows.push((at, row, bytes.to_vec()));
+        let earliest = self.earliest_equal(&row);
+        self.rows.push((at, row, earliest));
         Ok(())
     }
 
@@ -198,7 +193,9 @@ impl Reference {
     /// Literals of a clause: sign and expression.
     pub fn literals(&self, clause: usize) -> Vec<(bool, Expr)> {
         match &self.clauses[clause].from {
-            From::Input(literals) => literals.iter().map(|&(sign, row)| (sign, (row, 1))).collect(),
+            From::Input(literals) => {
+                literals.iter().map(|&(sign, row)| (sign, (self.earliest(row), 1))).collect()
+            }
             &From::Factor(parent, _, deleted) => {
                 let mut all = self.literals(parent);
                 all.remove(deleted - 1);
@@ -307,7 +304,8 @@ impl Reference {
             bindings.extend(clause.own.iter().flatten());
         }
         let symbols = self.symbols.iter().map(|symbol| symbol.0).collect();
-        [symbols, self.rows.iter().map(|row| row.0).collect(), clauses, bindings]
+        let rows = self.rows.iter().map(|&(_, _, earliest)| self.rows[usize::from(earliest)].0).collect();
+        [symbols, rows, clauses, bindings]
     }
 
     /// The readout, each literal written out first, up to many more occurrences than are shown.
@@ -337,7 +335,7 @@ impl Reference {
             return String::new();
         }
         let (row, index) = self.follow(clause, at);
-        match &self.rows[usize::from(row)].1 {
+        match &self.taken(row) {
             Row::Variable(number) => format!("v{number}.{index}"),
             Row::Application(symbol, arguments) if arguments.is_empty() => format!("s{symbol}"),
             Row::Application(symbol, arguments) => {
@@ -373,8 +371,7 @@ impl Walk<'_> {
         if left == right {
             return Ok(());
         }
-        let rows = &self.state.rows;
-        match (&rows[usize::from(left.0)].1, &rows[usize::from(right.0)].1) {
+        match (&self.state.taken(left.0), &self.state.taken(right.0)) {
             (Row::Variable(_), _) => self.bind(left, right),
             (_, Row::Variable(_)) => self.bind(right, left),
             (Row::Application(f, ls), Row::Application(g, rs)) => {
@@ -403,7 +400,7 @@ impl Walk<'_> {
     fn occurs(&mut self, variable: Expr, within: Expr) -> Result<bool, u16> {
         self.begin()?;
         let at = self.state.follow(&self.clause, within);
-        match &self.state.rows[usize::from(at.0)].1 {
+        match &self.state.taken(at.0) {
             Row::Variable(_) => Ok(at == variable),
             Row::Application(_, arguments) => {
                 for &row in arguments {

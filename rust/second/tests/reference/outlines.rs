@@ -30,8 +30,7 @@ impl Reference {
         if left == right {
             return Outline::Agree;
         }
-        let rows = &self.rows;
-        match (&rows[usize::from(left)].1, &rows[usize::from(right)].1) {
+        match (&self.taken(left), &self.taken(right)) {
             (Row::Application(f, _), Row::Application(g, _)) if f != g => Outline::Clash,
             (Row::Application(_, ls), Row::Application(_, rs)) => {
                 let mut pairs = ls.iter().zip(rs).map(|(&l, &r)| self.outline_pair(l, r, taken));
@@ -52,7 +51,7 @@ impl Reference {
         if !seen.insert((left, right)) {
             return false;
         }
-        match (&self.rows[usize::from(left)].1, &self.rows[usize::from(right)].1) {
+        match (&self.taken(left), &self.taken(right)) {
             (Row::Application(f, ls), Row::Application(g, rs)) => {
                 f != g || ls.iter().zip(rs).any(|(&l, &r)| self.place_below(l, r, seen))
             }

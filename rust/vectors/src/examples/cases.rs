@@ -1,12 +1,19 @@
-//! The case sheet of the format description, under its letters.
+//! The case sheet of the format description, under its letters; then more files like case J.
 
 use yestrwyn_types::record::kind;
 
-use super::Example;
+use super::{repeats, Example};
 use crate::sketch::{app, neg, pos, var, FileBuilder, SignedTerm};
 
 /// All cases that are files. Case L is a unification in a given environment and is tested as one.
 pub fn examples() -> Vec<Example> {
+    let mut all = sheet();
+    all.extend(repeats::cases());
+    all
+}
+
+/// The sheet itself.
+fn sheet() -> Vec<Example> {
     vec![
         Example::new("A", case_a()),
         Example::new("B", Vec::new()),

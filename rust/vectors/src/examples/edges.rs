@@ -4,7 +4,7 @@ use yestrwyn_types::limits::BINDINGS;
 use yestrwyn_types::record::kind;
 
 use super::cases::case_k;
-use super::{outlines, Example};
+use super::{outlines, repeats, Example};
 use crate::sketch::{app, apply, neg, pos, var, FileBuilder, SignedTerm, Term};
 
 /// All of them.
@@ -17,6 +17,7 @@ pub fn examples() -> Vec<Example> {
     all.extend(occurrences());
     all.extend(counts());
     all.extend(outlines::edges());
+    all.extend(repeats::edges());
     all
 }
 

@@ -9,6 +9,7 @@ pub mod heavy;
 pub mod kowalski;
 pub mod outlines;
 pub mod refusals;
+pub mod repeats;
 pub mod resolution_rules;
 pub mod structure_sharing;
 

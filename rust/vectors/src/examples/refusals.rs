@@ -2,7 +2,7 @@
 
 use yestrwyn_types::record::{kind, Record};
 
-use super::{outlines, Example};
+use super::{outlines, repeats, Example};
 use crate::sketch::{app, neg, pos, var, FileBuilder, Term};
 
 /// Each is a standing file and one more record, which is refused with the reason in its name.
@@ -15,6 +15,7 @@ pub fn examples() -> Vec<Example> {
     all.extend(unifications());
     all.extend(unused_bytes());
     all.extend(outlines::refusals());
+    all.extend(repeats::refusals());
     all
 }
 
@@ -60,7 +61,7 @@ fn kinds() -> Vec<Example> {
     ]
 }
 
-/// Reasons 4, 5 and 6 of rows.
+/// Reasons 4 and 5 of rows. One that is there already stands as well as any other.
 fn rows() -> Vec<Example> {
     use kind::{APPLICATION as APP, VARIABLE as VAR};
     vec![
@@ -68,8 +69,8 @@ fn rows() -> Vec<Example> {
         with("4-variable-64", VAR, 0, [64, 0, 0, 0, 0, 0, 0]),
         with("4-variable-byte-1", VAR, 1, [2, 0, 0, 0, 0, 0, 0]),
         with("4-variable-field-b", VAR, 0, [2, 1, 0, 0, 0, 0, 0]),
-        with("4-before-6-variable", VAR, 0, [0, 0, 0, 0, 0, 0, 1]),
-        with("6-variable", VAR, 0, [1, 0, 0, 0, 0, 0, 0]),
+        with("4-variable-again", VAR, 0, [0, 0, 0, 0, 0, 0, 1]),
+        with("stands-variable-again", VAR, 0, [1, 0, 0, 0, 0, 0, 0]),
         with("stands-application", APP, 2, [0, 5, 5, 0, 0, 0, 0]),
         with("4-application-7-arguments", APP, 7, [0, 5, 5, 5, 5, 5, 5]),
         with("4-application-unused", APP, 2, [0, 5, 5, 5, 0, 0, 0]),
@@ -80,8 +81,8 @@ fn rows() -> Vec<Example> {
         with("5-application-row-of-itself", APP, 1, [1, 9, 0, 0, 0, 0, 0]),
         with("5-application-too-few", APP, 1, [0, 5, 0, 0, 0, 0, 0]),
         with("5-application-too-many", APP, 1, [2, 5, 0, 0, 0, 0, 0]),
-        with("6-application", APP, 2, [0, 5, 6, 0, 0, 0, 0]),
-        with("6-constant", APP, 0, [2, 0, 0, 0, 0, 0, 0]),
+        with("stands-application-again", APP, 2, [0, 5, 6, 0, 0, 0, 0]),
+        with("stands-constant-again", APP, 0, [2, 0, 0, 0, 0, 0, 0]),
     ]
 }
 

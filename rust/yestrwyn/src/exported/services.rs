@@ -31,11 +31,13 @@ extern "C" {
 
 /// The arrays of a workspace, lent. What they hold before a call does not matter.
 pub struct Arrays<'a> {
-    /// Afterwards eight cells for each row that stands, then zeros: 1 and the number of a variable; or 2
-    /// plus the number of arguments, the symbol and the arguments.
+    /// Afterwards eight cells for each row that stands, then zeros: 1 and the number of a variable; 2 plus
+    /// the number of arguments, the symbol and the arguments, each the earliest row that equals it; or 0 and
+    /// the earliest equal row, for a row that repeats it.
     pub nodes: &'a mut Nodes,
     /// Afterwards eight cells for each clause that stands, then zeros: 1 for an input clause, 2 for a
-    /// factoring step or 3 for a resolution step, and the seven fields of its record.
+    /// factoring step or 3 for a resolution step, and the seven fields of its record; the literals of an
+    /// input clause are on the earliest rows that equal theirs.
     pub origins: &'a mut Origins,
     /// Afterwards anything.
     pub values: &'a mut Values,

@@ -1,4 +1,5 @@
-use Rattle.checker.proofs.RecordLaws.{symbols-few, rows-few, clauses-few, input-asked, step-asked, symbol-done, variable-done, application-done, input-done, step-done, other-done}
+use mathlib.Core.Path.{refl}
+use Rattle.checker.proofs.RecordLaws.{symbols-few, rows-few, clauses-few, input-asked, step-asked, symbol-done, variable-done, application-done, input-done, step-done, other-done, with-index}
 use borrow.Author.Needs.{needs}
 use Rattle.checker.proofs.reader.read_record.Statement.{statement}
 use Rattle.checker.proofs.reader.read_record.Tie as tie
@@ -21,41 +22,41 @@ kind-requires c κs = search needs
 
 symbol-record-requires : tie.Need-symbol-record-requires
 symbol-record-requires c κs =
-    symbols-few (c .before .before .before .before .before .before .before .before .before .pre)
+    symbols-few (c .before .before .before .before .before .before .before .before .before .pre .0)
 
 variable-record-requires : tie.Need-variable-record-requires
 variable-record-requires c κs =
-    rows-few (c .before .before .before .before .before .before .before .before .before .before .pre)
+    rows-few (c .before .before .before .before .before .before .before .before .before .before .before .before .pre .0) _ _ (c .before .before .before .before .before .before .before .before .before .before .before .before .pre .1)
 
 application-record-requires : tie.Need-application-record-requires
 application-record-requires c κs =
-    rows-few (c .before .before .before .before .before .before .before .before .before .before .before .pre)
+    rows-few (c .before .before .before .before .before .before .before .before .before .before .before .before .before .pre .0) _ _ (c .before .before .before .before .before .before .before .before .before .before .before .before .before .pre .1)
 
 input-record-requires : tie.Need-input-record-requires
 input-record-requires c κs =
-    (input-asked (c .before .before .before .before .before .before .before .before .before .before .before .pre) _ (c .before .before .before .before .before .record-part .ensures) _ (c .before .before .before .before .kind .ensures) (c .before .before .before .match .keys4), clauses-few (c .before .before .before .before .before .before .before .before .before .before .before .pre))
+    (input-asked (c .before .before .before .before .before .before .before .before .before .before .before .pre .0) _ (c .before .before .before .before .before .record-part .ensures) _ (c .before .before .before .before .kind .ensures) (c .before .before .before .match .keys4), clauses-few (c .before .before .before .before .before .before .before .before .before .before .before .pre .0))
 
 resolve-record-requires : tie.Need-resolve-record-requires
 resolve-record-requires c κs =
-    step-asked (c .before .before .before .before .before .before .before .before .before .before .before .before .before .pre) _ (c .before .before .before .before .before .before .before .record-part .ensures) _ (c .before .before .before .before .before .before .kind .ensures) 5 (c .before .before .before .before .before .match .keys5)
+    step-asked (c .before .before .before .before .before .before .before .before .before .before .before .before .before .pre .0) _ (c .before .before .before .before .before .before .before .record-part .ensures) _ (c .before .before .before .before .before .before .kind .ensures) 5 (c .before .before .before .before .before .match .keys5)
 
 factor-record-requires : tie.Need-factor-record-requires
 factor-record-requires c κs =
-    step-asked (c .before .before .before .before .before .before .before .before .before .before .before .before .before .pre) _ (c .before .before .before .before .before .before .before .record-part .ensures) _ (c .before .before .before .before .before .before .kind .ensures) 6 (c .before .before .before .before .before .match .keys6)
+    step-asked (c .before .before .before .before .before .before .before .before .before .before .before .before .before .pre .0) _ (c .before .before .before .before .before .before .before .record-part .ensures) _ (c .before .before .before .before .before .before .kind .ensures) 6 (c .before .before .before .before .before .match .keys6)
 
 same-length : tie.Need-same-length
 same-length c = search needs
 
 returns : tie.Need-returns
 returns c =
-    symbol-done (c .before .before .before .before .before .before .before .before .before .before .before .before .pre) _ (c .before .before .before .before .before .before .record-part .ensures) _ (c .before .before .before .before .before .kind .ensures) (c .before .before .before .before .match .keys1) _ _ (c .before .before .symbol-record .ensures)
+    with-index (c .before .before .before .before .before .before .before .before .before .before .before .before .pre .0) _ (c .before .before .before .before .before .before .record-part .ensures) _ (c .before .before .before .before .before .kind .ensures) 1 (c .before .before .before .before .match .keys1) (λ S r. refl) _ _ (c .before .before .before .before .before .before .before .before .before .before .before .before .pre .1) _ _ _ _ (symbol-done (c .before .before .before .before .before .before .before .before .before .before .before .before .pre .0) _ (c .before .before .before .before .before .before .record-part .ensures) _ (c .before .before .before .before .before .kind .ensures) (c .before .before .before .before .match .keys1) _ _ (c .before .before .symbol-record .ensures))
 
 same-length-2 : tie.Need-same-length-2
 same-length-2 c = search needs
 
 returns-2 : tie.Need-returns-2
 returns-2 c =
-    variable-done (c .before .before .before .before .before .before .before .before .before .before .before .before .before .pre) _ (c .before .before .before .before .before .before .before .record-part .ensures) _ (c .before .before .before .before .before .before .kind .ensures) (c .before .before .before .before .before .match .keys2) _ _ _ (c .before .before .variable-record .ensures .0)
+    (variable-done (c .before .before .before .before .before .before .before .before .before .before .before .before .before .before .before .pre .0) _ (c .before .before .before .before .before .before .before .before .before .record-part .ensures) _ (c .before .before .before .before .before .before .before .before .kind .ensures) (c .before .before .before .before .before .before .before .match .keys2) _ _ _ (c .before .before .variable-record .ensures .0), c .before .before .variable-record .ensures .1)
 
 same-length-3 : tie.Need-same-length-3
 same-length-3 c = search needs
@@ -65,14 +66,14 @@ same-length-4 c = search needs
 
 returns-3 : tie.Need-returns-3
 returns-3 c =
-    application-done (c .before .before .before .before .before .before .before .before .before .before .before .before .before .before .pre) _ (c .before .before .before .before .before .before .before .before .record-part .ensures) _ (c .before .before .before .before .before .before .before .kind .ensures) (c .before .before .before .before .before .before .match .keys3) _ _ _ (c .before .before .application-record .ensures .0)
+    (application-done (c .before .before .before .before .before .before .before .before .before .before .before .before .before .before .before .before .pre .0) _ (c .before .before .before .before .before .before .before .before .before .before .record-part .ensures) _ (c .before .before .before .before .before .before .before .before .before .kind .ensures) (c .before .before .before .before .before .before .before .before .match .keys3) _ _ _ (c .before .before .application-record .ensures .0), c .before .before .application-record .ensures .1)
 
 same-length-5 : tie.Need-same-length-5
 same-length-5 c = search needs
 
 returns-4 : tie.Need-returns-4
 returns-4 c =
-    input-done (c .before .before .before .before .before .before .before .before .before .before .before .before .before .before .pre) _ (c .before .before .before .before .before .before .before .before .record-part .ensures) _ (c .before .before .before .before .before .before .before .kind .ensures) (c .before .before .before .before .before .before .match .keys4) _ _ _ (c .before .before .input-record .ensures .0)
+    with-index (c .before .before .before .before .before .before .before .before .before .before .before .before .before .before .pre .0) _ (c .before .before .before .before .before .before .before .before .record-part .ensures) _ (c .before .before .before .before .before .before .before .kind .ensures) 4 (c .before .before .before .before .before .before .match .keys4) (λ S r. refl) _ _ (c .before .before .before .before .before .before .before .before .before .before .before .before .before .before .pre .1) _ _ _ _ (input-done (c .before .before .before .before .before .before .before .before .before .before .before .before .before .before .pre .0) _ (c .before .before .before .before .before .before .before .before .record-part .ensures) _ (c .before .before .before .before .before .before .before .kind .ensures) (c .before .before .before .before .before .before .match .keys4) _ _ _ (c .before .before .input-record .ensures .0))
 
 same-length-6 : tie.Need-same-length-6
 same-length-6 c = search needs
@@ -82,7 +83,7 @@ same-length-7 c = search needs
 
 returns-5 : tie.Need-returns-5
 returns-5 c =
-    step-done (c .before .before .before .before .before .before .before .before .before .before .before .before .before .before .before .before .before .before .pre) _ (c .before .before .before .before .before .before .before .before .before .before .before .before .record-part .ensures) _ (c .before .before .before .before .before .before .before .before .before .before .before .kind .ensures) _ _ _ _ _ (c .before .before .before .before .resolve-record .ensures)
+    with-index (c .before .before .before .before .before .before .before .before .before .before .before .before .before .before .before .before .before .before .pre .0) _ (c .before .before .before .before .before .before .before .before .before .before .before .before .record-part .ensures) _ (c .before .before .before .before .before .before .before .before .before .before .before .kind .ensures) 5 (c .before .before .before .before .before .before .before .before .before .before .match .keys5) (λ S r. refl) _ _ (c .before .before .before .before .before .before .before .before .before .before .before .before .before .before .before .before .before .before .pre .1) _ _ _ _ (step-done (c .before .before .before .before .before .before .before .before .before .before .before .before .before .before .before .before .before .before .pre .0) _ (c .before .before .before .before .before .before .before .before .before .before .before .before .record-part .ensures) _ (c .before .before .before .before .before .before .before .before .before .before .before .kind .ensures) _ _ _ _ _ (c .before .before .before .before .resolve-record .ensures))
 
 same-length-8 : tie.Need-same-length-8
 same-length-8 c = search needs
@@ -92,11 +93,11 @@ same-length-9 c = search needs
 
 returns-6 : tie.Need-returns-6
 returns-6 c =
-    step-done (c .before .before .before .before .before .before .before .before .before .before .before .before .before .before .before .before .before .before .pre) _ (c .before .before .before .before .before .before .before .before .before .before .before .before .record-part .ensures) _ (c .before .before .before .before .before .before .before .before .before .before .before .kind .ensures) _ _ _ _ _ (c .before .before .before .before .factor-record .ensures)
+    with-index (c .before .before .before .before .before .before .before .before .before .before .before .before .before .before .before .before .before .before .pre .0) _ (c .before .before .before .before .before .before .before .before .before .before .before .before .record-part .ensures) _ (c .before .before .before .before .before .before .before .before .before .before .before .kind .ensures) 6 (c .before .before .before .before .before .before .before .before .before .before .match .keys6) (λ S r. refl) _ _ (c .before .before .before .before .before .before .before .before .before .before .before .before .before .before .before .before .before .before .pre .1) _ _ _ _ (step-done (c .before .before .before .before .before .before .before .before .before .before .before .before .before .before .before .before .before .before .pre .0) _ (c .before .before .before .before .before .before .before .before .before .before .before .before .record-part .ensures) _ (c .before .before .before .before .before .before .before .before .before .before .before .kind .ensures) _ _ _ _ _ (c .before .before .before .before .factor-record .ensures))
 
 returns-7 : tie.Need-returns-7
 returns-7 c =
-    other-done (c .before .before .before .before .before .before .before .before .pre) _ (c .before .before .record-part .ensures) _ (c .before .kind .ensures) (c .match .rest .0 .0 .0 .0 .0 .1) (c .match .rest .0 .0 .0 .0 .1) (c .match .rest .0 .0 .0 .1) (c .match .rest .0 .0 .1) (c .match .rest .0 .1) (c .match .rest .1)
+    (other-done (c .before .before .before .before .before .before .before .before .pre .0) _ (c .before .before .record-part .ensures) _ (c .before .kind .ensures) (c .match .rest .0 .0 .0 .0 .0 .1) (c .match .rest .0 .0 .0 .0 .1) (c .match .rest .0 .0 .0 .1) (c .match .rest .0 .0 .1) (c .match .rest .0 .1) (c .match .rest .1), c .before .before .before .before .before .before .before .before .pre .1)
 
 pub read-record-spec : {M : Type 1} → statement M
 read-record-spec =

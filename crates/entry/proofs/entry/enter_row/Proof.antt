@@ -1,36 +1,35 @@
 -- Each return is a case of the definition.
-use mathlib.Core.Path.{ap, _∙_}
-use mathlib.Core.List.{List, _∷_}
-use Prim.Native.Nat.{ℕ}
-use native.Mathlib.Omega.{arith}
-use lib.ListN.{length}
-use Rattle.entry.specs.Program.{isRepeated, withNode}
-use Rattle.entry.proofs.EntryLaws.{row-repeated, row-new}
+use mathlib.Core.Path.{refl}
+use Rattle.entry.proofs.EntryLaws.{row-findable, row-again, row-new, counted-indexed, again-indexed, new-listable}
 use borrow.Author.Needs.{needs}
 use Rattle.entry.proofs.entry.enter_row.Statement.{statement}
 use Rattle.entry.proofs.entry.enter_row.Tie as tie
 use Rattle.entry.proofs.entry.enter_row.Reads as reads
 use Rattle.entry.proofs.entry.enter_row.Lts as lts
-use Rattle.entry.proofs.rows.is_repeated.Reads as is-repeated-reads
+use Rattle.distinct.proofs.find_row.Reads as find-row-reads
+use Rattle.distinct.proofs.list_row.Reads as list-row-reads
+use Rattle.entry.proofs.entry.more_rows.Reads as more-rows-reads
 use Rattle.entry.proofs.rows.put_cells.Reads as put-cells-reads
-use Rattle.record.proofs.fields.Reads as fields-reads
+use Rattle.tables.proofs.cell.Reads as cell-reads
 use Rattle.tables.proofs.set_cell.Reads as set-cell-reads
 
-fields-requires : tie.Need-fields-requires
-fields-requires c κs = search needs
+find-row-requires : tie.Need-find-row-requires
+find-row-requires c κs =
+    row-findable (c .before .before .before .before .pre)
 
-is-repeated-requires : tie.Need-is-repeated-requires
-is-repeated-requires c κs =
-    (c .before .before .before .before .before .pre .1, (ap length (c .before .before .fields .ensures), omega arith))
+enum-known-found : tie.Need-enum-known-found
+enum-known-found c = search needs
 
-returns : tie.Need-returns
-returns c =
-    let s = c .before .before .before .before .before .before .before .args in
-    (row-repeated (s .part .now) (s .k) (s .code) (s .counts) (s .rows .now) (s .nodes .now) (c .before .is-repeated .ensures ∙ ap (λ (ns : List ℕ). isRepeated (s .nodes .now) (s .counts .rows) (s .code ∷ ns)) (c .before .before .before .before .fields .ensures)) (c .if1 .taken), c .before .before .before .before .before .before .before .pre .1)
+enum-told : tie.Need-enum-told
+enum-told c = search needs
 
 put-cells-requires : tie.Need-put-cells-requires
 put-cells-requires c κs =
-    (c .before .before .before .before .before .before .before .before .before .pre .1, (ap length (c .before .before .before .before .before .before .fields .ensures), c .before .before .before .before .before .before .before .before .before .pre .0))
+    (c .before .before .before .before .before .before .before .before .pre .index .nodes, (c .before .before .before .before .before .before .before .before .pre .seven, c .before .before .before .before .before .before .before .before .pre .room))
+
+list-row-requires : tie.Need-list-row-requires
+list-row-requires c κs =
+    new-listable (c .before .before .before .before .before .before .before .before .before .before .before .before .pre) (c .before .before .before .before .before .before .before .find-row .ensures) (c .before .before .before .before .before .enum-told .given .1) (c .before .before .before .put-cells .ensures .0)
 
 cast-set-cell : tie.Need-cast-set-cell
 cast-set-cell c = search needs
@@ -38,27 +37,65 @@ cast-set-cell c = search needs
 set-cell-requires : tie.Need-set-cell-requires
 set-cell-requires c κs = search needs
 
-add-t19 : tie.Need-add-t19
-add-t19 c = search needs
+more-rows-requires : tie.Need-more-rows-requires
+more-rows-requires c κs =
+    c .before .before .before .before .before .before .before .before .before .before .before .before .before .before .before .before .before .pre .room
 
 same-length : tie.Need-same-length
 same-length c = search needs
 
+returns : tie.Need-returns
+returns c =
+    let s = c .before .before .before .before .before .before .before .before .before .before .before .before .before .before .before .before .before .before .args in
+    (row-new (s .numbers .now) (s .k) (s .code) (s .counts) (s .rows .now) (s .nodes .now) (c .before .before .before .before .before .before .before .before .before .before .before .before .before .find-row .ensures) (c .more-rows .ensures) (c .before .before .before .before .before .before .before .before .before .before .before .enum-told .given .1) (c .before .before .before .before .before .before .before .before .before .put-cells .ensures .0) (c .before .before .before .set-cell .ensures), counted-indexed (s .counts) (c .more-rows .ensures) (c .before .before .before .before .before .list-row .ensures))
+
+cast-cell : tie.Need-cast-cell
+cast-cell c = search needs
+
+cell-requires : tie.Need-cell-requires
+cell-requires c κs = search needs
+
+put-cells-requires-2 : tie.Need-put-cells-requires-2
+put-cells-requires-2 c κs =
+    (c .before .before .before .before .before .before .before .before .before .before .before .before .pre .index .nodes, (refl, c .before .before .before .before .before .before .before .before .before .before .before .before .pre .room))
+
+cast-set-cell-2 : tie.Need-cast-set-cell-2
+cast-set-cell-2 c = search needs
+
+set-cell-requires-2 : tie.Need-set-cell-requires-2
+set-cell-requires-2 c κs = search needs
+
+more-rows-requires-2 : tie.Need-more-rows-requires-2
+more-rows-requires-2 c κs =
+    c .before .before .before .before .before .before .before .before .before .before .before .before .before .before .before .before .before .pre .room
+
+same-length-2 : tie.Need-same-length-2
+same-length-2 c = search needs
+
 returns-2 : tie.Need-returns-2
 returns-2 c =
-    let s = c .before .before .before .before .before .before .before .before .before .before .before .before .before .before .args in
-    (row-new (s .part .now) (s .k) (s .code) (s .counts) (s .rows .now) (s .nodes .now) (c .before .before .before .before .before .before .before .before .is-repeated .ensures ∙ ap (λ (ns : List ℕ). isRepeated (s .nodes .now) (s .counts .rows) (s .code ∷ ns)) (c .before .before .before .before .before .before .before .before .before .before .before .fields .ensures)) (c .before .before .before .before .before .before .before .if1 .left) (c .before .before .before .before .put-cells .ensures .0 ∙ ap (λ (ns : List ℕ). withNode (s .nodes .now) (s .counts .rows) (s .code ∷ ns)) (c .before .before .before .before .before .before .before .before .before .before .before .fields .ensures)) (c .before .before .set-cell .ensures), c .before .before .before .before .put-cells .ensures .1)
+    let s = c .before .before .before .before .before .before .before .before .before .before .before .before .before .before .before .before .before .before .args in
+    (row-again (s .numbers .now) (s .k) (s .code) (s .counts) (s .rows .now) (s .nodes .now) (c .before .before .before .before .before .before .before .before .before .before .before .before .before .find-row .ensures) (c .more-rows2 .ensures) (c .before .before .before .before .before .before .before .before .before .before .before .found .given .1) (c .before .before .before .before .before .before .before .before .cell .ensures) (c .before .before .before .before .before .put-cells2 .ensures .0) (c .before .before .before .set-cell2 .ensures), counted-indexed (s .counts) (c .more-rows2 .ensures) (again-indexed (c .before .before .before .before .before .before .before .before .before .before .before .before .before .before .before .before .before .before .pre) _ (c .before .before .before .before .before .put-cells2 .ensures .0)))
 
 pub enter-row-spec : {M : Type 1} → statement M
 enter-row-spec =
     tie.close
     (tie.spec
-    fields-requires
-    is-repeated-requires
-    returns
+    find-row-requires
+    enum-known-found
+    enum-told
     put-cells-requires
+    list-row-requires
     cast-set-cell
     set-cell-requires
-    add-t19
+    more-rows-requires
     same-length
+    returns
+    cast-cell
+    cell-requires
+    put-cells-requires-2
+    cast-set-cell-2
+    set-cell-requires-2
+    more-rows-requires-2
+    same-length-2
     returns-2)

@@ -1,6 +1,7 @@
 -- Each return is a case of the definition; a record in range has few enough literals to be read.
 use mathlib.Core.Path.{ap, sym, _∙_, subst}
 use mathlib.Core.List.{List, map}
+use native.Mathlib.Omega.{arith}
 use Prim.Native.Nat.{ℕ, _≤_}
 use lib.ListN.{length}
 use Rattle.record.specs.Record.{recordPart, countOf, decoded, inputKind}
@@ -15,6 +16,7 @@ use Rattle.entry.proofs.entry.input_record.Reads as reads
 use Rattle.entry.proofs.entry.input_record.Lts as lts
 use Rattle.entry.proofs.rows.no_variable.Reads as no-variable-reads
 use Rattle.entry.proofs.rows.put_cells.Reads as put-cells-reads
+use Rattle.entry.proofs.rows.taken_literals.Reads as taken-literals-reads
 use Rattle.fields.proofs.input_in_range.Reads as input-in-range-reads
 use Rattle.fields.proofs.literal_rows_below.Reads as literal-rows-below-reads
 use Rattle.record.proofs.clause_literals.Reads as clause-literals-reads
@@ -50,7 +52,7 @@ no-variable-requires : tie.Need-no-variable-requires
 no-variable-requires c κs =
     let s = c .before .before .before .before .before .before .before .args in
     let e = c .before .before .before .input-in-range .ensures ∙ ap (λ (p : List ℕ). inRange inputKind (decoded p)) (c .before .before .before .before .record-part .ensures) in
-    (c .before .before .before .before .before .before .before .pre .1 .1 .0, subst (λ (p : List ℕ). countOf p ≤ 7) (sym (c .before .before .before .before .record-part .ensures)) (input-few (recordPart (s .file .now) (s .k)) (s .k) (s .counts) (s .clauses .now) (s .nodes .now) (s .origins .now) e (c .before .before .if1 .left)))
+    (c .before .before .before .before .before .before .before .pre .1 .1 .0 .room, subst (λ (p : List ℕ). countOf p ≤ 7) (sym (c .before .before .before .before .record-part .ensures)) (input-few (recordPart (s .file .now) (s .k)) (s .k) (s .counts) (s .clauses .now) (s .nodes .now) (s .origins .now) e (c .before .before .if1 .left)))
 
 returns-3 : tie.Need-returns-3
 returns-3 c =
@@ -63,9 +65,13 @@ returns-3 c =
 clause-literals-requires : tie.Need-clause-literals-requires
 clause-literals-requires c κs = search needs
 
+taken-literals-requires : tie.Need-taken-literals-requires
+taken-literals-requires c κs =
+    c .before .before .before .before .before .before .before .before .before .before .before .before .pre .1 .1 .0
+
 put-cells-requires : tie.Need-put-cells-requires
 put-cells-requires c κs =
-    (c .before .before .before .before .before .before .before .before .before .before .before .before .before .pre .1 .1 .1, (ap length (literals-read _ _ (c .before .before .before .clause-literals .ensures) (c .before .before .before .before .before .before .before .before .before .before .before .before .before .pre .0) .1), c .before .before .before .before .before .before .before .before .before .before .before .before .before .pre .1 .0))
+    (c .before .before .before .before .before .before .before .before .before .before .before .before .before .before .before .pre .1 .1 .1, (ap length (c .before .before .taken-literals .ensures), c .before .before .before .before .before .before .before .before .before .before .before .before .before .before .before .pre .1 .0))
 
 cast-put-clause : tie.Need-cast-put-clause
 cast-put-clause c = search needs
@@ -73,20 +79,21 @@ cast-put-clause c = search needs
 put-clause-requires : tie.Need-put-clause-requires
 put-clause-requires c κs = search needs
 
-add-t19 : tie.Need-add-t19
-add-t19 c = search needs
+add-t22 : tie.Need-add-t22
+add-t22 c =
+    omega (arith, c .before .before .before .before .before .before .before .before .before .before .before .before .before .before .before .before .before .before .before .before .before .pre .1 .0)
 
 same-length : tie.Need-same-length
 same-length c = search needs
 
 returns-4 : tie.Need-returns-4
 returns-4 c =
-    let s = c .before .before .before .before .before .before .before .before .before .before .before .before .before .before .before .before .before .before .before .args in
-    let e = c .before .before .before .before .before .before .before .before .before .before .before .before .before .before .before .input-in-range .ensures ∙ ap (λ (p : List ℕ). inRange inputKind (decoded p)) (c .before .before .before .before .before .before .before .before .before .before .before .before .before .before .before .before .record-part .ensures) in
-    let b = c .before .before .before .before .before .before .before .before .before .before .before .before .before .literal-rows-below .ensures ∙ ap (λ (p : List ℕ). allBelow (s .counts .rows) (map (λ (l : RowLiteral). l .1) (inputLiterals (decoded p)))) (c .before .before .before .before .before .before .before .before .before .before .before .before .before .before .before .before .record-part .ensures) in
-    let v = c .before .before .before .before .before .before .before .before .before .before .before .no-variable .ensures ∙ ap (λ (p : List ℕ). noVariable (s .nodes .now) (inputLiterals (decoded p))) (c .before .before .before .before .before .before .before .before .before .before .before .before .before .before .before .before .record-part .ensures) in
-    let r = literals-read (s .file .now) (s .k) (c .before .before .before .before .before .before .before .before .before .clause-literals .ensures) (c .before .before .before .before .before .before .before .before .before .before .before .before .before .before .before .before .before .before .before .pre .0) in
-    (input-in (recordPart (s .file .now) (s .k)) (s .k) (s .counts) (s .clauses .now) (s .nodes .now) (s .origins .now) e (c .before .before .before .before .before .before .before .before .before .before .before .before .before .before .if1 .left) b (c .before .before .before .before .before .before .before .before .before .before .before .before .if2 .left) v (c .before .before .before .before .before .before .before .before .before .before .if3 .left) (r .0) (r .1) (c .before .before .before .before .before .put-cells .ensures .0) (c .before .before .put-clause .ensures), c .before .before .before .before .before .put-cells .ensures .1)
+    let s = c .before .before .before .before .before .before .before .before .before .before .before .before .before .before .before .before .before .before .before .before .before .args in
+    let e = c .before .before .before .before .before .before .before .before .before .before .before .before .before .before .before .before .before .input-in-range .ensures ∙ ap (λ (p : List ℕ). inRange inputKind (decoded p)) (c .before .before .before .before .before .before .before .before .before .before .before .before .before .before .before .before .before .before .record-part .ensures) in
+    let b = c .before .before .before .before .before .before .before .before .before .before .before .before .before .before .before .literal-rows-below .ensures ∙ ap (λ (p : List ℕ). allBelow (s .counts .rows) (map (λ (l : RowLiteral). l .1) (inputLiterals (decoded p)))) (c .before .before .before .before .before .before .before .before .before .before .before .before .before .before .before .before .before .before .record-part .ensures) in
+    let v = c .before .before .before .before .before .before .before .before .before .before .before .before .before .no-variable .ensures ∙ ap (λ (p : List ℕ). noVariable (s .nodes .now) (inputLiterals (decoded p))) (c .before .before .before .before .before .before .before .before .before .before .before .before .before .before .before .before .before .before .record-part .ensures) in
+    let r = literals-read (s .file .now) (s .k) (c .before .before .before .before .before .before .before .before .before .before .before .clause-literals .ensures) (c .before .before .before .before .before .before .before .before .before .before .before .before .before .before .before .before .before .before .before .before .before .pre .0) in
+    (input-in (recordPart (s .file .now) (s .k)) (s .k) (s .counts) (s .clauses .now) (s .nodes .now) (s .origins .now) e (c .before .before .before .before .before .before .before .before .before .before .before .before .before .before .before .before .if1 .left) b (c .before .before .before .before .before .before .before .before .before .before .before .before .before .before .if2 .left) v (c .before .before .before .before .before .before .before .before .before .before .before .before .if3 .left) (r .0) (r .1) (c .before .before .before .before .before .before .before .before .taken-literals .ensures) (c .before .before .before .before .before .put-cells .ensures .0) (c .before .before .put-clause .ensures), c .before .before .before .before .before .put-cells .ensures .1)
 
 pub input-record-spec : {M : Type 1} → statement M
 input-record-spec =
@@ -100,9 +107,10 @@ input-record-spec =
     no-variable-requires
     returns-3
     clause-literals-requires
+    taken-literals-requires
     put-cells-requires
     cast-put-clause
     put-clause-requires
-    add-t19
+    add-t22
     same-length
     returns-4)

@@ -12,6 +12,12 @@ use Rattle.entry.proofs.NodeLaws.{variable-stop, variable-on}
 use borrow.Author.Needs.{needs}
 use Rattle.entry.proofs.rows.no_variable.Statement.{statement}
 use Rattle.entry.proofs.rows.no_variable.Tie as tie
+use Rattle.entry.proofs.rows.no_variable.Reads as reads
+use Rattle.entry.proofs.rows.no_variable.Lts as lts
+use Rattle.entry.proofs.rows.earliest_of.Reads as earliest-of-reads
+use Rattle.following.proofs.nodes.is_variable.Reads as is-variable-reads
+use Rattle.record.proofs.count.Reads as count-reads
+use Rattle.record.proofs.field.Reads as field-reads
 
 abbrev Inv-loop : tie.InvT-loop
 Inv-loop nodes part end i₀ i =
@@ -35,14 +41,18 @@ loop-holds c =
 field-requires : tie.Need-field-requires Inv-loop μ-loop
 field-requires c κs = search needs
 
+earliest-of-requires : tie.Need-earliest-of-requires Inv-loop μ-loop
+earliest-of-requires c κs =
+    c .before .before .before .before .before .pre .0
+
 is-variable-requires : tie.Need-is-variable-requires Inv-loop μ-loop
 is-variable-requires c κs =
-    c .before .before .before .before .before .pre .0
+    c .before .before .before .before .before .before .pre .0
 
 returns : tie.Need-returns Inv-loop μ-loop
 returns c =
-    let s = c .before .before .before .before .before .before .before .args in
-    sym (variable-stop (s .nodes .now) (s .part .now) (c .before .before .before .before .loop .i) _ (c .before .before .before .loop-test .taken) (c .before .before .before .before .loop .inv .0) (c .before .before .field .ensures) (c .before .is-variable .ensures) (c .if1 .taken)) ∙ c .before .before .before .before .loop .inv .1
+    let s = c .before .before .before .before .before .before .before .before .args in
+    sym (variable-stop (s .nodes .now) (s .part .now) (c .before .before .before .before .before .loop .i) _ (c .before .before .before .before .loop-test .taken) (c .before .before .before .before .before .loop .inv .0) (c .before .before .before .field .ensures) (c .before .before .earliest-of .ensures) (c .before .is-variable .ensures) (c .if1 .taken)) ∙ c .before .before .before .before .before .loop .inv .1
 
 add-i : tie.Need-add-i Inv-loop μ-loop
 add-i c = search needs
@@ -52,8 +62,8 @@ loop-less c = search needs
 
 loop-again : tie.Need-loop-again Inv-loop μ-loop
 loop-again c =
-    let s = c .before .before .before .before .before .before .before .args in
-    (c .before .before .before .before .loop .inv .0, sym (variable-on (s .nodes .now) (s .part .now) (c .before .before .before .before .loop .i) _ (c .before .before .before .loop-test .taken) (c .before .before .before .before .loop .inv .0) (c .before .before .field .ensures) (c .before .is-variable .ensures) (c .if1 .left)) ∙ c .before .before .before .before .loop .inv .1)
+    let s = c .before .before .before .before .before .before .before .before .args in
+    (c .before .before .before .before .before .loop .inv .0, sym (variable-on (s .nodes .now) (s .part .now) (c .before .before .before .before .before .loop .i) _ (c .before .before .before .before .loop-test .taken) (c .before .before .before .before .before .loop .inv .0) (c .before .before .before .field .ensures) (c .before .before .earliest-of .ensures) (c .before .is-variable .ensures) (c .if1 .left)) ∙ c .before .before .before .before .before .loop .inv .1)
 
 returns-2 : tie.Need-returns-2 Inv-loop μ-loop
 returns-2 c =
@@ -69,6 +79,7 @@ no-variable-spec =
     count-requires
     loop-holds
     field-requires
+    earliest-of-requires
     is-variable-requires
     returns
     add-i

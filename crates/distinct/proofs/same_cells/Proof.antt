@@ -4,12 +4,12 @@ use mathlib.Core.List.{List, _∷_}
 use Prim.Native.Nat.{ℕ, _+_, _-_, _*_, _≤_, _<_}
 use native.Mathlib.Omega.{arith}
 use lib.ListN.{length, drop}
-use Rattle.verdict.specs.Refusal.{equalLists}
-use Rattle.entry.specs.Program.{nodeAt}
-use Rattle.entry.proofs.NodeLaws.{numbersFrom, code-differs, code-same, number-differs, number-same, numbers-end}
+use Rattle.unification.specs.Repeated.{equalLists}
+use Rattle.distinct.specs.Rows.{nodeAt}
+use Rattle.distinct.proofs.Cells.{numbersFrom, code-differs, code-same, number-differs, number-same, numbers-end}
 use borrow.Author.Needs.{needs}
-use Rattle.entry.proofs.rows.same_node.Statement.{statement}
-use Rattle.entry.proofs.rows.same_node.Tie as tie
+use Rattle.distinct.proofs.same_cells.Statement.{statement}
+use Rattle.distinct.proofs.same_cells.Tie as tie
 
 -- The row's eight cells are inside.
 room : (N : List ℕ) (r : ℕ) → length N ≡ 32768 → r < 4096 → 8 * r + 8 ≤ length N
@@ -66,7 +66,7 @@ returns-2 : tie.Need-returns-2 Inv-loop μ-loop
 returns-2 c =
     let s = c .before .before .before .before .before .before .before .args in
     let p = c .before .before .before .before .before .before .before .pre in
-    sym (number-differs (s .nodes .now) (8 * s .r) (room (s .nodes .now) (s .r) (p .0) (p .1 .1)) (s .code) (s .numbers .now) (p .1 .0) (c .before .before .before .before .loop .i) (c .before .before .before .loop-test .taken) (c .if2 .taken)) ∙ c .before .before .before .before .loop .inv .1
+    sym (number-differs (s .nodes .now) (8 * s .r) (room (s .nodes .now) (s .r) (p .0) (p .1 .1)) (s .code) (s .numbers .now) (p .1 .0) (c .before .before .before .before .loop .i) (omega (arith, c .before .before .before .loop-test .taken)) (c .if2 .taken)) ∙ c .before .before .before .before .loop .inv .1
 
 add-i : tie.Need-add-i Inv-loop μ-loop
 add-i c = search needs
@@ -78,16 +78,16 @@ loop-again : tie.Need-loop-again Inv-loop μ-loop
 loop-again c =
     let s = c .before .before .before .before .before .before .before .args in
     let p = c .before .before .before .before .before .before .before .pre in
-    (omega arith, sym (number-same (s .nodes .now) (8 * s .r) (room (s .nodes .now) (s .r) (p .0) (p .1 .1)) (s .code) (s .numbers .now) (p .1 .0) (c .before .before .before .before .loop .i) (c .before .before .before .loop-test .taken) (c .if2 .left)) ∙ c .before .before .before .before .loop .inv .1)
+    (omega arith, sym (number-same (s .nodes .now) (8 * s .r) (room (s .nodes .now) (s .r) (p .0) (p .1 .1)) (s .code) (s .numbers .now) (p .1 .0) (c .before .before .before .before .loop .i) (omega (arith, c .before .before .before .loop-test .taken)) (c .if2 .left)) ∙ c .before .before .before .before .loop .inv .1)
 
 returns-3 : tie.Need-returns-3 Inv-loop μ-loop
 returns-3 c =
     let s = c .before .before .before .before .args in
     let p = c .before .before .before .before .pre in
-    sym (numbers-end (s .nodes .now) (8 * s .r) (room (s .nodes .now) (s .r) (p .0) (p .1 .1)) (s .code) (s .numbers .now) (p .1 .0) (c .before .loop .i) (c .before .loop .inv .0) (c .loop-test .left)) ∙ c .before .loop .inv .1
+    sym (numbers-end (s .nodes .now) (8 * s .r) (room (s .nodes .now) (s .r) (p .0) (p .1 .1)) (s .code) (s .numbers .now) (p .1 .0) (c .before .loop .i) (c .before .loop .inv .0) (omega (arith, c .loop-test .left))) ∙ c .before .loop .inv .1
 
-pub same-node-spec : {M : Type 1} → statement M
-same-node-spec =
+pub same-cells-spec : {M : Type 1} → statement M
+same-cells-spec =
     tie.close
     (tie.spec
     Inv-loop

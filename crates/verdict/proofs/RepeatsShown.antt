@@ -1,0 +1,57 @@
+-- Document 02, Q-2: a repeated row is the earliest equal one, and what that leaves as it was.
+use mathlib.Core.Path.{_≡_, sym, ap, ap₂, _∙_}
+use mathlib.Core.Bool.{true}
+use mathlib.Core.List.{List, []}
+use Prim.Native.Nat.{ℕ, _%_, _<_}
+use lib.Dec.{eqb, leb, eqb→eq}
+use lib.ListN.{length, take}
+use Rattle.record.specs.Record.{pick, records}
+use Rattle.unification.specs.Term.{Term}
+use Rattle.unification.proofs.Repeats.{earliest-same, same-earliest}
+use Rattle.unification.proofs.Tests.{to-T, both-true}
+use Rattle.verdict.specs.Refusal.{badLength, shortTable}
+use Rattle.verdict.specs.Repeats.{writtenRows, numberTerm, termByNumbers, NoRepeats, readingAsWritten, replacedFile, RepeatedRows}
+use Rattle.verdict.specs.State.{State, emptyState, rowsOf, earliestOf}
+use Rattle.verdict.specs.Step.{read, Ending, allStand}
+use Rattle.verdict.specs.Verdict.{Lengths, fittingLength, longEnough, ending, untouched, readTo, reading}
+use Rattle.verdict.proofs.Replacing.{replaced-length, replaced-ending}
+use Rattle.verdict.proofs.Shared.{shared-start}
+use Rattle.verdict.proofs.Unrepeated.{read-as-written}
+use Rattle.verdict.proofs.WrittenRows.{number-law, equal-terms, ReadSame, no-rows, read-same}
+
+-- Over a state that reading comes to.
+module _ (file : List ℕ) (k : ℕ) (S : State) (q : read emptyState 0 (take k (records file)) ≡ allStand S) where
+  abbrev written : ℕ → Term ℕ
+  written = termByNumbers (writtenRows (take k (records file)))
+
+  there : ReadSame S (writtenRows (take k (records file)))
+  there = read-same emptyState 0 (take k (records file)) [] S (record { shared = shared-start; same = no-rows }) q
+
+  same-term : (p r : ℕ) → p < length (rowsOf S) → r < length (rowsOf S) → earliestOf S p ≡ earliestOf S r → written p ≡ written r
+  same-term p r l m e =
+      let law = number-law (rowsOf S) (there .shared .rowsShared) in
+      sym (there .same .terms p) ∙ law p l ∙ ap (numberTerm (termByNumbers (rowsOf S))) (same-earliest (rowsOf S) p r l m e) ∙ sym (law r m) ∙ there .same .terms r
+
+  same-row : (p r : ℕ) → p < length (rowsOf S) → r < length (rowsOf S) → written p ≡ written r → earliestOf S p ≡ earliestOf S r
+  same-row p r l m e =
+      earliest-same (rowsOf S) p r l m (equal-terms (rowsOf S) (there .shared .rowsShared) p r l m (there .same .terms p ∙ e ∙ sym (there .same .terms r)))
+
+-- What becomes of a file, where its reading comes to one ending.
+unrepeated : (file : List ℕ) → NoRepeats (records file) → (lengths : Lengths) → reading file lengths ≡ readingAsWritten file lengths
+unfolding ending
+unrepeated file n lengths =
+    ap (λ (e : Ending). pick (fittingLength (length file)) (pick (longEnough lengths) (readTo e) (untouched shortTable)) (untouched badLength)) (read-as-written emptyState 0 (records file) n)
+
+replacing : (file : List ℕ) → fittingLength (length file) ≡ true → (lengths : Lengths) → reading (replacedFile file) lengths ≡ reading file lengths
+replacing file f lengths =
+    let p = both-true (leb (length file) 65536) (eqb (length file % 16) 0) f in
+    let whole : length file % 16 ≡ 0 = eqb→eq (length file % 16) 0 (to-T (eqb (length file % 16) 0) (p .1)) in
+    ap₂ (λ (n : ℕ) (e : Ending). pick (fittingLength n) (pick (longEnough lengths) (readTo e) (untouched shortTable)) (untouched badLength)) (replaced-length file whole) (replaced-ending file)
+
+pub repeats-shown : (file : List ℕ) → RepeatedRows file
+repeats-shown file = record {
+  sameTerm = λ k S q p r l m e. same-term file k S q p r l m e;
+  sameRow = λ k S q p r l m e. same-row file k S q p r l m e;
+  unrepeated = unrepeated file;
+  replacing = replacing file;
+}
