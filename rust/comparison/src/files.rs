@@ -17,6 +17,7 @@ pub fn measured() -> Vec<Example> {
         Example::new("3,900 steps that compare 4,096 pairs of outlines", leaves(11)),
         Example::new("4,095 rows", edges::many_rows(4095).finish()),
         Example::new("one row written 4,093 times", repeats::one_row(4093)),
+        Example::new("4,094 rows, of which 3,794 have one hash", one_hash()),
     ]
 }
 
@@ -54,6 +55,32 @@ fn chain() -> Vec<u8> {
         known = file.resolve(known, 2, rule, 1);
     }
     file.finish()
+}
+
+/// Rows f(0,0,0,x,y,z), chosen so that the hash of the proved check (crate `distinct`) puts them into one bucket,
+/// after 300 rows that they can name.
+fn one_hash() -> Vec<u8> {
+    let mut file = FileBuilder::new();
+    let [f, g] = [6, 1].map(|arity| file.symbol(arity));
+    for number in 0..64 {
+        file.variable(number);
+    }
+    for row in 63..299 {
+        file.application(g, &[row]);
+    }
+    let below = |end| 0u16..end;
+    let rows = below(300).flat_map(|x| below(300).flat_map(move |y| below(300).map(move |z| [x, y, z])));
+    for [x, y, z] in rows.filter(|&rows| bucket(rows) == 0).take(3794) {
+        file.application(f, &[0, 0, 0, x, y, z]);
+    }
+    file.finish()
+}
+
+/// The bucket of such a row: its other cells are 8, for six arguments, and zeros.
+fn bucket(rows: [u16; 3]) -> u32 {
+    let weights = [3_153_260_809, 2_745_936_943, 4_180_041_711];
+    let products = rows.iter().zip(weights).map(|(&row, weight)| u32::from(row).wrapping_mul(weight));
+    products.fold(8u32.wrapping_mul(4_031_196_873), u32::wrapping_add) >> 20
 }
 
 /// A full tree of equal leaves: of depth 12 it has 4,096.

@@ -78,8 +78,14 @@ fn expected(file: &[u8], second: &Lent, before: [Vec<u16>; 2]) -> [Vec<u16>; 2] 
             let clauses = clauses.iter().step_by(5).take(clause_count);
             let earliest = earliest_rows(file, rows);
             let cells = |record: &u16| cells_of(file, usize::from(*record), &earliest);
-            let mut parts: [Vec<u16>; 2] =
-                [rows.iter().flat_map(cells).collect(), clauses.flat_map(cells).collect()];
+            let nodes = earliest.iter().zip(0u16..).zip(rows).flat_map(|((first, row), record)| {
+                if *first == row {
+                    cells(record)
+                } else {
+                    cells_of_repeat(*first)
+                }
+            });
+            let mut parts: [Vec<u16>; 2] = [nodes.collect(), clauses.flat_map(cells).collect()];
             parts.iter_mut().zip(&before).for_each(|(part, before)| part.resize(before.len(), 0));
             parts
         }
@@ -92,6 +98,11 @@ fn earliest_rows(file: &[u8], rows: &[u16]) -> Vec<u16> {
     let own: Vec<u16> =
         records.filter(|(bytes, _)| matches!(bytes[0], 2 | 3)).map(|(_, record)| record).collect();
     rows.iter().map(|record| own.partition_point(|earlier| earlier < record) as u16).collect()
+}
+
+/// The eight cells of a row that repeats another: 0, and that row.
+fn cells_of_repeat(first: u16) -> [u16; PART] {
+    [0, first, 0, 0, 0, 0, 0, 0]
 }
 
 /// The eight cells of a row or a clause: what it is, and the seven fields of its record, in which each row is
