@@ -12,13 +12,13 @@ use Rattle.record.specs.Record.{pick}
 use Rattle.unification.specs.Repeated.{equalLists, equalRows, orElse, earliestEqual, orSame, earliestRow, IsEarliest}
 use Rattle.unification.specs.Row.{variable, Row, application, rowAt}
 use Rattle.unification.proofs.Lists.{Each}
-use Rattle.unification.proofs.Rows.{eqb-below}
+use Rattle.unification.proofs.Rows.{eqb-below, below-other}
 use Rattle.unification.proofs.Tests.{to-T, from-T, both-true, true-not-false, some-not-none, some-injective}
 
 equal-number : (a b : ℕ) → eqb a b ≡ true → a ≡ b
 equal-number a b q = eqb→eq a b (to-T (eqb a b) q)
 
-itself : (a : ℕ) → eqb a a ≡ true
+pub itself : (a : ℕ) → eqb a a ≡ true
 itself a = from-T (eqb a a) (eqb-refl a)
 
 -- ── Equality of rows ──
@@ -73,10 +73,7 @@ earliest-none w (u ∷ us) e q l z = try (earliestEqual w us) refl e (λ h m y. 
   where
     at : (b : Bool) → eqb q (length us) ≡ b → equalRows u w ≡ false → (q < length us → ¬ (rowAt us q ≡ w)) → pick b u (rowAt us q) ≡ w → ⊥
     at true p d ih y = true-not-false (ap (λ (x : Row). equalRows x w) y ∙ row-itself w) d
-    at false p d ih y = ih (below q (length us) p l) y
-      where
-        below : (q n : ℕ) → eqb q n ≡ false → q < suc n → q < n
-        below q n p l = let k : ¬ (q ≡ n) = λ h. true-not-false (ap (eqb q) (sym h) ∙ itself q) p in omega arith
+    at false p d ih y = ih (below-other q (length us) p l) y
 
     last : (b : Bool) → equalRows u w ≡ b → _≡_ {A = Option ℕ} (pick b (some (length us)) none) none → (q < length us → ¬ (rowAt us q ≡ w)) → ⊥
     last true d y ih = some-not-none y refl

@@ -53,7 +53,7 @@ eqb-below a n h = try (eqb a n) refl
     try true q = let z : a ≡ n = eqb→eq a n (to-T (eqb a n) q) in absurd (omega arith)
     try false q = refl
 
-below-other : (r n : ℕ) → eqb r n ≡ false → r < suc n → r < n
+pub below-other : (r n : ℕ) → eqb r n ≡ false → r < suc n → r < n
 below-other r n e l = try (eqb r n) e (eq-test r n)
   where
     eq-test : (r n : ℕ) → r ≡ n → eqb r n ≡ true

@@ -5,11 +5,11 @@ use mathlib.Core.List.{List, [], _∷_}
 use Prim.Native.Nat.{ℕ, zero, suc, _+_, _<_}
 use native.Mathlib.Nat.{zero-add, suc-add}
 use native.Mathlib.Omega.{arith}
-use lib.Dec.{eqb, eqb-refl}
+use lib.Dec.{eqb}
 use Rattle.unification.specs.Environment.{follow, Binding, Environment, extend, View, applied, viewRow, onward}
 use Rattle.unification.specs.Row.{Row, application}
 use Rattle.unification.specs.Unification.{turn, overwork, failed, Pair, Task, unifying, goOn, argumentPairs, meet, withoutWork, withWork, run, Reaches, noTurn, oneTurn}
-use Rattle.unification.proofs.Tests.{from-T}
+use Rattle.unification.proofs.Repeats.{itself}
 
 module _ (row : ℕ → Row) (links : ℕ) (isFull : List Binding → Bool) (base : Environment) where
   joined : {m n : ℕ} {s t u : Task} → Reaches row links isFull base m s t → Reaches row links isFull base n t u → Reaches row links isFull base (m + n) s u
@@ -31,9 +31,6 @@ module _ (row : ℕ → Row) (links : ℕ) (isFull : List Binding → Bool) (bas
     seen : (n r k s : ℕ) (xs : List ℕ) → row r ≡ application s xs → follow row n (extend base []) (r, k) ≡ applied s xs (r, k)
     seen zero r k s xs q = ap (λ w. viewRow w (extend base []) (r, k)) q
     seen (suc n) r k s xs q = ap (λ w. onward (λ d. follow row n (extend base []) d) (viewRow w (extend base []) (r, k))) q
-
-    itself : (n : ℕ) → eqb n n ≡ true
-    itself n = from-T (eqb n n) (eqb-refl n)
 
     met : (r s : ℕ) (xs : List ℕ) → row r ≡ application s xs → (ps : List Pair) → turn row links isFull base (unifying [] (((r, i), (r, j)) ∷ ps)) ≡ goOn (unifying [] (argumentPairs xs i xs j ps))
     met r s xs q ps = ap₂ (λ v w. meet v w [] ps) (seen links r i s xs q) (seen links r j s xs q) ∙ rw (itself r, apart, itself s)

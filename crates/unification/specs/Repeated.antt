@@ -9,6 +9,7 @@ use lib.ListN.{length}
 use Rattle.record.specs.Record.{pick}
 use Rattle.unification.specs.Row.{variable, Row, application, rowAt}
 
+-- Rows are equal if they are the same variable, or the same symbol applied to the same rows in order.
 abbrev pub equalLists : List ℕ → List ℕ → Bool
 equalLists [] [] = true
 equalLists [] (y ∷ ys) = false
@@ -31,6 +32,7 @@ abbrev pub earliestEqual : Row → List Row → Option ℕ
 earliestEqual w [] = none
 earliestEqual w (u ∷ us) = orElse (earliestEqual w us) (pick (equalRows u w) (some (length us)) none)
 
+-- The answer, or r where there is none.
 abbrev pub orSame : ℕ → Option ℕ → ℕ
 orSame r none = r
 orSame r (some q) = q

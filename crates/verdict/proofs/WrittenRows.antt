@@ -12,14 +12,14 @@ use Rattle.unification.specs.Row.{variable, Row, application, rowAt, argumentTe
 use Rattle.unification.specs.Term.{Term, app, cons}
 use Rattle.unification.proofs.Lists.{Each}
 use Rattle.unification.proofs.Repeats.{earliest-equal, earliest-itself, earliest-same, earliest-absent}
-use Rattle.unification.proofs.Rows.{eqb-below}
+use Rattle.unification.proofs.Rows.{eqb-below, below-other}
 use Rattle.unification.proofs.Tests.{to-T}
 use Rattle.derivation.specs.Derivation.{resolve, factor}
 use Rattle.verdict.specs.Refusal.{Reason, kindOfRecord, argumentRows, leftOf, rightOf, deletedOf}
 use Rattle.verdict.specs.Repeats.{withWritten, writtenAfter, numberTerm, termByNumbers}
 use Rattle.verdict.specs.State.{State, rowsOf, nextClause}
 use Rattle.verdict.specs.Step.{stands, refused, Result, step, unifyResolve, unifyFactor, newApplication, enter, read, allStand, refusedAt}
-use Rattle.verdict.proofs.Inversions.{stands-same, step-stands, named-stands, clause-added, not-equal, not-below, never-both}
+use Rattle.verdict.proofs.Inversions.{stands-same, step-stands, named-stands, clause-added, not-below, never-both}
 use Rattle.verdict.proofs.Reading.{ending-stands}
 use Rattle.verdict.proofs.Shared.{ArgumentsEarliest, SharedRows, Shared, arguments-at, step-shared}
 
@@ -36,9 +36,6 @@ number-ext f g ws h (application s xs) k = ap (app s) (arguments-ext f g ws h xs
 
 number-old : (w : Row) (ws : List Row) (a : ℕ) → a < length ws → termByNumbers ws a ≡ termByNumbers (w ∷ ws) a
 number-old w ws a l = rw (eqb-below a (length ws) l)
-
-below-other : (r n : ℕ) → eqb r n ≡ false → r < suc n → r < n
-below-other r n q l = let m : ¬ (r ≡ n) = not-equal r n (rw q) in omega arith
 
 pub number-law : (ws : List Row) → SharedRows ws → (r : ℕ) → r < length ws → termByNumbers ws r ≡ numberTerm (termByNumbers ws) (rowAt ws r)
 number-law [] h r l = absurd (omega arith)
