@@ -36,7 +36,7 @@ module _ (F : List ℕ) (t : Tables) (a : Answer) (here : Tables) (isAnswer : an
     honest = demand1 F t;
     textbook = demand2 F t Variable;
     refutation = demand3 F t;
-    outlines = outlines-shown F;
+    outlines = outlines-shown;
     repeats = repeats-shown F;
   }
 

@@ -29,7 +29,7 @@ pub record Checked (file : List ℕ) (before : Tables) (a : Answer) (after : Tab
   pub textbook : Demand2 Variable file before
   pub refutation : Demand3 file before
   -- Document 02, Q-1.
-  pub outlines : OutlinesBeforeUnification file
+  pub outlines : OutlinesBeforeUnification
   -- Document 02, Q-2.
   pub repeats : RepeatedRows file
 

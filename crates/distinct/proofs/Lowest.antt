@@ -3,7 +3,7 @@ use mathlib.Core.Path.{_≡_, refl, sym, ap, ap₂, _∙_}
 use mathlib.Core.Bool.{Bool, true, false}
 use mathlib.Core.Option.{Option, none, some}
 use mathlib.Core.List.{List}
-use Prim.Native.Nat.{ℕ, zero, suc, _<_}
+use Prim.Native.Nat.{ℕ, zero, suc, _+_, _≤_, _<_}
 use native.Mathlib.Omega.{arith}
 use lib.Dec.{eqb}
 use borrow.Author.Tests.{eqb-true, eqb-false}
@@ -34,6 +34,29 @@ one-has N (suc n) cells r l e u = try (eqb r n) refl (λ m. one-has N n cells r 
         ap₂ orElse (none-has N n cells (λ p k x. let y = u p (omega arith) x in omega arith)) (ap (λ (b : Bool). pick {A = Option ℕ} b (some n) none) (lists-equal (nodeAt N n) cells (ap (nodeAt N) (sym z) ∙ e)))
         ∙ ap some (sym z)
     try false q ih = let d : ¬ (r ≡ n) = eqb-false r n q in ap (λ (o : Option ℕ). orElse o (pick (equalLists (nodeAt N n) cells) (some n) none)) (ih (omega arith))
+
+-- Going up from row 0: the next row does not have the cells, or it is the lowest that has.
+none-more : (N : List ℕ) (n : ℕ) (cells : List ℕ) → rowWithCells N n cells ≡ none → equalLists (nodeAt N n) cells ≡ false → rowWithCells N (suc n) cells ≡ none
+unfolding rowWithCells
+none-more N n cells e f = ap₂ orElse e (ap (λ (b : Bool). pick {A = Option ℕ} b (some n) none) f)
+
+pub none-yet : (N : List ℕ) (n : ℕ) (cells : List ℕ) → rowWithCells N n cells ≡ none → equalLists (nodeAt N n) cells ≡ false → rowWithCells N (n + 1) cells ≡ none
+none-yet N n cells e f = let z : n + 1 ≡ suc n = omega arith in ap (λ (m : ℕ). rowWithCells N m cells) z ∙ none-more N n cells e f
+
+pub first-has : (N : List ℕ) (n : ℕ) (cells : List ℕ) (r : ℕ) → r < n → rowWithCells N r cells ≡ none → equalLists (nodeAt N r) cells ≡ true → rowWithCells N n cells ≡ some r
+unfolding rowWithCells
+first-has N zero cells r l e f = absurd (omega arith)
+first-has N (suc n) cells r l e f = try (eqb r n) refl (λ m. first-has N n cells r m e f)
+  where
+    try : (b : Bool) → eqb r n ≡ b → (r < n → rowWithCells N n cells ≡ some r) → orElse (rowWithCells N n cells) (pick (equalLists (nodeAt N n) cells) (some n) none) ≡ some r
+    try true q ih =
+        let z : r ≡ n = eqb-true r n q in
+        ap₂ orElse (ap (λ (m : ℕ). rowWithCells N m cells) (sym z) ∙ e) (ap (λ (b : Bool). pick {A = Option ℕ} b (some n) none) (ap (λ (m : ℕ). equalLists (nodeAt N m) cells) (sym z) ∙ f))
+        ∙ ap some (sym z)
+    try false q ih = let d : ¬ (r ≡ n) = eqb-false r n q in ap (λ (o : Option ℕ). orElse o (pick (equalLists (nodeAt N n) cells) (some n) none)) (ih (omega arith))
+
+pub none-at-all : (N : List ℕ) (n : ℕ) (cells : List ℕ) (r : ℕ) → r ≤ n → n ≤ r → rowWithCells N r cells ≡ none → Nowhere ≡ foundRow (rowWithCells N n cells)
+none-at-all N n cells r l m e = let z : n ≡ r = omega arith in sym (ap foundRow (ap (λ (m : ℕ). rowWithCells N m cells) z ∙ e))
 
 -- What an answer says of the rows.
 pub no-row : (N : List ℕ) (n : ℕ) (cells : List ℕ) → rowWithCells N n cells ≡ none → (q : ℕ) → q < n → ¬ (nodeAt N q ≡ cells)

@@ -2,7 +2,7 @@
 // every earlier row.
 ghost use mathlib.Core.Path.{_≡_};
 ghost use mathlib.Core.List.{[], _∷_};
-ghost use Prim.Native.Nat.{_+_, _<_};
+ghost use Prim.Native.Nat.{_+_, _≤_, _<_};
 ghost use lib.ListN.{length};
 ghost use Rattle.unification.specs.Repeated.{equalLists};
 ghost use Rattle.distinct.specs.Rows.{nodeAt, rowWithCells, foundRow};
@@ -57,7 +57,25 @@ fn same_cells(nodes: &Nodes, r: u16, code: u16, numbers: &[u16; 7]) -> bool
     true
 }
 
+// The lowest row below n that has this code and these numbers, by comparing every row.
+fn scan_rows(nodes: &Nodes, n: u16, code: u16, numbers: &[u16; 7]) -> FoundRow
+    requires { ⌜ length (now nodes) ≡ 32768 ⌝ }
+    requires { ⌜ length (now numbers) ≡ 7 ⌝ }
+    requires { ⌜ n ≤ 4096 ⌝ }
+    ensures { λ f. ⌜ f ≡ foundRow (rowWithCells (now (nodes .entry)) n (code ∷ now (numbers .entry))) ⌝ }
+{
+    let mut row: u16 = 0;
+    while row < n {
+        if same_cells(nodes, row, code, numbers) {
+            return FoundRow::At(row);
+        }
+        row += 1;
+    }
+    FoundRow::Nowhere
+}
+
 // The row below n that has this code and these numbers. Listed rows differ from each other, so the first that is found is the lowest.
+// A chain is followed for 16 rows: where it goes on, rows were chosen to collide, and going through the table is faster.
 pub fn find_row(
     nodes: &Nodes,
     heads: &Heads,
@@ -80,10 +98,15 @@ pub fn find_row(
         numbers[6],
     );
     let mut c = heads[b];
+    let mut compared: u16 = 0;
     while c > 0 {
         let r = c - 1;
         if same_cells(nodes, r, code, numbers) {
             return FoundRow::At(r);
+        }
+        compared += 1;
+        if compared == 16 {
+            return scan_rows(nodes, n, code, numbers);
         }
         c = links[r as usize];
     }

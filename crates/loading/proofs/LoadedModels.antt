@@ -7,6 +7,7 @@ use mathlib.Core.List.{List}
 use Prim.Native.Nat.{ℕ, _+_, _-_, _*_, _≤_}
 use native.Mathlib.Omega.{arith}
 use lib.ListN.{length}
+use Rattle.unification.specs.Repeated.{orElse}
 use Rattle.following.specs.Clearing.{Cleared}
 use Rattle.unification.specs.Environment.{follow, Environment, Ends}
 use Rattle.unification.specs.Nodes.{isVariable, HasRow, nodeRow, NodesOk}
@@ -14,7 +15,7 @@ use Rattle.unification.specs.Row.{Expression, Variable}
 use Rattle.unification.specs.Unification.{mostLinks, full}
 use Rattle.unification.specs.ValueArray.{slot, indexOf, InStep, oneLink, Models}
 use Rattle.derivation.specs.Derivation.{input, Derivation, resolve, factor, maximumIndex, raiseAnswer, joined, lookup}
-use Rattle.loading.specs.Loaded.{heldValue, readCell, orElse, within, BindingsIn, Loaded}
+use Rattle.loading.specs.Loaded.{heldValue, readCell, within, BindingsIn, Loaded}
 use Rattle.derivation.specs.Stored.{Stored, storedInput, storedResolve, storedFactor}
 use Rattle.loading.proofs.Loading.{within-joined}
 use Rattle.loading.proofs.ValidBindings.{in-larger, joined-in, lookup-in-step}

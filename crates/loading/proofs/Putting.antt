@@ -9,10 +9,11 @@ use lib.ListN.{length, getD, set, List·getD-eq-default}
 use Rattle.unification.specs.Bindings.{bindingAt, bindingsFrom}
 use Rattle.unification.specs.Environment.{Binding}
 use Rattle.unification.specs.Nodes.{isVariable, part}
+use Rattle.unification.specs.Repeated.{orElse}
 use Rattle.unification.specs.Row.{Variable}
 use Rattle.unification.specs.ValueArray.{slot, put, InStep}
 use Rattle.derivation.specs.Derivation.{input, Derivation, resolve, factor, maximumIndex, ownBindings, lookup}
-use Rattle.loading.specs.Loaded.{readCell, orElse, within, putBindings, putClause, BindingIn, AllIn, BindingsIn, Loadable, Loaded, Puttable, BindingsPut, BindingThere, putCells}
+use Rattle.loading.specs.Loaded.{readCell, within, putBindings, putClause, BindingIn, AllIn, BindingsIn, Loadable, Loaded, Puttable, BindingsPut, BindingThere, putCells}
 use Rattle.derivation.specs.Stored.{indexCell, firstCell, bindingsCell, originCode, Stored, storedInput, storedResolve, storedFactor}
 use Rattle.loading.proofs.LoadedModels.{stored-once}
 use Rattle.loading.proofs.Loading.{clause-read}

@@ -11,6 +11,7 @@ use Rattle.record.specs.Record.{pick}
 use Rattle.unification.specs.Bindings.{bindingsFrom}
 use Rattle.unification.specs.Environment.{Binding, Environment}
 use Rattle.unification.specs.Nodes.{isVariable, part, NodesOk}
+use Rattle.unification.specs.Repeated.{orElse}
 use Rattle.unification.specs.Row.{Expression, Variable}
 use Rattle.unification.specs.ValueArray.{slot, put, cellOf, indexOf, InStep}
 use Rattle.derivation.specs.Derivation.{input, Derivation, resolve, factor, maximumIndex, raiseAnswer, joined, lookup}
@@ -23,11 +24,6 @@ heldValue (suc r) i = some (r, i)
 
 abbrev pub readCell : List ℕ → List ℕ → Environment
 readCell N A x = heldValue (cellOf N A x) (indexOf N A x)
-
--- The first answer, or the second where the first is none.
-abbrev pub orElse : Option Expression → Option Expression → Option Expression
-orElse none q = q
-orElse (some e) q = some e
 
 -- An environment moved up by o: an index above o is lowered by o, looked up, and the answer raised again. `within` has nothing past
 -- the m indices that follow o.

@@ -23,7 +23,7 @@ equalRows (application s xs) (variable w) = false
 equalRows (application s xs) (application t ys) = eqb s t && equalLists xs ys
 
 -- The first answer, or the second where the first has none.
-abbrev pub orElse : Option ℕ → Option ℕ → Option ℕ
+abbrev pub orElse : {A : Type 0} → Option A → Option A → Option A
 orElse (some r) o = some r
 orElse none o = o
 

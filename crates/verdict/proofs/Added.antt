@@ -121,11 +121,11 @@ module _ (S : State) (k : ℕ) (r : Record) (T : State) (seven : length (r .fiel
   adds resolveKind e a q =
       let s = named-stands _ (leftOf S r) (rightOf S r) T q in
       let c = clause-added S k (resolve (nextClause S) (s .0 .0) (fieldB r) (s .1 .0) (fieldD r)) (unifyResolve S (s .0) (s .1)) T (s .4) in
-      addsResolvent (resolves S r seven (s .0) (s .1) e (s .2) (s .3)) (sym (c .3))
+      addsResolvent (resolves S r (s .0) (s .1) e (s .2) (s .3)) (sym (c .3))
   adds factorKind e a q =
       let s = named-stands _ (leftOf S r) (deletedOf S r) T q in
       let c = clause-added S k (factor (nextClause S) (s .0 .0) (fieldB r) (fieldC r)) (unifyFactor S (s .0) (s .1)) T (s .4) in
-      addsFactor (factors S r seven (s .0) (s .1) e (s .2) (s .3)) (sym (c .3))
+      addsFactor (factors S r (s .0) (s .1) e (s .2) (s .3)) (sym (c .3))
   adds otherKind e a q = absurd a
 
   pub step-adds : step S k r ≡ stands T → Adds S k r T

@@ -161,7 +161,7 @@ module _ (file : List ℕ) (tables : Tables) where
       try true f true l = forRecord f l (found f (ending file) refl q k (sym (ap (λ (a : Answer). a .verdict) (check-reads f l)) ∙ z))
 
   found-condition : (q : Reason) (k : ℕ) (F : Found q k) → Condition (F .state) (F .refusedRecord) (reasonNumber q)
-  found-condition q k F = refused-condition file k (F .state) (F .refusedRecord) (F .reached) q (F .refusedBy)
+  found-condition q k F = refused-condition k (F .state) (F .refusedRecord) file (F .reached) q (F .refusedBy)
 
   -- Reason 1 is given only for the length.
   pub length-only : (k : ℕ) → check file (lengthsOf tables) .verdict ≡ refusal badLength k → fittingLength (length file) ≡ false
@@ -272,7 +272,7 @@ module _ (file : List ℕ) (tables : Tables) where
       try : (b : Bool) → longEnough (lengthsOf tables) ≡ b → RefusedUpTo number
       try false l = let c = condition-number number C .0 in for-tables number (omega arith) l
       try true l =
-          let w = condition-refused file k S r R number C in
+          let w = condition-refused k S r file R number C in
           (w .0, k, ap (λ (a : Answer). a .verdict) (check-reads (R .fits) l) ∙ ap verdictOf (reached-refused file k S r R (w .0) (w .1)), w .2)
 
   due : (q : Reason) (k : ℕ) → check file (lengthsOf tables) .verdict ≡ refusal q k → Due file tables (reasonNumber q) k
@@ -367,12 +367,12 @@ module _ (file : List ℕ) (tables : Tables) where
         (writes-out (rowOf S) (termOf S) (term-of-row S H) c K, writes-out-unique (rowOf S) (termOf S) (term-of-row S H) c K);
     resolvents = λ k S T r R e q. resolvent-added S (reached-ok file k S r R) k r Y T (ap kindNumbered e) q;
     factors = λ k S T r R e q. factor-added S (reached-ok file k S r R) k r Y T (ap kindNumbered e) q;
-    noUnifier = λ k S r q R z m pairs A. refused-no-unifier file k S r R Y q z m pairs A;
+    noUnifier = λ k S r q R z m pairs A. refused-no-unifier k S r file R Y q z m pairs A;
     nothingLost = λ k S r R range pairs A signs τ u. unifiable-stands S (reached-ok file k S r R) k r (reached-seven file k S r R) Y range pairs A signs τ u;
-    recordDue = λ k S r q R z. (refused-condition file k S r R q z, refused-lowest file k S r R q z);
+    recordDue = λ k S r q R z. (refused-condition k S r file R q z, refused-lowest k S r file R q z);
     refusals = due;
     statedNumbers = λ q k z. stated (reasonNumber q) k (condition-at q k (refused-by q k z));
-    recordRefused = λ k S r R n C. condition-refused file k S r R n C;
+    recordRefused = λ k S r R n C. condition-refused k S r file R n C;
     fileRefused = file-refused;
     acceptedOnly = λ n z. let a = accepted-ends n z .1 in (a .0, a .1, lowest-empty everyClause (a .0) n (a .2));
     acceptedIf = accepted-if;

@@ -4,7 +4,7 @@ use mathlib.Core.Logic.{_⊎_, inl, inr}
 use mathlib.Core.Bool.{Bool, true, false}
 use mathlib.Core.Option.{Option, some}
 use mathlib.Core.List.{List, [], _∷_}
-use Prim.Native.Nat.{ℕ, _≤_}
+use Prim.Native.Nat.{ℕ, _≤_, _<_}
 use native.Mathlib.Omega.{arith}
 use borrow.Author.Tests.{not-false}
 use Rattle.record.specs.Record.{Record, otherKind, Kind, symbolKind, variableKind, applicationKind, inputKind, resolveKind, factorKind, fieldB, fieldC, fieldD}
@@ -15,13 +15,12 @@ use Rattle.unification.proofs.Outlines.{whole-comparison}
 use Rattle.unification.proofs.UnifiedOutlines.{clash-not-unified}
 use Rattle.derivation.specs.Derivation.{Literal, Derivation, resolve, factor, raise, maximumIndex, joined, lookup}
 use Rattle.verdict.specs.Conditions.{OneOf, OutlinesClash}
-use Rattle.verdict.specs.Demands.{Reached}
 use Rattle.verdict.specs.Outlines.{OutlinesBeforeUnification}
 use Rattle.verdict.specs.Refusal.{tests, outlineTests, outlinesAgree, onBoth, Reason, unification, reasonNumber, kindOfRecord, leftOf, rightOf, deletedOf}
 use Rattle.verdict.specs.State.{State, rowOf, held, nextClause}
 use Rattle.verdict.specs.Step.{stands, refused, requireAll, step, stepWithoutOutlines, addClause, unifyResolve, unifyFactor, enter}
 use Rattle.verdict.proofs.Inversions.{FirstFailing, AllPass, all-stand, all-refused, all-passed, named-stands, clause-added, refused-injective, tests-passed}
-use Rattle.verdict.proofs.Refusals.{tests-rising, rising-first, first-refused, pass-or-fail, ByUnification, by-unification, not-endless, by-outlines, outlines-clash, outlines-refuse, RefusedBy, byTest, byOutlines, byFailure, refused-by}
+use Rattle.verdict.proofs.Refusals.{tests-rising, rising-first, first-refused, pass-or-fail, by-unification, by-outlines, outlines-clash, outlines-fail}
 
 -- ── What stood ──
 module _ (S : State) where
@@ -77,56 +76,48 @@ late-over n (inr (inl e)) = omega arith
 late-over n (inr (inr (inl e))) = omega arith
 late-over n (inr (inr (inr e))) = absurd e
 
-module _ (file : List ℕ) (k : ℕ) (S : State) (r : Record) (R : Reached file k S r) (reason : Reason) (q : stepWithoutOutlines S k r ≡ refused reason) where
+module _ (S : State) (k : ℕ) (r : Record) (reason : Reason) (q : stepWithoutOutlines S k r ≡ refused reason) where
   abbrev kind : Kind
   kind = kindOfRecord r
 
-  refused-alike : ¬ (OneOf (reasonNumber reason) (11 ∷ 12 ∷ 13 ∷ []) × OutlinesClash S r) → step S k r ≡ refused reason
-  refused-alike n = try (all-refused (tests S (kindOfRecord r) r) (enter S k (kindOfRecord r) r) reason q)
+  refused-alike : 0 < reasonNumber reason → ¬ (OneOf (reasonNumber reason) late × OutlinesClash S r) → step S k r ≡ refused reason
+  refused-alike positive n = try (all-refused (tests S kind r) (enter S k kind r) reason q)
     where
       failing : (f : Failure) → unification f ≡ reason → OutlinesClash S r → (f ≡ clash) ⊎ OneOf (failureNumber f) late → unification clash ≡ reason
       failing f e c (inl z) = ap unification (sym z) ∙ e
       failing f e c (inr m) = absurd (n (subst (λ (p : Reason). OneOf (reasonNumber p) late) e m, c))
 
+      ends : (f : Failure) → unification f ≡ reason → ¬ (f ≡ endless)
+      ends f e z = let a : reasonNumber (unification f) ≡ reasonNumber reason = ap reasonNumber e in let b : failureNumber f ≡ 0 = ap failureNumber z in omega arith
+
       compared : AllPass (tests S kind r) → enter S k kind r ≡ refused reason → AllPass (outlineTests S kind r) ⊎ ((p : Reason) × FirstFailing (outlineTests S kind r) p) → requireAll (outlineTests S kind r) (enter S k kind r) ≡ refused reason
       compared a z (inl b) = all-passed (outlineTests S kind r) (enter S k kind r) b ∙ z
       compared a z (inr h) =
           let passed = tests-passed S kind r a in
-          let o = by-outlines file k S r R kind (h .0) refl passed (h .1) in
-          let u = by-unification file k S r R kind reason refl passed z in
-          first-refused (outlineTests S kind r) (enter S k kind r) (h .0) (h .1) ∙ ap refused (sym (o .0) ∙ failing (u .0) (u .1) (outlines-clash file k S r R (o .1)) (clash-or-late (u .0) (not-endless file k S r R (u .0) (u .2))))
+          let o = by-outlines k S r kind (h .0) refl passed (h .1) in
+          let u = by-unification k S r kind reason refl passed z in
+          first-refused (outlineTests S kind r) (enter S k kind r) (h .0) (h .1) ∙ ap refused (sym (o .0) ∙ failing (u .0) (u .1) (outlines-clash k S r (o .1)) (clash-or-late (u .0) (ends (u .0) (u .1))))
 
       try : FirstFailing (tests S kind r) reason ⊎ (AllPass (tests S kind r) × (enter S k kind r ≡ refused reason)) → step S k r ≡ refused reason
       try (inl f) = first-refused (tests S kind r) _ reason f
       try (inr a) = all-passed (tests S kind r) _ (a .0) ∙ compared (a .0) (a .1) (pass-or-fail (outlineTests S kind r))
 
-  clash-first : OneOf (reasonNumber reason) (11 ∷ 12 ∷ 13 ∷ []) → OutlinesClash S r → (now : Reason) × (step S k r ≡ refused now) × (reasonNumber now ≡ 10)
-  clash-first m c =
-      let w = outlines-refuse file k S r R c in
-      (w .0, w .1, number (w .0) (w .2) (refused-by file k S r R (w .0) (w .1)))
+  clash-first : OneOf (reasonNumber reason) late → OutlinesClash S r → (now : Reason) × (step S k r ≡ refused now) × (reasonNumber now ≡ 10)
+  clash-first m c = try (all-refused (tests S kind r) (enter S k kind r) reason q)
     where
-      of-failure : (f : Failure) → ¬ (f ≡ endless) → failureNumber f ≤ 10 → failureNumber f ≡ 10
-      of-failure clash n l = refl
-      of-failure occurs n l = absurd (omega arith)
-      of-failure overwork n l = absurd (omega arith)
-      of-failure full n l = absurd (omega arith)
-      of-failure endless n l = absurd (n refl)
+      try : FirstFailing (tests S kind r) reason ⊎ (AllPass (tests S kind r) × (enter S k kind r ≡ refused reason)) → (now : Reason) × (step S k r ≡ refused now) × (reasonNumber now ≡ 10)
+      try (inl f) =
+          let a = rising-first 3 (tests S kind r) reason (tests-rising S kind r) f .1 in
+          let b = late-over (reasonNumber reason) m in
+          absurd (omega arith)
+      try (inr a) =
+          let f = outlines-fail k S r c in
+          (unification clash, all-passed (tests S kind r) _ (a .0) ∙ first-refused (outlineTests S kind r) (enter S k kind r) (unification clash) f, refl)
 
-      number : (p : Reason) → reasonNumber p ≤ 10 → RefusedBy file k S r R p → reasonNumber p ≡ 10
-      number p l (byTest f) =
-          let e : reason ≡ p = refused-injective (sym q ∙ first-refused (tests S kind r) (enter S k kind r) p f) in
-          let a = rising-first 3 (tests S kind r) p (tests-rising S kind r) f .1 in
-          let b = late-over (reasonNumber p) (subst (λ (x : Reason). OneOf (reasonNumber x) late) e m) in
-          absurd (omega (arith, a, b))
-      number p l (byOutlines e b) = ap reasonNumber (sym e)
-      number p l (byFailure {f} e b) =
-          let z = of-failure f (not-endless file k S r R f b) (subst (λ (x : Reason). reasonNumber x ≤ 10) (sym e) l) in
-          ap reasonNumber (sym e) ∙ z
-
-pub outlines-shown : (file : List ℕ) → OutlinesBeforeUnification file
-outlines-shown file = record {
+pub outlines-shown : OutlinesBeforeUnification
+outlines-shown = record {
   stoodStands = λ S T k r q. stood-stands S T k r q;
-  refusedAlike = λ k S r reason R q n. refused-alike file k S r R reason q n;
-  clashFirst = λ k S r reason R q m c. clash-first file k S r R reason q m c;
+  refusedAlike = λ S k r reason q l n. refused-alike S k r reason q l n;
+  clashFirst = λ S k r reason q m c. clash-first S k r reason q m c;
   noneOverlooked = λ S r q n z c l. whole-comparison (rowOf S) r q c;
 }

@@ -110,31 +110,7 @@ stated S ρ pairs f h = subst₂ (λ (b w : ℕ). Failing (rowOf S) mostLinks (�
 unstated : (S : State) (ρ : Environment) (pairs : List Pair) (f : Failure) → Fails S ρ pairs f → Failing (rowOf S) mostLinks (noRoom (held S)) ρ mostWork (unifying [] pairs) f
 unstated S ρ pairs f h = subst₂ (λ (b w : ℕ). Failing (rowOf S) mostLinks (λ bs. leb b (held S + length bs)) ρ w (unifying [] pairs) f) (sym bindings-8192) (sym work-16384) h
 
-module _ (file : List ℕ) (k : ℕ) (S : State) (r : Record) (R : Reached file k S r) where
-  seven : length (r .fields) ≡ 7
-  seven = reached-seven file k S r R
-
-  abbrev Holds : ℕ → Type 0
-  Holds n = Condition S r n
-
-  -- ── A test that is the first to fail: its condition holds ──
-  abbrev Sound : List (Bool × Reason) → Type 0
-  Sound [] = Unit {0}
-  Sound (t ∷ ts) = (t .0 ≡ false → Holds (reasonNumber (t .1))) × (t .0 ≡ true → Sound ts)
-
-  sound-first : (ts : List (Bool × Reason)) (q : Reason) → Sound ts → FirstFailing ts q → Holds (reasonNumber q)
-  sound-first ts q h (failsHere p) = h .0 p
-  sound-first ts q h (passesHere {ts = us} p f) = sound-first us q (h .1 p) f
-
-  tests-sound : (kind : Kind) → kindOfRecord r ≡ kind → Sound (tests S kind r)
-  tests-sound symbolKind e = (λ p. outsideRange (range-over r symbolKind e p), λ ranged. tt)
-  tests-sound variableKind e = (λ p. outsideRange (range-over r variableKind e p), λ ranged. tt)
-  tests-sound applicationKind e = (λ p. outsideRange (range-over r applicationKind e p), λ ranged. (λ p. nothingThere (arguments-absent S r seven e p), λ there. tt))
-  tests-sound inputKind e = (λ p. outsideRange (range-over r inputKind e p), λ ranged. (λ p. nothingThere (literal-rows-absent S r seven e p), λ there. (λ p. variableAsLiteral (literal-on-variable S r seven e p), λ _. tt)))
-  tests-sound resolveKind e = (λ p. outsideRange (range-over r resolveKind e p), λ ranged. (λ p. nothingThere (resolve-absent S r seven e p), λ there. (λ p. unfitSigns (resolve-signs S r seven e there p), λ signs. (λ p. largeResult (resolvent-over S r seven e there p), λ fits. tt))))
-  tests-sound factorKind e = (λ p. outsideRange (range-over r factorKind e p), λ ranged. (λ p. nothingThere (factor-absent S r seven e p), λ there. (λ p. unfitSigns (factor-signs S r seven e there p), λ signs. (λ p. largeResult (factor-over S r seven e there p), λ fits. tt))))
-  tests-sound otherKind e = (λ p. unknownKind (of-kind r otherKind e), λ p. tt)
-
+module _ (k : ℕ) (S : State) (r : Record) where
   -- ── A refusal by unification ──
   pub data ByUnification (f : Failure) : Type 0 where
     resolving : {x y : Derivation × Literal} → kindOfRecord r ≡ resolveKind → leftOf S r ≡ some x → rightOf S r ≡ some y → y .1 .0 ≡ not (x .1 .0) → unifyResolve S x y ≡ failed f → ByUnification f
@@ -146,33 +122,14 @@ module _ (file : List ℕ) (k : ℕ) (S : State) (r : Record) (R : Reached file 
   by-unification applicationKind q e a z = absurd (stands-refused z)
   by-unification inputKind q e a z = absurd (stands-refused z)
   by-unification resolveKind q e a z =
-      let n = both-named S r seven (leftOf S r) (rightOf S r) (a .there) in
+      let n = both-named S r (leftOf S r) (rightOf S r) (a .there) in
       let c = clause-refused S k (resolve (nextClause S) (n .0 .0) (fieldB r) (n .1 .0) (fieldD r)) (unifyResolve S (n .0) (n .1)) q (sym (enter-resolve S k r (n .0) (n .1) (n .2) (n .3)) ∙ z) in
       (c .0, c .2, resolving e (n .2) (n .3) (signs-resolve S r (n .0) (n .1) (n .2) (n .3) (a .signs)) (c .1))
   by-unification factorKind q e a z =
-      let n = both-named S r seven (leftOf S r) (deletedOf S r) (a .there) in
+      let n = both-named S r (leftOf S r) (deletedOf S r) (a .there) in
       let c = clause-refused S k (factor (nextClause S) (n .0 .0) (fieldB r) (fieldC r)) (unifyFactor S (n .0) (n .1)) q (sym (enter-factor S k r (n .0) (n .1) (n .2) (n .3)) ∙ z) in
       (c .0, c .2, factoring e (n .2) (n .3) (signs-factor S r (n .0) (n .1) (n .2) (n .3) (a .signs) .0) (c .1))
   by-unification otherKind q e a z = absurd a
-
-  pub not-endless : (f : Failure) → ByUnification f → ¬ (f ≡ endless)
-  not-endless f (resolving {x} {y} e p q s u) z = resolve-not-endless S (reached-ok file k S r R) k r x y p q (u ∙ ap failed z)
-  not-endless f (factoring {x} {y} e p q s u) z = factor-not-endless S (reached-ok file k S r R) k r x y p q (u ∙ ap failed z)
-
-  step-fails : (f : Failure) → ByUnification f → StepFails S r f
-  step-fails f (resolving {x} {y} e p q s u) =
-      resolveFails (resolves S r seven x y e p q) (stated S (joined (maximumIndex (x .0)) (lookup (x .0)) (lookup (y .0))) ((x .1 .1, raise (maximumIndex (x .0)) (y .1 .1)) ∷ []) f
-      (fails (rowOf S) mostLinks (noRoom (held S)) (joined (maximumIndex (x .0)) (lookup (x .0)) (lookup (y .0))) mostWork (unifying [] ((x .1 .1, raise (maximumIndex (x .0)) (y .1 .1)) ∷ [])) f u (not-endless f (resolving e p q s u))))
-  step-fails f (factoring {x} {y} e p q s u) =
-      factorFails (factors S r seven x y e p q) (stated S (lookup (x .0)) ((x .1 .1, y .1 .1) ∷ []) f
-      (fails (rowOf S) mostLinks (noRoom (held S)) (lookup (x .0)) mostWork (unifying [] ((x .1 .1, y .1 .1) ∷ [])) f u (not-endless f (factoring e p q s u))))
-
-  failure-condition : (f : Failure) → ByUnification f → Holds (failureNumber f)
-  failure-condition clash b = clashing (step-fails clash b)
-  failure-condition occurs b = occurring (step-fails occurs b)
-  failure-condition overwork b = overworking (step-fails overwork b)
-  failure-condition full b = overfull (step-fails full b)
-  failure-condition endless b = absurd (not-endless endless b refl)
 
   -- ── A refusal by outlines ──
   pub data ByOutlines : Type 0 where
@@ -185,18 +142,18 @@ module _ (file : List ℕ) (k : ℕ) (S : State) (r : Record) (R : Reached file 
   by-outlines applicationKind q e a f = absurd (no-test-fails f)
   by-outlines inputKind q e a f = absurd (no-test-fails f)
   by-outlines resolveKind q e a f =
-      let n = both-named S r seven (leftOf S r) (rightOf S r) (a .there) in
+      let n = both-named S r (leftOf S r) (rightOf S r) (a .there) in
       let o = only-test-fails f in
       (o .1, resolveApart e (n .2) (n .3) (named-fails (outlinesAgree S) (leftOf S r) (rightOf S r) (n .0) (n .1) (n .2) (n .3) (o .0)))
   by-outlines factorKind q e a f =
-      let n = both-named S r seven (leftOf S r) (deletedOf S r) (a .there) in
+      let n = both-named S r (leftOf S r) (deletedOf S r) (a .there) in
       let o = only-test-fails f in
       (o .1, factorApart e (n .2) (n .3) (named-fails (outlinesAgree S) (leftOf S r) (deletedOf S r) (n .0) (n .1) (n .2) (n .3) (o .0)))
   by-outlines otherKind q e a f = absurd a
 
   pub outlines-clash : ByOutlines → OutlinesClash S r
-  outlines-clash (resolveApart {x} {y} e p q z) = resolveOutlines (resolves S r seven x y e p q) (clash-found (rowOf S) (x .1 .1 .0) (y .1 .1 .0) (not-false _ z))
-  outlines-clash (factorApart {x} {y} e p q z) = factorOutlines (factors S r seven x y e p q) (clash-found (rowOf S) (x .1 .1 .0) (y .1 .1 .0) (not-false _ z))
+  outlines-clash (resolveApart {x} {y} e p q z) = resolveOutlines (resolves S r x y e p q) (clash-found (rowOf S) (x .1 .1 .0) (y .1 .1 .0) (not-false _ z))
+  outlines-clash (factorApart {x} {y} e p q z) = factorOutlines (factors S r x y e p q) (clash-found (rowOf S) (x .1 .1 .0) (y .1 .1 .0) (not-false _ z))
 
   -- How a record comes to be refused: by its first failing test, by its outlines, or by unification.
   pub data RefusedBy (q : Reason) : Type 0 where
@@ -214,14 +171,6 @@ module _ (file : List ℕ) (k : ℕ) (S : State) (r : Record) (R : Reached file 
       try : FirstFailing (tests S (kindOfRecord r) r) q ⊎ (AllPass (tests S (kindOfRecord r) r) × (requireAll (outlineTests S (kindOfRecord r) r) (enter S k (kindOfRecord r) r) ≡ refused q)) → RefusedBy q
       try (inl f) = byTest f
       try (inr a) = passed (tests-passed S (kindOfRecord r) r (a .0)) (all-refused (outlineTests S (kindOfRecord r) r) (enter S k (kindOfRecord r) r) q (a .1))
-
-  pub refused-condition : (q : Reason) → step S k r ≡ refused q → Condition S r (reasonNumber q)
-  refused-condition q z = try (refused-by q z)
-    where
-      try : RefusedBy q → Holds (reasonNumber q)
-      try (byTest f) = sound-first (tests S (kindOfRecord r) r) q (tests-sound (kindOfRecord r) refl) f
-      try (byOutlines e b) = subst (λ (p : Reason). Holds (reasonNumber p)) e (clashingOutlines (outlines-clash b))
-      try (byFailure {f} e b) = subst (λ (p : Reason). Holds (reasonNumber p)) e (failure-condition f b)
 
   -- ── A condition that holds: the record is refused with a number no higher ──
   abbrev pub RefusedUpTo : ℕ → Type 0
@@ -266,111 +215,169 @@ module _ (file : List ℕ) (k : ℕ) (S : State) (r : Record) (R : Reached file 
       try (inl a) = (unification f, all-passed (outlineTests S kind r) (enter S k kind r) a ∙ z, omega arith)
       try (inr h) = (h .0, first-refused (outlineTests S kind r) (enter S k kind r) (h .0) (h .1), let y = outline-number kind (h .0) (h .1) in omega arith)
 
-  pub outlines-refuse : OutlinesClash S r → RefusedUpTo 10
-  outlines-refuse (resolveOutlines {left} {right} {l = c} {m = d} N f) =
-      let z : onBoth (outlinesAgree S) (leftOf S r) (rightOf S r) ≡ false = rw (resolves-left S r seven N, resolves-right S r seven N) (ap not (found-clash (rowOf S) (c .1 .0) (d .1 .0) f)) in
-      tests-or 10 (omega arith) resolveKind (ap kindNumbered (N .isResolve)) (unification clash, first-refused (outlineTests S resolveKind r) (enter S k resolveKind r) (unification clash) (failsHere z), omega arith)
-  outlines-refuse (factorOutlines {parent} {l = c} {m = d} N f) =
-      let z : onBoth (outlinesAgree S) (leftOf S r) (deletedOf S r) ≡ false = rw (factors-kept S r seven N, factors-deleted S r seven N) (ap not (found-clash (rowOf S) (c .1 .0) (d .1 .0) f)) in
-      tests-or 10 (omega arith) factorKind (ap kindNumbered (N .isFactor)) (unification clash, first-refused (outlineTests S factorKind r) (enter S k factorKind r) (unification clash) (failsHere z), omega arith)
+  -- Outlines that clash: their test fails.
+  pub outlines-fail : OutlinesClash S r → FirstFailing (outlineTests S (kindOfRecord r) r) (unification clash)
+  outlines-fail (resolveOutlines {l = c} {m = d} N f) =
+      let z : onBoth (outlinesAgree S) (leftOf S r) (rightOf S r) ≡ false = rw (resolves-left S r N, resolves-right S r N) (ap not (found-clash (rowOf S) (c .1 .0) (d .1 .0) f)) in
+      subst (λ (kind : Kind). FirstFailing (outlineTests S kind r) (unification clash)) (sym (ap kindNumbered (N .isResolve))) (failsHere z)
+  outlines-fail (factorOutlines {l = c} {m = d} N f) =
+      let z : onBoth (outlinesAgree S) (leftOf S r) (deletedOf S r) ≡ false = rw (factors-kept S r N, factors-deleted S r N) (ap not (found-clash (rowOf S) (c .1 .0) (d .1 .0) f)) in
+      subst (λ (kind : Kind). FirstFailing (outlineTests S kind r) (unification clash)) (sym (ap kindNumbered (N .isFactor))) (failsHere z)
+
+  outlines-refuse : OutlinesClash S r → RefusedUpTo 10
+  outlines-refuse c =
+      tests-or 10 (omega arith) (kindOfRecord r) refl
+      (unification clash, first-refused (outlineTests S (kindOfRecord r) r) (enter S k (kindOfRecord r) r) (unification clash) (outlines-fail c), omega arith)
 
   failure-refuses : (n : ℕ) → 10 ≤ n → (f : Failure) → failureNumber f ≡ n → StepFails S r f → RefusedUpTo n
   failure-refuses n least f g (resolveFails {left} {right} {l = c} {m = d} N h) =
       let ρ = joined (maximumIndex left) (lookup left) (lookup right) in
       outlines-or n least resolveKind (ap kindNumbered (N .isResolve)) f g
-      (enter-resolve S k r (left, c) (right, d) (resolves-left S r seven N) (resolves-right S r seven N)
+      (enter-resolve S k r (left, c) (right, d) (resolves-left S r N) (resolves-right S r N)
       ∙ ap (addClause S k (resolve (nextClause S) left (fieldB r) right (fieldD r))) (failing-fails (rowOf S) mostLinks (noRoom (held S)) ρ mostWork (unifying [] ((c .1, raise (maximumIndex left) (d .1)) ∷ [])) f (unstated S ρ ((c .1, raise (maximumIndex left) (d .1)) ∷ []) f h))
       ∙ enter-refused S k (resolve (nextClause S) left (fieldB r) right (fieldD r)) f)
   failure-refuses n least f g (factorFails {parent} {l = c} {m = d} N h) =
       outlines-or n least factorKind (ap kindNumbered (N .isFactor)) f g
-      (enter-factor S k r (parent, c) (parent, d) (factors-kept S r seven N) (factors-deleted S r seven N)
+      (enter-factor S k r (parent, c) (parent, d) (factors-kept S r N) (factors-deleted S r N)
       ∙ ap (addClause S k (factor (nextClause S) parent (fieldB r) (fieldC r))) (failing-fails (rowOf S) mostLinks (noRoom (held S)) (lookup parent) mostWork (unifying [] ((c .1, d .1) ∷ [])) f (unstated S (lookup parent) ((c .1, d .1) ∷ []) f h))
       ∙ enter-refused S k (factor (nextClause S) parent (fieldB r) (fieldC r)) f)
 
-  ranges-differ : (kind : Kind) → inRange kind r ≡ false → testFor (tests S kind r) 4 ≡ false
-  ranges-differ symbolKind q = q
-  ranges-differ variableKind q = q
-  ranges-differ applicationKind q = q
-  ranges-differ inputKind q = q
-  ranges-differ resolveKind q = q
-  ranges-differ factorKind q = q
-  ranges-differ otherKind q = absurd (true-not-false refl q)
+  module _ (file : List ℕ) (R : Reached file k S r) where
+    seven : length (r .fields) ≡ 7
+    seven = reached-seven file k S r R
 
-  pub condition-refused : (n : ℕ) → Condition S r n → (q : Reason) × (step S k r ≡ refused q) × (reasonNumber q ≤ n)
-  condition-refused n (unknownKind h) = test-refuses 3 (subst (λ (kind : Kind). testFor (tests S kind r) 3 ≡ false) (sym (other-kind r h)) refl)
-  condition-refused n (outsideRange h) = test-refuses 4 (ranges-differ (kindOfRecord r) (out-of-range r h))
-  condition-refused n (nothingThere h) = two-refuse 4 5 (omega arith) (not-there S r seven h)
-  condition-refused n (variableAsLiteral h) = two-refuse 4 7 (omega arith) (on-variable-fails S r seven h)
-  condition-refused n (unfitSigns h) = test-refuses 8 (signs-fail S r seven h)
-  condition-refused n (largeResult h) = test-refuses 9 (result-fails S r seven h)
-  condition-refused n (clashingOutlines h) = outlines-refuse h
-  condition-refused n (clashing h) = failure-refuses 10 (omega arith) clash refl h
-  condition-refused n (occurring h) = failure-refuses 11 (omega arith) occurs refl h
-  condition-refused n (overworking h) = failure-refuses 12 (omega arith) overwork refl h
-  condition-refused n (overfull h) = failure-refuses 13 (omega arith) full refl h
+    abbrev Holds : ℕ → Type 0
+    Holds n = Condition S r n
 
-  -- A refused record's number is that of no later condition.
-  pub refused-lowest : (q : Reason) → step S k r ≡ refused q → (n : ℕ) → Condition S r n → reasonNumber q ≤ n
-  refused-lowest q z n h =
-      let w = condition-refused n h in
-      subst (λ (p : Reason). reasonNumber p ≤ n) (refused-injective (sym (w .1) ∙ z)) (w .2)
+    -- ── A test that is the first to fail: its condition holds ──
+    abbrev Sound : List (Bool × Reason) → Type 0
+    Sound [] = Unit {0}
+    Sound (t ∷ ts) = (t .0 ≡ false → Holds (reasonNumber (t .1))) × (t .0 ≡ true → Sound ts)
 
-  -- ── No unifier where 10 or 11 is given ──
-  clash-or-occurs : (f : Failure) → OneOf (failureNumber f) (10 ∷ 11 ∷ []) → (f ≡ clash) ⊎ (f ≡ occurs)
-  clash-or-occurs clash m = inl refl
-  clash-or-occurs occurs m = inr refl
-  clash-or-occurs overwork (inl e) = absurd (omega arith)
-  clash-or-occurs overwork (inr (inl e)) = absurd (omega arith)
-  clash-or-occurs overwork (inr (inr e)) = absurd e
-  clash-or-occurs full (inl e) = absurd (omega arith)
-  clash-or-occurs full (inr (inl e)) = absurd (omega arith)
-  clash-or-occurs full (inr (inr e)) = absurd e
-  clash-or-occurs endless (inl e) = absurd (omega arith)
-  clash-or-occurs endless (inr (inl e)) = absurd (omega arith)
-  clash-or-occurs endless (inr (inr e)) = absurd e
+    sound-first : (ts : List (Bool × Reason)) (q : Reason) → Sound ts → FirstFailing ts q → Holds (reasonNumber q)
+    sound-first ts q h (failsHere p) = h .0 p
+    sound-first ts q h (passesHere {ts = us} p f) = sound-first us q (h .1 p) f
 
-  which : {o : Outcome} {f : Failure} → o ≡ failed f → (f ≡ clash) ⊎ (f ≡ occurs) → (o ≡ failed clash) ⊎ (o ≡ failed occurs)
-  which u (inl z) = inl (u ∙ ap failed z)
-  which u (inr z) = inr (u ∙ ap failed z)
+    tests-sound : (kind : Kind) → kindOfRecord r ≡ kind → Sound (tests S kind r)
+    tests-sound symbolKind e = (λ p. outsideRange (range-over r symbolKind e p), λ ranged. tt)
+    tests-sound variableKind e = (λ p. outsideRange (range-over r variableKind e p), λ ranged. tt)
+    tests-sound applicationKind e = (λ p. outsideRange (range-over r applicationKind e p), λ ranged. (λ p. nothingThere (arguments-absent S r seven e p), λ there. tt))
+    tests-sound inputKind e = (λ p. outsideRange (range-over r inputKind e p), λ ranged. (λ p. nothingThere (literal-rows-absent S r seven e p), λ there. (λ p. variableAsLiteral (literal-on-variable S r seven e p), λ _. tt)))
+    tests-sound resolveKind e = (λ p. outsideRange (range-over r resolveKind e p), λ ranged. (λ p. nothingThere (resolve-absent S r seven e p), λ there. (λ p. unfitSigns (resolve-signs S r seven e there p), λ signs. (λ p. largeResult (resolvent-over S r seven e there p), λ fits. tt))))
+    tests-sound factorKind e = (λ p. outsideRange (range-over r factorKind e p), λ ranged. (λ p. nothingThere (factor-absent S r seven e p), λ there. (λ p. unfitSigns (factor-signs S r seven e there p), λ signs. (λ p. largeResult (factor-over S r seven e there p), λ fits. tt))))
+    tests-sound otherKind e = (λ p. unknownKind (of-kind r otherKind e), λ p. tt)
 
-  atoms-apart : (Y : Type 0) (f : Failure) → (f ≡ clash) ⊎ (f ≡ occurs) → ByUnification f → (pairs : List TermPair) → StepAtoms S r pairs → NoUnifier Y pairs
-  atoms-apart Y f c (resolving {x} {y} e p q s u) pairs (resolveAtoms {left} {right} {l} {m} N) =
-      let a : x ≡ (left, l) = some-injective (sym p ∙ resolves-left S r seven N) in
-      let b : y ≡ (right, m) = some-injective (sym q ∙ resolves-right S r seven N) in
-      subst₂ (λ (x y : Derivation × Literal). NoUnifier Y ((atomOf S (x .0) (x .1), apply (renamed (maximumIndex (x .0))) (atomOf S (y .0) (y .1))) ∷ [])) a b
-      (resolve-no-unifier S (reached-ok file k S r R) k r Y x y p q s (which u c))
-  atoms-apart Y f c (resolving e p q s u) pairs (factorAtoms N) = let a = of-kind r resolveKind e in let b = N .isFactor in absurd (omega arith)
-  atoms-apart Y f c (factoring e p q s u) pairs (resolveAtoms N) = let a = of-kind r factorKind e in let b = N .isResolve in absurd (omega arith)
-  atoms-apart Y f c (factoring {x} {y} e p q s u) pairs (factorAtoms {parent} {l} {m} N) =
-      let a : x ≡ (parent, l) = some-injective (sym p ∙ factors-kept S r seven N) in
-      let b : y ≡ (parent, m) = some-injective (sym q ∙ factors-deleted S r seven N) in
-      subst₂ (λ (x y : Derivation × Literal). NoUnifier Y ((atomOf S (x .0) (x .1), atomOf S (y .0) (y .1)) ∷ [])) a b
-      (factor-no-unifier S (reached-ok file k S r R) k r Y x y p q s (which u c))
+    pub not-endless : (f : Failure) → ByUnification f → ¬ (f ≡ endless)
+    not-endless f (resolving {x} {y} e p q s u) z = resolve-not-endless S (reached-ok file k S r R) k r x y p q (u ∙ ap failed z)
+    not-endless f (factoring {x} {y} e p q s u) z = factor-not-endless S (reached-ok file k S r R) k r x y p q (u ∙ ap failed z)
 
-  outlines-apart : (Y : Type 0) → ByOutlines → (pairs : List TermPair) → StepAtoms S r pairs → NoUnifier Y pairs
-  outlines-apart Y (resolveApart {x} {y} e p q z) pairs (resolveAtoms {left} {right} {l} {m} N) =
-      let a : x ≡ (left, l) = some-injective (sym p ∙ resolves-left S r seven N) in
-      let b : y ≡ (right, m) = some-injective (sym q ∙ resolves-right S r seven N) in
-      resolve-outlines-apart S (reached-ok file k S r R) k r Y (left, l) (right, m) (ap₂ (outlinesAgree S) (sym a) (sym b) ∙ z)
-  outlines-apart Y (resolveApart e p q z) pairs (factorAtoms N) = let a = of-kind r resolveKind e in let b = N .isFactor in absurd (omega arith)
-  outlines-apart Y (factorApart e p q z) pairs (resolveAtoms N) = let a = of-kind r factorKind e in let b = N .isResolve in absurd (omega arith)
-  outlines-apart Y (factorApart {x} {y} e p q z) pairs (factorAtoms {parent} {l} {m} N) =
-      let a : x ≡ (parent, l) = some-injective (sym p ∙ factors-kept S r seven N) in
-      let b : y ≡ (parent, m) = some-injective (sym q ∙ factors-deleted S r seven N) in
-      factor-outlines-apart S (reached-ok file k S r R) k r Y (parent, l) (parent, m) (ap₂ (outlinesAgree S) (sym a) (sym b) ∙ z)
+    step-fails : (f : Failure) → ByUnification f → StepFails S r f
+    step-fails f (resolving {x} {y} e p q s u) =
+        resolveFails (resolves S r x y e p q) (stated S (joined (maximumIndex (x .0)) (lookup (x .0)) (lookup (y .0))) ((x .1 .1, raise (maximumIndex (x .0)) (y .1 .1)) ∷ []) f
+        (fails (rowOf S) mostLinks (noRoom (held S)) (joined (maximumIndex (x .0)) (lookup (x .0)) (lookup (y .0))) mostWork (unifying [] ((x .1 .1, raise (maximumIndex (x .0)) (y .1 .1)) ∷ [])) f u (not-endless f (resolving e p q s u))))
+    step-fails f (factoring {x} {y} e p q s u) =
+        factorFails (factors S r x y e p q) (stated S (lookup (x .0)) ((x .1 .1, y .1 .1) ∷ []) f
+        (fails (rowOf S) mostLinks (noRoom (held S)) (lookup (x .0)) mostWork (unifying [] ((x .1 .1, y .1 .1) ∷ [])) f u (not-endless f (factoring e p q s u))))
 
-  pub refused-no-unifier : (Y : Type 0) (q : Reason) → step S k r ≡ refused q → OneOf (reasonNumber q) (10 ∷ 11 ∷ []) → (pairs : List TermPair) → StepAtoms S r pairs → NoUnifier Y pairs
-  refused-no-unifier Y q z m pairs A = try (refused-by q z)
-    where
-      late : OneOf (reasonNumber q) (10 ∷ 11 ∷ []) → 10 ≤ reasonNumber q
-      late (inl e) = omega arith
-      late (inr (inl e)) = omega arith
-      late (inr (inr e)) = absurd e
+    failure-condition : (f : Failure) → ByUnification f → Holds (failureNumber f)
+    failure-condition clash b = clashing (step-fails clash b)
+    failure-condition occurs b = occurring (step-fails occurs b)
+    failure-condition overwork b = overworking (step-fails overwork b)
+    failure-condition full b = overfull (step-fails full b)
+    failure-condition endless b = absurd (not-endless endless b refl)
 
-      try : RefusedBy q → NoUnifier Y pairs
-      try (byTest f) = let a = rising-first 3 (tests S (kindOfRecord r) r) q (tests-rising S (kindOfRecord r) r) f .1 in let b = late m in absurd (omega arith)
-      try (byOutlines e b) = outlines-apart Y b pairs A
-      try (byFailure {f} e b) = atoms-apart Y f (clash-or-occurs f (subst (λ (p : Reason). OneOf (reasonNumber p) (10 ∷ 11 ∷ [])) (sym e) m)) b pairs A
+    pub refused-condition : (q : Reason) → step S k r ≡ refused q → Condition S r (reasonNumber q)
+    refused-condition q z = try (refused-by q z)
+      where
+        try : RefusedBy q → Holds (reasonNumber q)
+        try (byTest f) = sound-first (tests S (kindOfRecord r) r) q (tests-sound (kindOfRecord r) refl) f
+        try (byOutlines e b) = subst (λ (p : Reason). Holds (reasonNumber p)) e (clashingOutlines (outlines-clash b))
+        try (byFailure {f} e b) = subst (λ (p : Reason). Holds (reasonNumber p)) e (failure-condition f b)
+
+    ranges-differ : (kind : Kind) → inRange kind r ≡ false → testFor (tests S kind r) 4 ≡ false
+    ranges-differ symbolKind q = q
+    ranges-differ variableKind q = q
+    ranges-differ applicationKind q = q
+    ranges-differ inputKind q = q
+    ranges-differ resolveKind q = q
+    ranges-differ factorKind q = q
+    ranges-differ otherKind q = absurd (true-not-false refl q)
+
+    pub condition-refused : (n : ℕ) → Condition S r n → (q : Reason) × (step S k r ≡ refused q) × (reasonNumber q ≤ n)
+    condition-refused n (unknownKind h) = test-refuses 3 (subst (λ (kind : Kind). testFor (tests S kind r) 3 ≡ false) (sym (other-kind r h)) refl)
+    condition-refused n (outsideRange h) = test-refuses 4 (ranges-differ (kindOfRecord r) (out-of-range r h))
+    condition-refused n (nothingThere h) = two-refuse 4 5 (omega arith) (not-there S r seven h)
+    condition-refused n (variableAsLiteral h) = two-refuse 4 7 (omega arith) (on-variable-fails S r seven h)
+    condition-refused n (unfitSigns h) = test-refuses 8 (signs-fail S r seven h)
+    condition-refused n (largeResult h) = test-refuses 9 (result-fails S r seven h)
+    condition-refused n (clashingOutlines h) = outlines-refuse h
+    condition-refused n (clashing h) = failure-refuses 10 (omega arith) clash refl h
+    condition-refused n (occurring h) = failure-refuses 11 (omega arith) occurs refl h
+    condition-refused n (overworking h) = failure-refuses 12 (omega arith) overwork refl h
+    condition-refused n (overfull h) = failure-refuses 13 (omega arith) full refl h
+
+    -- A refused record's number is that of no later condition.
+    pub refused-lowest : (q : Reason) → step S k r ≡ refused q → (n : ℕ) → Condition S r n → reasonNumber q ≤ n
+    refused-lowest q z n h =
+        let w = condition-refused n h in
+        subst (λ (p : Reason). reasonNumber p ≤ n) (refused-injective (sym (w .1) ∙ z)) (w .2)
+
+    -- ── No unifier where 10 or 11 is given ──
+    clash-or-occurs : (f : Failure) → OneOf (failureNumber f) (10 ∷ 11 ∷ []) → (f ≡ clash) ⊎ (f ≡ occurs)
+    clash-or-occurs clash m = inl refl
+    clash-or-occurs occurs m = inr refl
+    clash-or-occurs overwork (inl e) = absurd (omega arith)
+    clash-or-occurs overwork (inr (inl e)) = absurd (omega arith)
+    clash-or-occurs overwork (inr (inr e)) = absurd e
+    clash-or-occurs full (inl e) = absurd (omega arith)
+    clash-or-occurs full (inr (inl e)) = absurd (omega arith)
+    clash-or-occurs full (inr (inr e)) = absurd e
+    clash-or-occurs endless (inl e) = absurd (omega arith)
+    clash-or-occurs endless (inr (inl e)) = absurd (omega arith)
+    clash-or-occurs endless (inr (inr e)) = absurd e
+
+    which : {o : Outcome} {f : Failure} → o ≡ failed f → (f ≡ clash) ⊎ (f ≡ occurs) → (o ≡ failed clash) ⊎ (o ≡ failed occurs)
+    which u (inl z) = inl (u ∙ ap failed z)
+    which u (inr z) = inr (u ∙ ap failed z)
+
+    atoms-apart : (Y : Type 0) (f : Failure) → (f ≡ clash) ⊎ (f ≡ occurs) → ByUnification f → (pairs : List TermPair) → StepAtoms S r pairs → NoUnifier Y pairs
+    atoms-apart Y f c (resolving {x} {y} e p q s u) pairs (resolveAtoms {left} {right} {l} {m} N) =
+        let a : x ≡ (left, l) = some-injective (sym p ∙ resolves-left S r N) in
+        let b : y ≡ (right, m) = some-injective (sym q ∙ resolves-right S r N) in
+        subst₂ (λ (x y : Derivation × Literal). NoUnifier Y ((atomOf S (x .0) (x .1), apply (renamed (maximumIndex (x .0))) (atomOf S (y .0) (y .1))) ∷ [])) a b
+        (resolve-no-unifier S (reached-ok file k S r R) k r Y x y p q s (which u c))
+    atoms-apart Y f c (resolving e p q s u) pairs (factorAtoms N) = let a = of-kind r resolveKind e in let b = N .isFactor in absurd (omega arith)
+    atoms-apart Y f c (factoring e p q s u) pairs (resolveAtoms N) = let a = of-kind r factorKind e in let b = N .isResolve in absurd (omega arith)
+    atoms-apart Y f c (factoring {x} {y} e p q s u) pairs (factorAtoms {parent} {l} {m} N) =
+        let a : x ≡ (parent, l) = some-injective (sym p ∙ factors-kept S r N) in
+        let b : y ≡ (parent, m) = some-injective (sym q ∙ factors-deleted S r N) in
+        subst₂ (λ (x y : Derivation × Literal). NoUnifier Y ((atomOf S (x .0) (x .1), atomOf S (y .0) (y .1)) ∷ [])) a b
+        (factor-no-unifier S (reached-ok file k S r R) k r Y x y p q s (which u c))
+
+    outlines-apart : (Y : Type 0) → ByOutlines → (pairs : List TermPair) → StepAtoms S r pairs → NoUnifier Y pairs
+    outlines-apart Y (resolveApart {x} {y} e p q z) pairs (resolveAtoms {left} {right} {l} {m} N) =
+        let a : x ≡ (left, l) = some-injective (sym p ∙ resolves-left S r N) in
+        let b : y ≡ (right, m) = some-injective (sym q ∙ resolves-right S r N) in
+        resolve-outlines-apart S (reached-ok file k S r R) k r Y (left, l) (right, m) (ap₂ (outlinesAgree S) (sym a) (sym b) ∙ z)
+    outlines-apart Y (resolveApart e p q z) pairs (factorAtoms N) = let a = of-kind r resolveKind e in let b = N .isFactor in absurd (omega arith)
+    outlines-apart Y (factorApart e p q z) pairs (resolveAtoms N) = let a = of-kind r factorKind e in let b = N .isResolve in absurd (omega arith)
+    outlines-apart Y (factorApart {x} {y} e p q z) pairs (factorAtoms {parent} {l} {m} N) =
+        let a : x ≡ (parent, l) = some-injective (sym p ∙ factors-kept S r N) in
+        let b : y ≡ (parent, m) = some-injective (sym q ∙ factors-deleted S r N) in
+        factor-outlines-apart S (reached-ok file k S r R) k r Y (parent, l) (parent, m) (ap₂ (outlinesAgree S) (sym a) (sym b) ∙ z)
+
+    pub refused-no-unifier : (Y : Type 0) (q : Reason) → step S k r ≡ refused q → OneOf (reasonNumber q) (10 ∷ 11 ∷ []) → (pairs : List TermPair) → StepAtoms S r pairs → NoUnifier Y pairs
+    refused-no-unifier Y q z m pairs A = try (refused-by q z)
+      where
+        late : OneOf (reasonNumber q) (10 ∷ 11 ∷ []) → 10 ≤ reasonNumber q
+        late (inl e) = omega arith
+        late (inr (inl e)) = omega arith
+        late (inr (inr e)) = absurd e
+
+        try : RefusedBy q → NoUnifier Y pairs
+        try (byTest f) = let a = rising-first 3 (tests S (kindOfRecord r) r) q (tests-rising S (kindOfRecord r) r) f .1 in let b = late m in absurd (omega arith)
+        try (byOutlines e b) = outlines-apart Y b pairs A
+        try (byFailure {f} e b) = atoms-apart Y f (clash-or-occurs f (subst (λ (p : Reason). OneOf (reasonNumber p) (10 ∷ 11 ∷ [])) (sym e) m)) b pairs A
 
 -- The numbers of conditions.
 pub condition-number : {S : State} {r : Record} (n : ℕ) → Condition S r n → (3 ≤ n) × (n ≤ 13)

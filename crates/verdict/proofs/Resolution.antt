@@ -206,13 +206,13 @@ module _ (S : State) (H : StateOk 4096 S) (k : ℕ) (r : Record) where
     pub unifiable-stands : (Y : Type 0) → ¬ OutOfRange r → (pairs : List TermPair) → StepAtoms S r pairs → ¬ SignsUnfit S r → (τ : Variable → Term Y) → Unifies τ pairs → StandsOrLimit S k r
     unifiable-stands Y range pairs (resolveAtoms {left} {right} {l} {m} N) signs τ z =
         let e : kindOfRecord r ≡ resolveKind = ap kindNumbered (N .isResolve) in
-        let p = resolves-left S r seven N in
-        let q = resolves-right S r seven N in
+        let p = resolves-left S r N in
+        let q = resolves-right S r N in
         resolve-stands Y (left, l) (right, m) e p q (holds (inRange resolveKind r) (λ w. range (range-over r resolveKind e w)))
         (holds (fittingSigns S resolveKind r) (λ w. signs (resolve-signs S r seven e (rw (p, q) refl) w))) τ z
     unifiable-stands Y range pairs (factorAtoms {parent} {l} {m} N) signs τ z =
         let e : kindOfRecord r ≡ factorKind = ap kindNumbered (N .isFactor) in
-        let p = factors-kept S r seven N in
-        let q = factors-deleted S r seven N in
+        let p = factors-kept S r N in
+        let q = factors-deleted S r N in
         factor-stands Y (parent, l) (parent, m) e p q (holds (inRange factorKind r) (λ w. range (range-over r factorKind e w)))
         (holds (fittingSigns S factorKind r) (λ w. signs (factor-signs S r seven e (rw (p, q) refl) w))) τ z

@@ -40,32 +40,8 @@ applications-only row [] q i v a = absurd (omega arith)
 applications-only row (l ∷ ls) q zero v a = λ e. true-not-false (both-true (isApplication (row (l .1))) (allApplications row ls) q .0) (ap isApplication e)
 applications-only row (l ∷ ls) q (suc i) v a = applications-only row ls (both-true (isApplication (row (l .1))) (allApplications row ls) q .1) i v (omega arith)
 
-module _ (S : State) (r : Record) (seven : length (r .fields) ≡ 7) where
-  pub literal-on-variable : kindOfRecord r ≡ inputKind → allApplications (rowOf S) (inputLiterals r) ≡ false → LiteralOnVariable S r
-  literal-on-variable e q =
-      let z = variable-found (rowOf S) (inputLiterals r) q in
-      let l : z .0 < r .count = let w = z .2 in let x = length-map (take (r .count) (r .fields)) literalOf in let v = length-take (r .count) (r .fields) in omega arith in
-      record {
-        isInput = of-kind r inputKind e;
-        literal = z .0;
-        isLiteral = l;
-        number = z .1;
-        onVariable = ap (rowOf S) (sym (literal-row-at S r seven (z .0) l)) ∙ z .3;
-      }
-
-  -- 7 holds: its test fails, or that of 4 does.
-  pub on-variable-fails : LiteralOnVariable S r → (testFor (tests S (kindOfRecord r) r) 4 ≡ false) ⊎ (testFor (tests S (kindOfRecord r) r) 7 ≡ false)
-  on-variable-fails L = try (leb (r .count) 7) refl
-    where
-      try : (b : Bool) → leb (r .count) 7 ≡ b → (testFor (tests S (kindOfRecord r) r) 4 ≡ false) ⊎ (testFor (tests S (kindOfRecord r) r) 7 ≡ false)
-      try true q =
-          let h = at-most (r .count) 7 q in
-          let n : L .literal < length (inputLiterals r) = let a = L .isLiteral in simp (length-map, length-take) (omega arith) in
-          inr (at-number S r seven 4 7 (L .isInput) (not-true (allApplications (rowOf S) (inputLiterals r)) (λ t.
-          applications-only (rowOf S) (inputLiterals r) t (L .literal) (L .number) n (ap (rowOf S) (literal-row-at S r seven (L .literal) (L .isLiteral)) ∙ L .onVariable))))
-      try false q = inl (at-number S r seven 4 4 (L .isInput) (rw q refl))
-
-  -- Steps on literals that exist.
+-- Steps on literals that exist.
+module _ (S : State) (r : Record) where
   named-there : (c n : ℕ) (d : Derivation) (l : Literal) → clauseOf S c ≡ some d → numbered (literals d) n ≡ some l → literalNamed S c n ≡ some (d, l)
   named-there c n d l p q = ap (literalIn n) p ∙ ap (λ (o : Option Literal). elim o [ some x ↦ some (d, x) | none ↦ none ]) q
 
@@ -100,6 +76,31 @@ module _ (S : State) (r : Record) (seven : length (r .fields) ≡ 7) where
       let y = is-there p (b .1) in
       (x .0, y .0, x .1, y .1)
 
+module _ (S : State) (r : Record) (seven : length (r .fields) ≡ 7) where
+  pub literal-on-variable : kindOfRecord r ≡ inputKind → allApplications (rowOf S) (inputLiterals r) ≡ false → LiteralOnVariable S r
+  literal-on-variable e q =
+      let z = variable-found (rowOf S) (inputLiterals r) q in
+      let l : z .0 < r .count = let w = z .2 in let x = length-map (take (r .count) (r .fields)) literalOf in let v = length-take (r .count) (r .fields) in omega arith in
+      record {
+        isInput = of-kind r inputKind e;
+        literal = z .0;
+        isLiteral = l;
+        number = z .1;
+        onVariable = ap (rowOf S) (sym (literal-row-at S r seven (z .0) l)) ∙ z .3;
+      }
+
+  -- 7 holds: its test fails, or that of 4 does.
+  pub on-variable-fails : LiteralOnVariable S r → (testFor (tests S (kindOfRecord r) r) 4 ≡ false) ⊎ (testFor (tests S (kindOfRecord r) r) 7 ≡ false)
+  on-variable-fails L = try (leb (r .count) 7) refl
+    where
+      try : (b : Bool) → leb (r .count) 7 ≡ b → (testFor (tests S (kindOfRecord r) r) 4 ≡ false) ⊎ (testFor (tests S (kindOfRecord r) r) 7 ≡ false)
+      try true q =
+          let h = at-most (r .count) 7 q in
+          let n : L .literal < length (inputLiterals r) = let a = L .isLiteral in simp (length-map, length-take) (omega arith) in
+          inr (at-number S r seven 4 7 (L .isInput) (not-true (allApplications (rowOf S) (inputLiterals r)) (λ t.
+          applications-only (rowOf S) (inputLiterals r) t (L .literal) (L .number) n (ap (rowOf S) (literal-row-at S r seven (L .literal) (L .isLiteral)) ∙ L .onVariable))))
+      try false q = inl (at-number S r seven 4 4 (L .isInput) (rw q refl))
+
   -- 8: signs.
   signs-equal : (s t : Bool) → not (equalSigns s t) ≡ false → s ≡ t
   signs-equal true true q = refl
@@ -121,15 +122,15 @@ module _ (S : State) (r : Record) (seven : length (r .fields) ≡ 7) where
 
   pub resolve-signs : kindOfRecord r ≡ resolveKind → bothThere (leftOf S r) (rightOf S r) ≡ true → fittingSigns S resolveKind r ≡ false → SignsUnfit S r
   resolve-signs e t q =
-      let n = both-named (leftOf S r) (rightOf S r) t in
+      let n = both-named S r (leftOf S r) (rightOf S r) t in
       by (n .0) (n .1) (n .2) (n .3)
     where
       by : (x y : Derivation × Literal) → leftOf S r ≡ some x → rightOf S r ≡ some y → SignsUnfit S r
-      by x y a b = equalInResolve (resolves x y e a b) (signs-equal (x .1 .0) (y .1 .0) (rw (a, b) at q))
+      by x y a b = equalInResolve (resolves S r x y e a b) (signs-equal (x .1 .0) (y .1 .0) (rw (a, b) at q))
 
   pub factor-signs : kindOfRecord r ≡ factorKind → bothThere (leftOf S r) (deletedOf S r) ≡ true → fittingSigns S factorKind r ≡ false → SignsUnfit S r
   factor-signs e t q =
-      let n = both-named (leftOf S r) (deletedOf S r) t in
+      let n = both-named S r (leftOf S r) (deletedOf S r) t in
       by (n .0) (n .1) (n .2) (n .3)
     where
       twice : (b : Bool) → eqb (fieldB r) (fieldC r) ≡ b → not b ≡ false → SignsUnfit S r
@@ -137,15 +138,15 @@ module _ (S : State) (r : Record) (seven : length (r .fields) ≡ 7) where
       twice false p z = absurd (true-not-false refl z)
 
       try : (x y : Derivation × Literal) → leftOf S r ≡ some x → deletedOf S r ≡ some y → (equalSigns (x .1 .0) (y .1 .0) ≡ false) ⊎ (not (eqb (fieldB r) (fieldC r)) ≡ false) → SignsUnfit S r
-      try x y a b (inl p) = oppositeInFactor (factors x y e a b) (signs-opposite (x .1 .0) (y .1 .0) p)
+      try x y a b (inl p) = oppositeInFactor (factors S r x y e a b) (signs-opposite (x .1 .0) (y .1 .0) p)
       try x y a b (inr p) = twice (eqb (fieldB r) (fieldC r)) refl p
 
       by : (x y : Derivation × Literal) → leftOf S r ≡ some x → deletedOf S r ≡ some y → SignsUnfit S r
       by x y a b = try x y a b (either-false (equalSigns (x .1 .0) (y .1 .0)) (not (eqb (fieldB r) (fieldC r))) (rw (a, b) at q))
 
   pub signs-fail : SignsUnfit S r → testFor (tests S (kindOfRecord r) r) 8 ≡ false
-  signs-fail (equalInResolve {left} {right} {l} {m} N e) = at-number S r seven 5 8 (N .isResolve) (rw (resolves-left N, resolves-right N) (ap not (equal-signs (l .0) (m .0) e)))
-  signs-fail (oppositeInFactor {parent} {l} {m} N n) = at-number S r seven 6 8 (N .isFactor) (rw (factors-kept N, factors-deleted N) (ap (λ (b : Bool). b && not (eqb (fieldB r) (fieldC r))) (not-true (equalSigns (l .0) (m .0)) (λ t. n (same-signs (l .0) (m .0) t)))))
+  signs-fail (equalInResolve {left} {right} {l} {m} N e) = at-number S r seven 5 8 (N .isResolve) (rw (resolves-left S r N, resolves-right S r N) (ap not (equal-signs (l .0) (m .0) e)))
+  signs-fail (oppositeInFactor {parent} {l} {m} N n) = at-number S r seven 6 8 (N .isFactor) (rw (factors-kept S r N, factors-deleted S r N) (ap (λ (b : Bool). b && not (eqb (fieldB r) (fieldC r))) (not-true (equalSigns (l .0) (m .0)) (λ t. n (same-signs (l .0) (m .0) t)))))
     where
       same-signs : (s t : Bool) → equalSigns s t ≡ true → s ≡ t
       same-signs true true q = refl
@@ -188,33 +189,33 @@ module _ (S : State) (r : Record) (seven : length (r .fields) ≡ 7) where
 
   pub resolvent-over : kindOfRecord r ≡ resolveKind → bothThere (leftOf S r) (rightOf S r) ≡ true → resolventFits S r ≡ false → ResultOver S r
   resolvent-over e t q =
-      let n = both-named (leftOf S r) (rightOf S r) t in
+      let n = both-named S r (leftOf S r) (rightOf S r) t in
       by (n .0) (n .1) (n .2) (n .3)
     where
       by : (x y : Derivation × Literal) → leftOf S r ≡ some x → rightOf S r ≡ some y → ResultOver S r
       by x y a b = try (unfit (resolve (nextClause S) (x .0) (fieldB r) (y .0) (fieldD r) []) (rw (a, b) at q))
         where
           try : (128 < length (literals (resolve (nextClause S) (x .0) (fieldB r) (y .0) (fieldD r) []))) ⊎ (4096 < maximumIndex (x .0) + maximumIndex (y .0)) → ResultOver S r
-          try (inl l) = resolventLiterals (resolves x y e a b) (subst (λ (n : ℕ). 128 < n) (resolvent-length (x .0) (y .0)) l)
-          try (inr l) = resolventIndex (resolves x y e a b) l
+          try (inl l) = resolventLiterals (resolves S r x y e a b) (subst (λ (n : ℕ). 128 < n) (resolvent-length (x .0) (y .0)) l)
+          try (inr l) = resolventIndex (resolves S r x y e a b) l
 
   pub factor-over : kindOfRecord r ≡ factorKind → bothThere (leftOf S r) (deletedOf S r) ≡ true → factorFits S r ≡ false → ResultOver S r
   factor-over e t q =
-      let n = both-named (leftOf S r) (deletedOf S r) t in
+      let n = both-named S r (leftOf S r) (deletedOf S r) t in
       by (n .0) (n .1) (n .2) (n .3)
     where
       by : (x y : Derivation × Literal) → leftOf S r ≡ some x → deletedOf S r ≡ some y → ResultOver S r
       by x y a b = try (unfit (factor (nextClause S) (x .0) (fieldB r) (fieldC r) []) (rw (a, b) at q))
         where
           try : (128 < length (without (literals (x .0)) (fieldC r))) ⊎ (4096 < maximumIndex (x .0)) → ResultOver S r
-          try (inl l) = factorLiterals (factors x y e a b) l
-          try (inr l) = factorIndex (factors x y e a b) l
+          try (inl l) = factorLiterals (factors S r x y e a b) l
+          try (inr l) = factorIndex (factors S r x y e a b) l
 
   resolvent-fails : {left right : Derivation} {l m : Literal} → Resolves S r left right l m → ¬ (resultFits (resolve (nextClause S) left (fieldB r) right (fieldD r) []) ≡ true) → testFor (tests S (kindOfRecord r) r) 9 ≡ false
-  resolvent-fails {left} {right} {l} {m} N n = at-number S r seven 5 9 (N .isResolve) (rw (resolves-left N, resolves-right N) (not-true (resultFits (resolve (nextClause S) left (fieldB r) right (fieldD r) [])) n))
+  resolvent-fails {left} {right} {l} {m} N n = at-number S r seven 5 9 (N .isResolve) (rw (resolves-left S r N, resolves-right S r N) (not-true (resultFits (resolve (nextClause S) left (fieldB r) right (fieldD r) [])) n))
 
   factor-fails : {parent : Derivation} {l m : Literal} → Factors S r parent l m → ¬ (resultFits (factor (nextClause S) parent (fieldB r) (fieldC r) []) ≡ true) → testFor (tests S (kindOfRecord r) r) 9 ≡ false
-  factor-fails {parent} {l} {m} N n = at-number S r seven 6 9 (N .isFactor) (rw (factors-kept N, factors-deleted N) (not-true (resultFits (factor (nextClause S) parent (fieldB r) (fieldC r) [])) n))
+  factor-fails {parent} {l} {m} N n = at-number S r seven 6 9 (N .isFactor) (rw (factors-kept S r N, factors-deleted S r N) (not-true (resultFits (factor (nextClause S) parent (fieldB r) (fieldC r) [])) n))
 
   pub result-fails : ResultOver S r → testFor (tests S (kindOfRecord r) r) 9 ≡ false
   result-fails (resolventLiterals {left} {right} N l) = resolvent-fails N (λ t. let z = fit (resolve (nextClause S) left (fieldB r) right (fieldD r) []) t .0 in let y = resolvent-length left right in omega arith)

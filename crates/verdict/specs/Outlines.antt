@@ -3,23 +3,24 @@
 use mathlib.Core.Path.{_≡_}
 use mathlib.Core.Bool.{false}
 use mathlib.Core.List.{List, [], _∷_}
-use Prim.Native.Nat.{ℕ, _≤_}
+use Prim.Native.Nat.{ℕ, _≤_, _<_}
 use Rattle.record.specs.Record.{Record}
 use Rattle.unification.specs.Outlines.{outlinesClash, Compares, ClashAt}
 use Rattle.verdict.specs.Conditions.{OneOf, OutlinesClash}
-use Rattle.verdict.specs.Demands.{Reached}
 use Rattle.verdict.specs.Refusal.{Reason, reasonNumber}
 use Rattle.verdict.specs.State.{State, rowOf}
 use Rattle.verdict.specs.Step.{stands, refused, step, stepWithoutOutlines}
 
-pub record OutlinesBeforeUnification (file : List ℕ) : Type 0 where
-  -- No step that stood is affected: in every state, what stood stands and leaves the same state.
+-- All of it is for every state and record, also such as no file leads to.
+pub record OutlinesBeforeUnification : Type 0 where
+  -- No step that stood is affected: what stood stands and leaves the same state.
   pub stoodStands : (S T : State) (k : ℕ) (r : Record) → stepWithoutOutlines S k r ≡ stands T → step S k r ≡ stands T
-  -- What was refused is refused for the same reason, but for 11, 12 and 13 with outlines that clash;
-  pub refusedAlike : (k : ℕ) (S : State) (r : Record) (reason : Reason) → Reached file k S r → stepWithoutOutlines S k r ≡ refused reason
+  -- What was refused is refused for the same reason, but for 11, 12 and 13 with outlines that clash; 0 is in no table: it is that following
+  -- does not end, to which no file comes;
+  pub refusedAlike : (S : State) (k : ℕ) (r : Record) (reason : Reason) → stepWithoutOutlines S k r ≡ refused reason → 0 < reasonNumber reason
       → ¬ (OneOf (reasonNumber reason) (11 ∷ 12 ∷ 13 ∷ []) × OutlinesClash S r) → step S k r ≡ refused reason
   -- and that gives 10 now.
-  pub clashFirst : (k : ℕ) (S : State) (r : Record) (reason : Reason) → Reached file k S r → stepWithoutOutlines S k r ≡ refused reason
+  pub clashFirst : (S : State) (k : ℕ) (r : Record) (reason : Reason) → stepWithoutOutlines S k r ≡ refused reason
       → OneOf (reasonNumber reason) (11 ∷ 12 ∷ 13 ∷ []) → OutlinesClash S r → (now : Reason) × (step S k r ≡ refused now) × (reasonNumber now ≡ 10)
   -- Where no clash is found and the whole comparison takes up no more than 4,096 pairs, there is no position that clashes.
   pub noneOverlooked : (S : State) (r q n : ℕ) → outlinesClash (rowOf S) r q ≡ false → Compares (rowOf S) n ((r, q) ∷ []) [] → n ≤ 4096

@@ -4,7 +4,7 @@ use std::fs;
 use std::path::Path;
 
 use yestrwyn_vectors::examples::{cases, deep, edges, repeats, Example};
-use yestrwyn_vectors::sketch::{app, neg, pos, var, FileBuilder};
+use yestrwyn_vectors::sketch::{app, neg, pos, var, Sketch};
 
 /// The files by what they do.
 pub fn measured() -> Vec<Example> {
@@ -35,7 +35,7 @@ pub fn ordinary() -> Vec<Example> {
 
 /// A count upward: each step resolves the rule with the last result, as right parent.
 fn count_right() -> Vec<u8> {
-    let mut file = FileBuilder::new();
+    let mut file = Sketch::new();
     let [q, f, a] = [1, 1, 0].map(|arity| file.symbol(arity));
     let mut known = file.clause(&[pos(app(q, [app(a, [])]))]);
     let rule = file.clause(&[neg(app(q, [var(0)])), pos(app(q, [app(f, [var(0)])]))]);
@@ -47,7 +47,7 @@ fn count_right() -> Vec<u8> {
 
 /// The rule -q(x) +q(f(x)) resolved with itself, one step longer each time.
 fn chain() -> Vec<u8> {
-    let mut file = FileBuilder::new();
+    let mut file = Sketch::new();
     let [q, f] = [1, 1].map(|arity| file.symbol(arity));
     let rule = file.clause(&[neg(app(q, [var(0)])), pos(app(q, [app(f, [var(0)])]))]);
     let mut known = rule;
@@ -60,7 +60,7 @@ fn chain() -> Vec<u8> {
 /// Rows f(0,0,0,x,y,z), chosen so that the hash of the proved check (crate `distinct`) puts them into one bucket,
 /// after 300 rows that they can name.
 fn one_hash() -> Vec<u8> {
-    let mut file = FileBuilder::new();
+    let mut file = Sketch::new();
     let [f, g] = [6, 1].map(|arity| file.symbol(arity));
     for number in 0..64 {
         file.variable(number);
@@ -84,13 +84,13 @@ fn bucket(rows: [u16; 3]) -> u32 {
 }
 
 /// A full tree of equal leaves: of depth 12 it has 4,096.
-fn tree(file: &mut FileBuilder, g: u16, leaf: u16, depth: usize) -> u16 {
+fn tree(file: &mut Sketch, g: u16, leaf: u16, depth: usize) -> u16 {
     (0..depth).fold(leaf, |row, _| file.application(g, &[row, row]))
 }
 
 /// A clause at the end of 2,000 links from variable to variable, the oldest of which stands at 4,096 leaves, used in 2,000 steps.
 fn links() -> Vec<u8> {
-    let mut file = FileBuilder::new();
+    let mut file = Sketch::new();
     let [q, r, g, a] = [1, 1, 2, 0].map(|arity| file.symbol(arity));
     let (x, a) = (file.variable(0), file.application(a, &[]));
     let (open, full) = (tree(&mut file, g, x, 12), tree(&mut file, g, a, 12));
@@ -111,7 +111,7 @@ fn links() -> Vec<u8> {
 /// 3,900 steps that each unify two full trees. Of depth 11, with the atoms around them, they are 4,096 pairs; all
 /// their rows differ, so that the outlines are compared whole.
 fn leaves(depth: usize) -> Vec<u8> {
-    let mut file = FileBuilder::new();
+    let mut file = Sketch::new();
     let [r, g, a] = [1, 2, 0].map(|arity| file.symbol(arity));
     let (x, a) = (file.variable(0), file.application(a, &[]));
     let (open, full) = (tree(&mut file, g, x, depth), tree(&mut file, g, a, depth));

@@ -2,7 +2,7 @@
 
 use yestrwyn_vectors::examples::cases::{case_a, case_f, case_g, case_h, case_i, case_j, case_k, examples};
 use yestrwyn_vectors::outcome::{outcome, Outcome};
-use yestrwyn_vectors::sketch::{app, neg, pos, FileBuilder};
+use yestrwyn_vectors::sketch::{app, neg, pos, Sketch};
 
 /// The outcome of a case by its name.
 fn case(name: &str) -> Outcome {
@@ -134,7 +134,7 @@ fn k_twelve_doublings_reach_index_4096() {
 #[test]
 fn traps_right_parents_raise_the_answer_again() {
     // +p(a) is derived in a right parent and looked up two right parents further up.
-    let mut file = FileBuilder::new();
+    let mut file = Sketch::new();
     let [p, q, r, a] = [1, 1, 1, 0].map(|arity| file.symbol(arity));
     let x = || yestrwyn_vectors::sketch::var(0);
     let pa = file.clause(&[pos(app(p, [app(a, [])]))]);

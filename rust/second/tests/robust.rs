@@ -5,7 +5,7 @@ use yestrwyn_types::record::{input_literals, part, Record};
 use yestrwyn_types::{Reason, Tables, Verdict, LENGTHS};
 use yestrwyn_vectors::examples::{cases, edges, published, refusals};
 use yestrwyn_vectors::random::SplitMix64;
-use yestrwyn_vectors::sketch::FileBuilder;
+use yestrwyn_vectors::sketch::Sketch;
 use yestrwyn_vectors::{damage, random_file};
 
 const MARK: u16 = 0xabcd;
@@ -70,7 +70,7 @@ fn random_bytes() {
 fn random_records() {
     let mut random = SplitMix64::new(2);
     for _ in 0..500 {
-        let mut file = FileBuilder::new();
+        let mut file = Sketch::new();
         for _ in 0..random.between(1, 40) {
             let used = random.below(8);
             let mut fields = [0; 7];

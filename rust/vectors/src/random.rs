@@ -7,7 +7,7 @@ use yestrwyn_types::record::{kind, Record};
 use yestrwyn_types::Reason;
 
 use crate::alone::unification_alone;
-use crate::sketch::FileBuilder;
+use crate::sketch::Sketch;
 
 /// The generator SplitMix64: equal seeds give equal numbers everywhere.
 #[derive(Clone, Debug)]
@@ -71,7 +71,7 @@ fn make(random: SplitMix64, wanted: usize) -> Vec<u8> {
 /// A file under construction, with a checker that has read the same records.
 struct Maker {
     random: SplitMix64,
-    file: FileBuilder,
+    file: Sketch,
     checker: Checker,
     wanted: usize,
     predicates: Vec<(u16, u8)>,
@@ -86,7 +86,7 @@ impl Maker {
     fn new(random: SplitMix64, wanted: usize) -> Maker {
         Maker {
             random,
-            file: FileBuilder::new(),
+            file: Sketch::new(),
             checker: Checker::new(),
             wanted,
             predicates: Vec::new(),

@@ -1,9 +1,9 @@
 //! Files sketched from terms written as trees, also faulty ones: for examples and tests.
 //!
 //! ```
-//! use yestrwyn_vectors::sketch::{app, neg, pos, var, FileBuilder};
+//! use yestrwyn_vectors::sketch::{app, neg, pos, var, Sketch};
 //!
-//! let mut file = FileBuilder::new();
+//! let mut file = Sketch::new();
 //! let [even, next, zero] = [1, 1, 0].map(|arity| file.symbol(arity));
 //! let two = app(next, [app(next, [app(zero, [])])]);
 //! let start = file.clause(&[pos(app(even, [app(zero, [])]))]);
@@ -18,7 +18,7 @@
 //! ```
 //!
 //! Everything is named by plain numbers and nothing is tested, so that any file can be written, also
-//! one that will be refused; [`FileBuilder::raw`] writes any record whatever. Authors of planners want
+//! one that will be refused; [`Sketch::raw`] writes any record whatever. Authors of planners want
 //! the package `yestrwyn-builder` instead. Numbers returned are right as long as every record stands.
 
 use std::collections::HashMap;
@@ -74,7 +74,7 @@ pub fn neg(atom: Term) -> SignedTerm {
 
 /// A file under construction.
 #[derive(Clone, Default)]
-pub struct FileBuilder {
+pub struct Sketch {
     bytes: Vec<u8>,
     symbols: usize,
     clauses: usize,
@@ -82,10 +82,10 @@ pub struct FileBuilder {
     shared: HashMap<Record, u16>,
 }
 
-impl FileBuilder {
+impl Sketch {
     /// An empty file.
-    pub fn new() -> FileBuilder {
-        FileBuilder::default()
+    pub fn new() -> Sketch {
+        Sketch::default()
     }
 
     /// The bytes of the file.

@@ -2,11 +2,11 @@
 
 use yestrwyn_types::record::{kind, read, Record};
 use yestrwyn_vectors::outcome::outcome;
-use yestrwyn_vectors::sketch::{app, apply, neg, pos, var, FileBuilder};
+use yestrwyn_vectors::sketch::{app, apply, neg, pos, var, Sketch};
 
 #[test]
 fn equal_rows_are_written_once() {
-    let mut file = FileBuilder::new();
+    let mut file = Sketch::new();
     let [f, a] = [2, 0].map(|arity| file.symbol(arity));
     let inner = app(f, [app(a, []), var(3)]);
     let first = file.term(&app(f, [inner.clone(), inner.clone()]));
@@ -19,7 +19,7 @@ fn equal_rows_are_written_once() {
 
 #[test]
 fn numbers_are_those_of_the_checker() {
-    let mut file = FileBuilder::new();
+    let mut file = Sketch::new();
     let p = file.symbol(1);
     let left = file.clause(&[pos(app(p, [var(0)])), pos(app(p, [var(1)]))]);
     let q = file.symbol(0);
@@ -32,7 +32,7 @@ fn numbers_are_those_of_the_checker() {
 
 #[test]
 fn raw_records_are_written_as_they_are() {
-    let mut file = FileBuilder::new();
+    let mut file = Sketch::new();
     let odd = Record { kind: 200, count: 9, fields: [1, 2, 3, 4, 5, 6, 65_535] };
     assert_eq!(file.raw(odd), 0);
     let row = Record { kind: kind::VARIABLE, count: 0, fields: [7, 0, 0, 0, 0, 0, 0] };
@@ -47,12 +47,12 @@ fn raw_records_are_written_as_they_are() {
 
 #[test]
 fn too_much_of_anything_gives_a_file_that_is_refused() {
-    let mut file = FileBuilder::new();
+    let mut file = Sketch::new();
     let f = file.symbol(6);
     let seven: Vec<_> = (0..7).map(var).collect();
     file.term(&apply(f, &seven));
     assert_eq!(outcome(&file.finish()).answer.numbers()[..3], [2, 4, 8]);
-    let mut file = FileBuilder::new();
+    let mut file = Sketch::new();
     let a = file.symbol(0);
     file.clause(&vec![pos(app(a, [])); 300]);
     assert_eq!(outcome(&file.finish()).answer.numbers()[..3], [2, 4, 2]);
@@ -60,7 +60,7 @@ fn too_much_of_anything_gives_a_file_that_is_refused() {
 
 #[test]
 fn deep_terms_are_built_without_deep_recursion() {
-    let mut file = FileBuilder::new();
+    let mut file = Sketch::new();
     let [p, f] = [1, 1].map(|arity| file.symbol(arity));
     let deep = (0..4000).fold(var(0), |term, _| app(f, [term]));
     file.clause(&[pos(app(p, [deep]))]);

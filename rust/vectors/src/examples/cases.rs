@@ -3,7 +3,7 @@
 use yestrwyn_types::record::kind;
 
 use super::{repeats, Example};
-use crate::sketch::{app, neg, pos, var, FileBuilder, SignedTerm};
+use crate::sketch::{app, neg, pos, var, SignedTerm, Sketch};
 
 /// All cases that are files. Case L is a unification in a given environment and is tested as one.
 pub fn examples() -> Vec<Example> {
@@ -36,7 +36,7 @@ fn sheet() -> Vec<Example> {
 
 /// A: the two-step refutation, record by record.
 pub fn case_a() -> Vec<u8> {
-    let mut file = FileBuilder::new();
+    let mut file = Sketch::new();
     for arity in [1, 1, 0] {
         file.symbol(arity);
     }
@@ -59,7 +59,7 @@ pub fn case_a() -> Vec<u8> {
 /// D and E: two clauses of one literal each, resolved. Symbols: s0 of the arity given, s1 of one
 /// argument, s2 and s3 constants.
 fn two_units(arity: u8, left: SignedTerm, right: SignedTerm) -> Vec<u8> {
-    let mut file = FileBuilder::new();
+    let mut file = Sketch::new();
     for arity in [arity, 1, 0, 0] {
         file.symbol(arity);
     }
@@ -71,7 +71,7 @@ fn two_units(arity: u8, left: SignedTerm, right: SignedTerm) -> Vec<u8> {
 
 /// F: +s0(v0,v1) +s0(v1,v0), keep the first, delete the second.
 pub fn case_f() -> Vec<u8> {
-    let mut file = FileBuilder::new();
+    let mut file = Sketch::new();
     let p = file.symbol(2);
     let clause = file.clause(&[pos(app(p, [var(0), var(1)])), pos(app(p, [var(1), var(0)]))]);
     file.factor(clause, 1, 2);
@@ -80,7 +80,7 @@ pub fn case_f() -> Vec<u8> {
 
 /// G: one input clause without literals, and a bad record after it or none.
 pub fn case_g(bad: bool) -> Vec<u8> {
-    let mut file = FileBuilder::new();
+    let mut file = Sketch::new();
     file.clause(&[]);
     if bad {
         file.fields(0, 0, &[]);
@@ -90,7 +90,7 @@ pub fn case_g(bad: bool) -> Vec<u8> {
 
 /// H: a step that names literal 0.
 pub fn case_h() -> Vec<u8> {
-    let mut file = FileBuilder::new();
+    let mut file = Sketch::new();
     let p = file.symbol(0);
     let left = file.clause(&[pos(app(p, []))]);
     let right = file.clause(&[neg(app(p, []))]);
@@ -100,14 +100,14 @@ pub fn case_h() -> Vec<u8> {
 
 /// I: a literal on a variable row.
 pub fn case_i() -> Vec<u8> {
-    let mut file = FileBuilder::new();
+    let mut file = Sketch::new();
     file.clause(&[pos(var(0))]);
     file.finish()
 }
 
 /// J: v0 declared twice.
 pub fn case_j() -> Vec<u8> {
-    let mut file = FileBuilder::new();
+    let mut file = Sketch::new();
     file.fields(kind::VARIABLE, 0, &[0]);
     file.fields(kind::VARIABLE, 0, &[0]);
     file.finish()
@@ -115,7 +115,7 @@ pub fn case_j() -> Vec<u8> {
 
 /// K: -s0 +s0 resolved with itself, the result with itself, and so on.
 pub fn case_k(steps: u16) -> Vec<u8> {
-    let mut file = FileBuilder::new();
+    let mut file = Sketch::new();
     let p = file.symbol(0);
     let mut clause = file.clause(&[neg(app(p, [])), pos(app(p, []))]);
     for _ in 0..steps {

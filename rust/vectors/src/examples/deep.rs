@@ -1,7 +1,7 @@
 //! Files whose terms or derivations are as deep as the limits let them be.
 
 use super::Example;
-use crate::sketch::{app, neg, pos, var, FileBuilder, Term};
+use crate::sketch::{app, neg, pos, var, Sketch, Term};
 
 /// Deep terms, deep derivations and values of exponential size.
 pub fn examples() -> Vec<Example> {
@@ -35,21 +35,21 @@ pub fn nested(symbol: u16, times: usize, inner: Term) -> Term {
 }
 
 /// The symbols of these files: q(·), f(·) and a constant.
-fn symbols(file: &mut FileBuilder) -> [u16; 3] {
+fn symbols(file: &mut Sketch) -> [u16; 3] {
     [1, 1, 0].map(|arity| file.symbol(arity))
 }
 
 /// Derives ±q(f^n(inner)), where the start is f^rest(inner) and n = size × 2,047 + rest, at index
 /// 2,048. The rule ∓q(x) ±q(f^size(x)) is doubled by resolution with itself, and each doubling is
 /// applied to the start.
-fn nested_unit(file: &mut FileBuilder, [q, f, _]: [u16; 3], positive: bool, size: usize, start: Term) -> u16 {
+fn nested_unit(file: &mut Sketch, [q, f, _]: [u16; 3], positive: bool, size: usize, start: Term) -> u16 {
     let rule = file.clause(&[(!positive, app(q, [var(0)])), (positive, app(q, [nested(f, size, var(0))]))]);
     let unit = file.clause(&[(positive, app(q, [start]))]);
     apply_doublings(file, unit, rule)
 }
 
 /// Resolves a unit with a rule, with the rule doubled, with that doubled, and so on: 2,047 uses.
-fn apply_doublings(file: &mut FileBuilder, unit: u16, rule: u16) -> u16 {
+fn apply_doublings(file: &mut Sketch, unit: u16, rule: u16) -> u16 {
     let mut rule = rule;
     let mut unit = file.resolve(unit, 1, rule, 1);
     for _ in 0..10 {
@@ -61,7 +61,7 @@ fn apply_doublings(file: &mut FileBuilder, unit: u16, rule: u16) -> u16 {
 
 /// Two terms of size × 2,047 + rest nested applications over a constant, unified.
 pub fn two_nested(size: usize, rest: usize) -> Vec<u8> {
-    let mut file = FileBuilder::new();
+    let mut file = Sketch::new();
     let symbols = symbols(&mut file);
     let [_, f, a] = symbols;
     let inner = nested(f, rest, app(a, []));
@@ -74,7 +74,7 @@ pub fn two_nested(size: usize, rest: usize) -> Vec<u8> {
 /// Two terms of size × 2,048 nested applications over a variable, unified, in few records: the rules
 /// -q(x) +q(f^size(x)) and +q(x) -q(f^size(x)) are both doubled eleven times.
 pub fn two_rules(size: usize) -> Vec<u8> {
-    let mut file = FileBuilder::new();
+    let mut file = Sketch::new();
     let [q, f] = [1, 1].map(|arity| file.symbol(arity));
     let doubled = [true, false].map(|positive| {
         let deep = app(q, [nested(f, size, var(0))]);
@@ -92,7 +92,7 @@ fn nested_first(symbol: u16, constant: u16, times: usize, inner: Term) -> Term {
 
 /// The rule ∓q(x) ±q(t) where t is x nested 16,384 deep in the first of two arguments: 14,336 by
 /// doublings of one rule, 2,048 by doublings of another.
-fn first_rule(file: &mut FileBuilder, [q, f, a]: [u16; 3], positive: bool) -> u16 {
+fn first_rule(file: &mut Sketch, [q, f, a]: [u16; 3], positive: bool) -> u16 {
     let [long, short] = [112, 16].map(|size| {
         let deep = app(q, [nested_first(f, a, size, var(0))]);
         let rule = file.clause(&[(!positive, app(q, [var(0)])), (positive, deep)]);
@@ -103,7 +103,7 @@ fn first_rule(file: &mut FileBuilder, [q, f, a]: [u16; 3], positive: bool) -> u1
 
 /// Two terms nested 16,384 deep in first arguments, unified: the walk goes as deep as its work lets it.
 fn two_first() -> Vec<u8> {
-    let mut file = FileBuilder::new();
+    let mut file = Sketch::new();
     let symbols = [1, 2, 0].map(|arity| file.symbol(arity));
     let [left, right] = [true, false].map(|positive| first_rule(&mut file, symbols, positive));
     file.resolve(left, 1, right, 1);
@@ -112,7 +112,7 @@ fn two_first() -> Vec<u8> {
 
 /// A variable bound to a term nested 16,384 deep in first arguments: so does the occurrence test.
 fn occurrence_first() -> Vec<u8> {
-    let mut file = FileBuilder::new();
+    let mut file = Sketch::new();
     let symbols = [1, 2, 0].map(|arity| file.symbol(arity));
     let left = first_rule(&mut file, symbols, true);
     let right = file.clause(&[neg(app(symbols[0], [var(0)]))]);
@@ -122,7 +122,7 @@ fn occurrence_first() -> Vec<u8> {
 
 /// A count upward by a derived rule, so that both parents of every step are derived.
 pub fn two_derived(steps: u16) -> Vec<u8> {
-    let mut file = FileBuilder::new();
+    let mut file = Sketch::new();
     let [q, f, a] = symbols(&mut file);
     let mut known = file.clause(&[pos(app(q, [app(a, [])]))]);
     let rule = file.clause(&[
@@ -139,7 +139,7 @@ pub fn two_derived(steps: u16) -> Vec<u8> {
 
 /// A variable bound to a term of 8 × 2,047 + rest nested applications: the test goes through it all.
 fn deep_occurrence(rest: usize) -> Vec<u8> {
-    let mut file = FileBuilder::new();
+    let mut file = Sketch::new();
     let symbols = symbols(&mut file);
     let [q, f, a] = symbols;
     let left = nested_unit(&mut file, symbols, true, 8, nested(f, rest, app(a, [])));
@@ -150,7 +150,7 @@ fn deep_occurrence(rest: usize) -> Vec<u8> {
 
 /// p(x, f^n(x)) against p(z, z) with n = 8 × 2,047 + rest: z occurs in its own value, n deep.
 fn deep_occurs(rest: usize) -> Vec<u8> {
-    let mut file = FileBuilder::new();
+    let mut file = Sketch::new();
     let [p, f] = [2, 1].map(|arity| file.symbol(arity));
     let rule = file.clause(&[neg(app(p, [var(0), var(1)])), pos(app(p, [var(0), nested(f, 8, var(1))]))]);
     let unit = file.clause(&[pos(app(p, [var(0), nested(f, rest, var(0))]))]);
@@ -162,7 +162,7 @@ fn deep_occurs(rest: usize) -> Vec<u8> {
 
 /// A count upward: each step resolves the last result with the rule, as left parent.
 pub fn derivation(steps: u16) -> Vec<u8> {
-    let mut file = FileBuilder::new();
+    let mut file = Sketch::new();
     let [q, f, a] = symbols(&mut file);
     let mut known = file.clause(&[pos(app(q, [app(a, [])]))]);
     let rule = file.clause(&[neg(app(q, [var(0)])), pos(app(q, [app(f, [var(0)])]))]);
@@ -174,7 +174,7 @@ pub fn derivation(steps: u16) -> Vec<u8> {
 
 /// A derivation that goes down through right parents and factors.
 pub fn right_derivation(steps: u16) -> Vec<u8> {
-    let mut file = FileBuilder::new();
+    let mut file = Sketch::new();
     let [q, f, a] = symbols(&mut file);
     let mut known = file.clause(&[pos(app(q, [app(a, [])])), pos(app(q, [app(a, [])]))]);
     let rule = file.clause(&[pos(app(q, [app(f, [var(0)])])), neg(app(q, [var(0)]))]);
@@ -191,7 +191,7 @@ pub fn right_derivation(steps: u16) -> Vec<u8> {
 
 /// -q(x) +q(f(x)) resolved with itself again and again.
 pub fn doublings(steps: u16) -> Vec<u8> {
-    let mut file = FileBuilder::new();
+    let mut file = Sketch::new();
     let [q, f, _] = symbols(&mut file);
     let mut rule = file.clause(&[neg(app(q, [var(0)])), pos(app(q, [app(f, [var(0)])]))]);
     for _ in 0..steps {
@@ -202,7 +202,7 @@ pub fn doublings(steps: u16) -> Vec<u8> {
 
 /// -q(x) +q(g(x,x)) doubled: the fifth occurrence test would go through 2^17 - 1 occurrences.
 fn exponential_refused() -> Vec<u8> {
-    let mut file = FileBuilder::new();
+    let mut file = Sketch::new();
     let [q, g] = [1, 2].map(|arity| file.symbol(arity));
     let mut rule = file.clause(&[neg(app(q, [var(0)])), pos(app(q, [app(g, [var(0), var(0)])]))]);
     for _ in 0..6 {
@@ -214,7 +214,7 @@ fn exponential_refused() -> Vec<u8> {
 /// A value that each step makes 1,024 times as large at little work: x1 is a tree of x2, x2 one of
 /// x3, and so on, bound in that order.
 pub fn exponential_value(steps: u16) -> Vec<u8> {
-    let mut file = FileBuilder::new();
+    let mut file = Sketch::new();
     let [q, g] = [1, 2].map(|arity| file.symbol(arity));
     let mut tree = file.variable(0);
     let from = file.application(q, &[tree]);
@@ -241,7 +241,7 @@ enum Leaf {
 /// compared 4,091 pairs deep, while the other arguments wait. At the bottom stands a variable, or a constant,
 /// which clashes.
 fn deep_outline(arity: u8, leaf: Leaf) -> Vec<u8> {
-    let mut file = FileBuilder::new();
+    let mut file = Sketch::new();
     let f = file.symbol(arity);
     let [leaf, other] = match leaf {
         Leaf::Variable => [0, 1].map(|number| file.variable(number)),

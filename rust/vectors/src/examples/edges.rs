@@ -5,7 +5,7 @@ use yestrwyn_types::record::kind;
 
 use super::cases::case_k;
 use super::{outlines, repeats, Example};
-use crate::sketch::{app, apply, neg, pos, var, FileBuilder, SignedTerm, Term};
+use crate::sketch::{app, apply, neg, pos, var, SignedTerm, Sketch, Term};
 
 /// All of them.
 pub fn examples() -> Vec<Example> {
@@ -24,7 +24,7 @@ pub fn examples() -> Vec<Example> {
 /// Arity, variable number, argument count and literal count.
 fn ranges() -> Vec<Example> {
     let one = |kind: u8, count: u8, fields: &[u16]| {
-        let mut file = FileBuilder::new();
+        let mut file = Sketch::new();
         file.fields(kind, count, fields);
         file.finish()
     };
@@ -47,7 +47,7 @@ fn ranges() -> Vec<Example> {
 
 /// An application with a count of arguments, all the same constant.
 fn arguments(count: u8) -> Vec<u8> {
-    let mut file = FileBuilder::new();
+    let mut file = Sketch::new();
     let f = file.symbol(6);
     let a = file.symbol(0);
     let row = file.application(a, &[]);
@@ -57,7 +57,7 @@ fn arguments(count: u8) -> Vec<u8> {
 
 /// An input clause with a count in byte 1 and seven literals.
 fn literals(count: u8) -> Vec<u8> {
-    let mut file = FileBuilder::new();
+    let mut file = Sketch::new();
     let a = file.symbol(0);
     let row = file.application(a, &[]);
     file.fields(kind::INPUT, count, &[2 * row + 1; 7]);
@@ -66,7 +66,7 @@ fn literals(count: u8) -> Vec<u8> {
 
 /// A clause on the last row, or on the one past it.
 fn highest_row(past: u16) -> Vec<u8> {
-    let mut file = FileBuilder::new();
+    let mut file = Sketch::new();
     let p = file.symbol(1);
     let x = file.variable(63);
     let row = file.application(p, &[x]);
@@ -91,7 +91,7 @@ fn lengths() -> Vec<Example> {
 /// 4,096 records that all stand: 1,000 constants, their rows and unit clauses, then 548 times the
 /// opposite unit and a refutation.
 fn full_file() -> Vec<u8> {
-    let mut file = FileBuilder::new();
+    let mut file = Sketch::new();
     let constants: Vec<u16> = (0..1000).map(|_| file.symbol(0)).collect();
     let rows: Vec<u16> = constants.iter().map(|&symbol| file.application(symbol, &[])).collect();
     let units: Vec<u16> = rows.iter().map(|&row| file.clause_of_rows(&[(true, row)])).collect();
@@ -103,7 +103,7 @@ fn full_file() -> Vec<u8> {
 }
 
 /// A term with exactly `size` occurrences over a leaf, in few rows: f(t) or g(t,t) over smaller ones.
-pub fn sized(file: &mut FileBuilder, [f, g]: [u16; 2], size: usize, leaf: u16) -> u16 {
+pub fn sized(file: &mut Sketch, [f, g]: [u16; 2], size: usize, leaf: u16) -> u16 {
     let mut even = Vec::new();
     let mut rest = size;
     while rest > 1 {
@@ -137,7 +137,7 @@ fn works() -> Vec<Example> {
 /// p(t) against p(t), resolved twice: work 1 + size each time. Or p(t,a) against p(t,b), whose outlines clash at
 /// the third pair, t being one row: unification alone would do work 2 + size, if it may.
 fn work_pairs(size: usize, clash: bool) -> Vec<u8> {
-    let mut file = FileBuilder::new();
+    let mut file = Sketch::new();
     let [p, f, g, a, b] = [1 + u8::from(clash), 1, 2, 0, 0].map(|arity| file.symbol(arity));
     let [a, b] = [a, b].map(|symbol| file.application(symbol, &[]));
     let t = sized(&mut file, [f, g], size, a);
@@ -154,7 +154,7 @@ fn work_pairs(size: usize, clash: bool) -> Vec<u8> {
 
 /// p(x) against p(t), the variable on the left or on the right: work 2 + size.
 fn work_occurrence(size: usize, left: bool) -> Vec<u8> {
-    let mut file = FileBuilder::new();
+    let mut file = Sketch::new();
     let [p, f, g, a] = [1, 1, 2, 0].map(|arity| file.symbol(arity));
     let a = file.application(a, &[]);
     let x = file.variable(0);
@@ -171,7 +171,7 @@ fn work_occurrence(size: usize, left: bool) -> Vec<u8> {
 
 /// p(x,x) against p(y,g(t,y)): work 6 + size until y is met in its own value.
 fn work_occurs(size: usize) -> Vec<u8> {
-    let mut file = FileBuilder::new();
+    let mut file = Sketch::new();
     let [p, f, g, a] = [2, 1, 2, 0].map(|arity| file.symbol(arity));
     let a = file.application(a, &[]);
     let [x, y] = [0, 1].map(|number| file.variable(number));
@@ -186,7 +186,7 @@ fn work_occurs(size: usize) -> Vec<u8> {
 
 /// The factor of p(t(x)) and p(t(y)): work 2 + size, since x is bound to y at the first leaf.
 fn work_factor(size: usize) -> Vec<u8> {
-    let mut file = FileBuilder::new();
+    let mut file = Sketch::new();
     let [p, f, g] = [1, 1, 2].map(|arity| file.symbol(arity));
     let [left, right] = [0, 1].map(|number| {
         let leaf = file.variable(number);
@@ -244,7 +244,7 @@ pub fn all_variables(f: u16) -> [Term; 2] {
 }
 
 /// Steps of 64 bindings each: p(s,t) against itself, where s and t hold all variables.
-fn steps_of_64(file: &mut FileBuilder, [p, f, a]: [u16; 3], steps: usize) {
+fn steps_of_64(file: &mut Sketch, [p, f, a]: [u16; 3], steps: usize) {
     let atom = app(p, all_variables(f));
     let left = file.clause(&[pos(atom.clone()), pos(app(a, []))]);
     let right = file.clause(&[neg(atom)]);
@@ -254,7 +254,7 @@ fn steps_of_64(file: &mut FileBuilder, [p, f, a]: [u16; 3], steps: usize) {
 }
 
 /// Clauses and steps that hold 8,192 bindings but for some.
-pub fn hold_bindings(file: &mut FileBuilder, but_for: usize) {
+pub fn hold_bindings(file: &mut Sketch, but_for: usize) {
     let [p, f, q, a] = [2, 6, 1, 0].map(|arity| file.symbol(arity));
     let wanted = BINDINGS.saturating_sub(but_for);
     steps_of_64(file, [p, f, a], wanted / 64);
@@ -267,7 +267,7 @@ pub fn hold_bindings(file: &mut FileBuilder, but_for: usize) {
 
 /// Steps of 64 bindings each, then some others.
 fn many_bindings(steps: usize, last: &[Step]) -> Vec<u8> {
-    let mut file = FileBuilder::new();
+    let mut file = Sketch::new();
     let symbols = [2, 6, 1, 2, 0, 0].map(|arity| file.symbol(arity));
     let [p, f, .., a, _] = symbols;
     steps_of_64(&mut file, [p, f, a], steps);
@@ -315,7 +315,7 @@ fn sizes() -> Vec<Example> {
 /// A clause of 127 literals at index 25, of which one is resolved with the -a of a small clause.
 /// Literal 122 is +a, the first is -a, the others are +b.
 fn many_literals(last: usize, on: u16) -> Vec<u8> {
-    let mut file = FileBuilder::new();
+    let mut file = Sketch::new();
     let [a, b] = [0, 0].map(|arity| app(file.symbol(arity), []));
     let mut seven = vec![neg(a.clone()), pos(a.clone())];
     seven.extend(vec![pos(b.clone()); 5]);
@@ -339,7 +339,7 @@ fn many_literals(last: usize, on: u16) -> Vec<u8> {
 /// -a +a doubled to index 4,095, then a clause with two more literals at 4,096 and its factor, or
 /// the last doubling and one use more.
 fn index_past(past: u16) -> Vec<u8> {
-    let mut file = FileBuilder::new();
+    let mut file = Sketch::new();
     let [a, b] = [0, 0].map(|arity| app(file.symbol(arity), []));
     let one = file.clause(&[neg(a.clone()), pos(a.clone())]);
     let last = file.clause(&[neg(a), pos(b.clone()), pos(b)]);
@@ -369,7 +369,7 @@ fn occurrences() -> Vec<Example> {
 
 /// A literal p(t) as written and one p(x) with x bound to t, between others.
 fn many_occurrences(size: usize) -> Vec<u8> {
-    let mut file = FileBuilder::new();
+    let mut file = Sketch::new();
     let [p, q, f, g, a] = [1, 1, 1, 2, 0].map(|arity| file.symbol(arity));
     let a = file.application(a, &[]);
     let x = file.variable(63);
@@ -395,7 +395,7 @@ fn counts() -> Vec<Example> {
 
 /// Nothing but symbols, of each arity in turn.
 fn many_symbols() -> Vec<u8> {
-    let mut file = FileBuilder::new();
+    let mut file = Sketch::new();
     for number in 0..4096u16 {
         file.symbol((number % 7) as u8);
     }
@@ -403,8 +403,8 @@ fn many_symbols() -> Vec<u8> {
 }
 
 /// One symbol, and rows: all variables, then the symbol applied to one row after another.
-pub fn many_rows(rows: u16) -> FileBuilder {
-    let mut file = FileBuilder::new();
+pub fn many_rows(rows: u16) -> Sketch {
+    let mut file = Sketch::new();
     let f = file.symbol(1);
     for number in 0..64 {
         file.variable(number);
@@ -424,7 +424,7 @@ fn clause_on_last_row() -> Vec<u8> {
 
 /// Nothing but clauses without literals.
 fn empty_clauses() -> Vec<u8> {
-    let mut file = FileBuilder::new();
+    let mut file = Sketch::new();
     for _ in 0..4096 {
         file.clause(&[]);
     }

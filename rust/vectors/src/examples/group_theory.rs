@@ -1,7 +1,7 @@
 //! J. A. Robinson, "Computational Logic: The Unification Computation", 1971.
 
 use super::Example;
-use crate::sketch::{app, neg, pos, var, FileBuilder, Term};
+use crate::sketch::{app, neg, pos, var, Sketch, Term};
 
 /// The paper's two systems, and a refutation of the five clauses of its figure 4.
 pub fn examples() -> Vec<Example> {
@@ -15,7 +15,7 @@ pub fn examples() -> Vec<Example> {
 /// P1 = {f(x,g(x,y)), z}, P2 = {h(z,y), h(f(a,b),f(d,c))}, where a to d are variables too.
 /// The two sets become the two arguments of one predicate, and the step is a factor.
 pub fn system_1() -> Vec<u8> {
-    let mut file = FileBuilder::new();
+    let mut file = Sketch::new();
     let [p, f, g, h] = [2, 2, 2, 2].map(|arity| file.symbol(arity));
     let [x, y, z, a, b, c, d] = [0, 1, 2, 3, 4, 5, 6].map(var);
     let clause = file.clause(&[
@@ -28,7 +28,7 @@ pub fn system_1() -> Vec<u8> {
 
 /// P1 = {Q(x,f(x)), Q(f(x),x)}: no substitution unifies it.
 pub fn system_2() -> Vec<u8> {
-    let mut file = FileBuilder::new();
+    let mut file = Sketch::new();
     let [q, f] = [2, 1].map(|arity| file.symbol(arity));
     let fx = app(f, [var(0)]);
     let clause = file.clause(&[pos(app(q, [var(0), fx.clone()])), pos(app(q, [fx, var(0)]))]);
@@ -39,7 +39,7 @@ pub fn system_2() -> Vec<u8> {
 /// Figure 4: an associative product with left and right solutions has a right identity.
 /// The paper gives the clauses (its variables are numbered from 0 in each); the refutation is ours.
 pub fn figure_4() -> Vec<u8> {
-    let mut file = FileBuilder::new();
+    let mut file = Sketch::new();
     let [p, g, h, k] = [3, 2, 2, 1].map(|arity| file.symbol(arity));
     let [x, y, z, u, v, w] = [0, 1, 2, 3, 4, 5].map(var);
     let product = |a: &Term, b: &Term, c: &Term| app(p, [a.clone(), b.clone(), c.clone()]);

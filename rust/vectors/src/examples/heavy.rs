@@ -3,7 +3,7 @@
 use super::edges::{all_variables, sized};
 use super::Example;
 use crate::shapes::{Ending, Shape};
-use crate::sketch::{app, apply, neg, pos, var, FileBuilder};
+use crate::sketch::{app, apply, neg, pos, var, Sketch};
 
 /// The most records of a file.
 const RECORDS: u16 = 4096;
@@ -45,7 +45,7 @@ pub const SLOWEST: Shape = Shape {
 
 /// -p(t) +p(t) doubled to index 4,095, with 64 variables bound from each use to the next.
 /// Returns the clause of index 4,095 and one of index 2,048.
-fn chained(file: &mut FileBuilder, p: u16, f: u16) -> [u16; 2] {
+fn chained(file: &mut Sketch, p: u16, f: u16) -> [u16; 2] {
     let atom = || app(p, all_variables(f));
     let one = file.clause(&[neg(atom()), pos(atom())]);
     let (mut power, mut sum) = (one, one);
@@ -58,7 +58,7 @@ fn chained(file: &mut FileBuilder, p: u16, f: u16) -> [u16; 2] {
 
 /// Factors on a clause of index 4,096: each loads 262,080 bindings and follows 64 chains of 4,095.
 fn chains() -> Vec<u8> {
-    let mut file = FileBuilder::new();
+    let mut file = Sketch::new();
     let [p, f] = [2, 6].map(|arity| file.symbol(arity));
     let [sum, _] = chained(&mut file, p, f);
     let atom = || app(p, all_variables(f));
@@ -72,7 +72,7 @@ fn chains() -> Vec<u8> {
 
 /// Resolutions of a clause of index 2,049 with a unit: each loads 131,072 bindings and follows one chain.
 fn chains_resolve() -> Vec<u8> {
-    let mut file = FileBuilder::new();
+    let mut file = Sketch::new();
     let [p, f, r] = [2, 6, 1].map(|arity| file.symbol(arity));
     let [_, power] = chained(&mut file, p, f);
     let atom = || app(p, all_variables(f));
@@ -88,7 +88,7 @@ fn chains_resolve() -> Vec<u8> {
 /// 1,024 leaves with four factors each, doubled; each step resolves two such derivations and walks
 /// through some 16,000 clauses.
 fn factored_tree() -> Vec<u8> {
-    let mut file = FileBuilder::new();
+    let mut file = Sketch::new();
     let [p, q] = [0, 0].map(|arity| app(file.symbol(arity), []));
     let mut seven = vec![neg(p.clone()), pos(p)];
     seven.extend(vec![pos(q.clone()); 5]);
@@ -109,7 +109,7 @@ fn factored_tree() -> Vec<u8> {
 
 /// 16,384 pairs in every step.
 fn work_pairs() -> Vec<u8> {
-    let mut file = FileBuilder::new();
+    let mut file = Sketch::new();
     let [p, f, g, a] = [1, 1, 2, 0].map(|arity| file.symbol(arity));
     let a = file.application(a, &[]);
     let t = sized(&mut file, [f, g], 16_383, a);
@@ -124,7 +124,7 @@ fn work_pairs() -> Vec<u8> {
 
 /// An occurrence test through 16,382 expressions in every step.
 fn work_occurrence() -> Vec<u8> {
-    let mut file = FileBuilder::new();
+    let mut file = Sketch::new();
     let [p, f, g] = [1, 1, 2].map(|arity| file.symbol(arity));
     let leaf = file.variable(0);
     let t = sized(&mut file, [f, g], 16_382, leaf);
@@ -149,7 +149,7 @@ fn literals_left() -> Vec<u8> {
 
 /// A clause grown to 127 literals, then resolved with -q +q again and again.
 fn many_literals(left: bool) -> Vec<u8> {
-    let mut file = FileBuilder::new();
+    let mut file = Sketch::new();
     let [q, p] = [0, 1].map(|arity| file.symbol(arity));
     let (q, px) = (app(q, []), app(p, [var(0)]));
     let mut seven = vec![neg(q.clone()), pos(q.clone())];
@@ -170,7 +170,7 @@ fn many_literals(left: bool) -> Vec<u8> {
 
 /// 125 literals of 64 occurrences each in nearly every line: a readout of 257 MB.
 fn readout() -> Vec<u8> {
-    let mut file = FileBuilder::new();
+    let mut file = Sketch::new();
     let [q, p, f] = [0, 3, 6].map(|arity| file.symbol(arity));
     let q = app(q, []);
     let six =

@@ -2,7 +2,7 @@
 //! are lost in our copy, so the steps follow what the text says of them.
 
 use super::Example;
-use crate::sketch::{app, neg, pos, var, FileBuilder, Term};
+use crate::sketch::{app, neg, pos, var, Sketch, Term};
 
 /// Chapters 1, 3 and 7.
 pub fn examples() -> Vec<Example> {
@@ -26,7 +26,7 @@ pub fn examples() -> Vec<Example> {
 
 /// Chapter 1: some Greek is fallible; the answer is u = Socrates.
 fn fallible_greek(top_down: bool) -> Vec<u8> {
-    let mut file = FileBuilder::new();
+    let mut file = Sketch::new();
     let [human, greek, fallible] = [1, 1, 1].map(|arity| file.symbol(arity));
     let [turing, socrates] = [0, 0].map(|arity| app(file.symbol(arity), []));
     file.clause(&[pos(app(human, [turing]))]);
@@ -48,7 +48,7 @@ fn fallible_greek(top_down: bool) -> Vec<u8> {
 
 /// Chapter 3: Horn clauses with a function symbol, solved from the goal or from the assertion.
 fn three_is_a_number(top_down: bool) -> Vec<u8> {
-    let mut file = FileBuilder::new();
+    let mut file = Sketch::new();
     let [numb, s, zero] = [1, 1, 0].map(|arity| file.symbol(arity));
     let next = |t: Term| app(s, [t]);
     let start = file.clause(&[pos(app(numb, [app(zero, [])]))]);
@@ -72,7 +72,7 @@ fn three_is_a_number(top_down: bool) -> Vec<u8> {
 
 /// Chapter 7: the definition of ancestor resolved with a copy of itself.
 fn ancestor() -> Vec<u8> {
-    let mut file = FileBuilder::new();
+    let mut file = Sketch::new();
     let a = file.symbol(2);
     let of = |x: u16, y: u16| app(a, [var(x), var(y)]);
     let rule = file.clause(&[pos(of(0, 1)), neg(of(0, 2)), neg(of(2, 1))]);
@@ -82,7 +82,7 @@ fn ancestor() -> Vec<u8> {
 
 /// The clauses T1 to T14 that define truth for propositions. Clause n is T(n + 1).
 struct Truth {
-    file: FileBuilder,
+    file: Sketch,
     truth: u16,
     and: u16,
     or: u16,
@@ -106,7 +106,7 @@ const T14: u16 = 13;
 impl Truth {
     /// A file with T1 to T14; in each the conclusions come first, then the conditions.
     fn new() -> Truth {
-        let mut file = FileBuilder::new();
+        let mut file = Sketch::new();
         let [truth, and, or, implies, equivalent, not] = [1, 2, 2, 2, 2, 1].map(|arity| file.symbol(arity));
         let (x, y) = (|| var(0), || var(1));
         let t = |proposition: Term| app(truth, [proposition]);
@@ -249,7 +249,7 @@ fn implication_chain() -> Vec<u8> {
 
 /// Chapter 7: the barber paradox, which needs factoring.
 fn barber() -> Vec<u8> {
-    let mut file = FileBuilder::new();
+    let mut file = Sketch::new();
     let [shave, barber, someone] = [2, 1, 0].map(|arity| file.symbol(arity));
     let xy = app(shave, [var(0), var(1)]);
     let yy = app(shave, [var(1), var(1)]);
@@ -267,7 +267,7 @@ fn barber() -> Vec<u8> {
 
 /// Chapter 7: S1 and S2 are inconsistent, but resolution alone gives only clauses of two literals.
 fn s1_s2(factoring: bool) -> Vec<u8> {
-    let mut file = FileBuilder::new();
+    let mut file = Sketch::new();
     let s = file.symbol(1);
     let s1 = file.clause(&[pos(app(s, [var(0)])), pos(app(s, [var(1)]))]);
     let s2 = file.clause(&[neg(app(s, [var(2)])), neg(app(s, [var(3)]))]);

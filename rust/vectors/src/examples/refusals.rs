@@ -3,7 +3,7 @@
 use yestrwyn_types::record::{kind, Record};
 
 use super::{outlines, repeats, Example};
-use crate::sketch::{app, neg, pos, var, FileBuilder, Term};
+use crate::sketch::{app, neg, pos, var, Sketch, Term};
 
 /// Each is a standing file and one more record, which is refused with the reason in its name.
 pub fn examples() -> Vec<Example> {
@@ -22,8 +22,8 @@ pub fn examples() -> Vec<Example> {
 /// Numbers in the standing file: symbols p(·,·), f(·), a, b; rows; five clauses.
 /// Rows: 0 v0, 1 v1, 2 p(v0,v1), 3 f(v0), 4 p(v1,f(v0)), 5 a, 6 b, 7 p(a,b), 8 p(v0,v0).
 /// Clauses: 0 +2 -4; 1 -7; 2 +7 +7 -2; 3 +8; 4 -4; 5 empty.
-fn standing() -> FileBuilder {
-    let mut file = FileBuilder::new();
+fn standing() -> Sketch {
+    let mut file = Sketch::new();
     let [p, f, a, b] = [2, 1, 0, 0].map(|arity| file.symbol(arity));
     let (v0, v1) = (var(0), var(1));
     let fv0 = app(f, [v0.clone()]);
@@ -148,7 +148,7 @@ fn factors() -> Vec<Example> {
 /// Two unit clauses p(·,·,·) of opposite sign, resolved both ways round.
 /// Symbols: 0 p, 1 g of two arguments, 2 f of one, 3 and 4 constants.
 fn pair(name: &str, left: [Term; 3], right: [Term; 3]) -> Example {
-    let mut file = FileBuilder::new();
+    let mut file = Sketch::new();
     let [p, ..] = [3, 2, 1, 0, 0].map(|arity| file.symbol(arity));
     let left = file.clause(&[pos(app(p, left))]);
     let right = file.clause(&[neg(app(p, right))]);

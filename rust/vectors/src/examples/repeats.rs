@@ -4,7 +4,7 @@ use yestrwyn_types::record::kind::{APPLICATION, INPUT, VARIABLE};
 
 use super::{cases, outlines, Example};
 use crate::repeating::rows_twice;
-use crate::sketch::FileBuilder;
+use crate::sketch::Sketch;
 
 /// Small files, and cases whose rows are all written twice.
 pub fn cases() -> Vec<Example> {
@@ -24,18 +24,18 @@ pub fn cases() -> Vec<Example> {
 }
 
 /// Writes an application, whether it is there already or not.
-fn app(file: &mut FileBuilder, symbol: u16, arguments: &[u16]) -> u16 {
+fn app(file: &mut Sketch, symbol: u16, arguments: &[u16]) -> u16 {
     file.fields(APPLICATION, arguments.len() as u8, &[&[symbol], arguments].concat())
 }
 
 /// Writes a variable, whether it is there already or not.
-fn var(file: &mut FileBuilder, number: u16) -> u16 {
+fn var(file: &mut Sketch, number: u16) -> u16 {
     file.fields(VARIABLE, 0, &[number])
 }
 
 /// +p(x,x) +p(x,x), where x and the atom are written twice, the one in another order: a factor of equal rows.
 fn in_one_clause() -> Vec<u8> {
-    let mut file = FileBuilder::new();
+    let mut file = Sketch::new();
     let p = file.symbol(2);
     let [x, again] = [0, 0].map(|number| var(&mut file, number));
     let atoms = [[x, again], [again, x]].map(|arguments| app(&mut file, p, &arguments));
@@ -47,7 +47,7 @@ fn in_one_clause() -> Vec<u8> {
 /// f(x) of the second x before f of the first, and g of them in three ways: two rows of f and three of g are one
 /// each. All three are atoms of a clause, of which two are factored away.
 fn through_arguments() -> Vec<u8> {
-    let mut file = FileBuilder::new();
+    let mut file = Sketch::new();
     let [f, g] = [1, 2].map(|arity| file.symbol(arity));
     let [x, again] = [0, 0].map(|number| var(&mut file, number));
     let [second, first] = [again, x].map(|inner| app(&mut file, f, &[inner]));
@@ -60,7 +60,7 @@ fn through_arguments() -> Vec<u8> {
 
 /// +p(a) and -p(a) on different rows, and -p(a) -p(a) on two more: resolved to the empty clause.
 fn as_literal() -> Vec<u8> {
-    let mut file = FileBuilder::new();
+    let mut file = Sketch::new();
     let [p, a] = [1, 0].map(|arity| file.symbol(arity));
     let atoms = [0; 4].map(|_| {
         let a = app(&mut file, a, &[]);
@@ -75,7 +75,7 @@ fn as_literal() -> Vec<u8> {
 
 /// +p(x) +p(x) on the second x against -p(a) of the second a, either way round: bindings name the first of each.
 fn in_a_binding() -> Vec<u8> {
-    let mut file = FileBuilder::new();
+    let mut file = Sketch::new();
     let [p, a] = [1, 0].map(|arity| file.symbol(arity));
     let [_, x] = [0, 0].map(|number| var(&mut file, number));
     let [_, a] = [a, a].map(|symbol| app(&mut file, symbol, &[]));
@@ -90,7 +90,7 @@ fn in_a_binding() -> Vec<u8> {
 /// +p(x,y) against -p(f(z),f(z)) of different rows of x, y, z and f(z): y is bound to the f(z) that x is bound to.
 /// Then the factor of +r(f(x)) +r(f(x)) with an x of each row, which is no occurrence of x in its own value.
 fn below_a_binding() -> Vec<u8> {
-    let mut file = FileBuilder::new();
+    let mut file = Sketch::new();
     let [p, f, r] = [2, 1, 1].map(|arity| file.symbol(arity));
     let [_, x, y, z, again, last] = [0, 0, 1, 2, 2, 0].map(|number| var(&mut file, number));
     let [fz, fagain, fx, flast] = [z, again, x, last].map(|inner| app(&mut file, f, &[inner]));
@@ -107,7 +107,7 @@ fn below_a_binding() -> Vec<u8> {
 
 /// v0 and s0: records that differ in their kind only are two terms. v0 is bound to s0.
 fn variable_and_constant() -> Vec<u8> {
-    let mut file = FileBuilder::new();
+    let mut file = Sketch::new();
     let [a, p] = [0, 2].map(|arity| file.symbol(arity));
     let [x, a] = [var(&mut file, 0), app(&mut file, a, &[])];
     let atoms = [[x, a], [a, a], [a, x]].map(|arguments| app(&mut file, p, &arguments));
@@ -120,7 +120,7 @@ fn variable_and_constant() -> Vec<u8> {
 /// p of six constants a, and with b in each place in turn: seven terms, each written twice. The clause has the
 /// second of each; the second clause has the first, with other signs, and is resolved with it on the last.
 fn six_arguments() -> Vec<u8> {
-    let mut file = FileBuilder::new();
+    let mut file = Sketch::new();
     let p = file.symbol(6);
     let [a, b] = [0, 0].map(|arity| file.symbol(arity));
     let [a, b] = [a, b].map(|symbol| app(&mut file, symbol, &[]));
@@ -138,7 +138,7 @@ fn six_arguments() -> Vec<u8> {
 /// +p(t,x) +p(t,a), where t is a tree of some depth, d(..,..) of two equal ones, with rows of its own in each:
 /// to compare the trees place by place would take 2^depth pairs.
 fn two_chains(depth: usize) -> Vec<u8> {
-    let mut file = FileBuilder::new();
+    let mut file = Sketch::new();
     let [p, d, a] = [2, 2, 0].map(|arity| file.symbol(arity));
     let atoms = [true, false].map(|open| {
         let leaf = app(&mut file, a, &[]);
@@ -154,7 +154,7 @@ fn two_chains(depth: usize) -> Vec<u8> {
 
 /// Case A, with every term written where it is used.
 fn case_a_unshared() -> Vec<u8> {
-    let mut file = FileBuilder::new();
+    let mut file = Sketch::new();
     let [p, f, a] = [1, 1, 0].map(|arity| file.symbol(arity));
     let constant = app(&mut file, a, &[]);
     let fact = app(&mut file, p, &[constant]);
@@ -188,7 +188,7 @@ pub fn edges() -> Vec<Example> {
 
 /// One row so many times, and a clause +f(x) -f(x) on its first and last number; then steps to the last record.
 pub fn one_row(times: u16) -> Vec<u8> {
-    let mut file = FileBuilder::new();
+    let mut file = Sketch::new();
     let f = file.symbol(1);
     let x = var(&mut file, 0);
     let first = app(&mut file, f, &[x]);
@@ -204,7 +204,7 @@ pub fn one_row(times: u16) -> Vec<u8> {
 pub fn refusals() -> Vec<Example> {
     // Rows: 0 x, 1 x, 2 f(x), 3 f(x).
     let with = |name: &str, kind: u8, count: u8, fields: &[u16]| {
-        let mut file = FileBuilder::new();
+        let mut file = Sketch::new();
         let f = file.symbol(1);
         let [x, again] = [0, 0].map(|number| var(&mut file, number));
         app(&mut file, f, &[again]);

@@ -3,7 +3,7 @@
 //! S. A. Naqvi, "An Improved Filter for Literal Indexing in Resolution Systems", stand beside them.
 
 use super::Example;
-use crate::sketch::{app, neg, pos, var, FileBuilder, Term};
+use crate::sketch::{app, neg, pos, var, Sketch, Term};
 
 /// One file for each rule.
 pub fn examples() -> Vec<Example> {
@@ -28,7 +28,7 @@ pub fn examples() -> Vec<Example> {
 
 /// D ∨ B and C ∨ ¬A give (D ∨ C)σ: D is d(x), B is p(x,f(y)), C is c(x), A is p(g(x,x),y).
 fn resolution() -> Vec<u8> {
-    let mut file = FileBuilder::new();
+    let mut file = Sketch::new();
     let [p, d, c, f, g] = [2, 1, 1, 1, 2].map(|arity| file.symbol(arity));
     let left = file.clause(&[pos(app(d, [var(0)])), pos(app(p, [var(0), app(f, [var(1)])]))]);
     let right = file.clause(&[pos(app(c, [var(0)])), neg(app(p, [app(g, [var(0), var(0)]), var(1)]))]);
@@ -38,7 +38,7 @@ fn resolution() -> Vec<u8> {
 
 /// C ∨ A ∨ B gives (C ∨ A)σ: C is c(x), A is p(x,f(y)), B is p(f(y),x). Either sign.
 fn factorization(positive: bool) -> Vec<u8> {
-    let mut file = FileBuilder::new();
+    let mut file = Sketch::new();
     let [p, c, f] = [2, 1, 1].map(|arity| file.symbol(arity));
     let fy = app(f, [var(1)]);
     let clause = file.clause(&[
@@ -52,7 +52,7 @@ fn factorization(positive: bool) -> Vec<u8> {
 
 /// One equation s = t as a factor on p(s) and p(t). Symbols: p, f of one argument, g of two, a.
 fn equation(s: Term, t: Term) -> Vec<u8> {
-    let mut file = FileBuilder::new();
+    let mut file = Sketch::new();
     let [p, _, _, _] = [1, 1, 2, 0].map(|arity| file.symbol(arity));
     let clause = file.clause(&[pos(app(p, [s])), pos(app(p, [t]))]);
     file.factor(clause, 1, 2);
@@ -61,7 +61,7 @@ fn equation(s: Term, t: Term) -> Vec<u8> {
 
 /// P(g(x),a,f(a,b,y)) and P(x,y,f(y,b,z)): outlines that agree, and a unifier exists.
 fn outlines() -> Vec<u8> {
-    let mut file = FileBuilder::new();
+    let mut file = Sketch::new();
     let [p, g, f, a, b] = [3, 1, 3, 0, 0].map(|arity| file.symbol(arity));
     let (ca, cb) = (app(a, []), app(b, []));
     let left = file.clause(&[pos(app(p, [app(g, [var(0)]), ca.clone(), app(f, [ca, cb.clone(), var(1)])]))]);

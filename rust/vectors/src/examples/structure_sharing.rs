@@ -1,7 +1,7 @@
 //! R. S. Boyer and J S. Moore, "The Sharing of Structure in Theorem-proving Programs", 1972.
 
 use super::Example;
-use crate::sketch::{app, neg, pos, var, FileBuilder, Term};
+use crate::sketch::{app, neg, pos, var, Sketch, Term};
 
 /// The resolution of section 6, and the derivation of figure 1 in section 7.
 pub fn examples() -> Vec<Example> {
@@ -23,7 +23,7 @@ const W: u16 = 4;
 /// derived, with the same indices, by three resolutions on linking literals that are all resolved
 /// away; the linking clause holds the values that the environment gives.
 pub fn section_6() -> Vec<u8> {
-    let mut file = FileBuilder::new();
+    let mut file = Sketch::new();
     let symbols = [2, 2, 2, 2, 1].map(|arity| file.symbol(arity));
     let c1 = section_6_left(&mut file, symbols);
     let c2 = section_6_right(&mut file, symbols);
@@ -32,7 +32,7 @@ pub fn section_6() -> Vec<u8> {
 }
 
 /// C1, with literals at indices 2, 2 and 4: x2 = x3, y2 = f(x4,y4), y4 = x3, z4 = f(x2,y2).
-fn section_6_left(file: &mut FileBuilder, [p, q, _, f, _]: [u16; 5]) -> u16 {
+fn section_6_left(file: &mut Sketch, [p, q, _, f, _]: [u16; 5]) -> u16 {
     let [a, b, c] = [2, 1, 3].map(|arity| file.symbol(arity));
     let [x, y, z, u, w] = [X, Y, Z, U, W].map(|number| move || var(number));
     let pair = |s: Term, t: Term| app(f, [s, t]);
@@ -50,7 +50,7 @@ fn section_6_left(file: &mut FileBuilder, [p, q, _, f, _]: [u16; 5]) -> u16 {
 }
 
 /// C2, with literals at indices 1, 3 and 4: z3 = f(x4,y4), x4 = x3, y4 = g(y1).
-fn section_6_right(file: &mut FileBuilder, [p, q, r, f, g]: [u16; 5]) -> u16 {
+fn section_6_right(file: &mut Sketch, [p, q, r, f, g]: [u16; 5]) -> u16 {
     let [d, e, h] = [1, 2, 2].map(|arity| file.symbol(arity));
     let [x, y, z, u, w] = [X, Y, Z, U, W].map(|number| move || var(number));
     let pair = |s: Term, t: Term| app(f, [s, t]);
@@ -74,7 +74,7 @@ fn section_6_right(file: &mut FileBuilder, [p, q, r, f, g]: [u16; 5]) -> u16 {
 /// The figure itself is lost in our copy. Of the input clauses the text gives only the third
 /// literal of C2, (Q x y); the others are chosen so that every value the text prints comes out.
 pub fn figure_1() -> Vec<u8> {
-    let mut file = FileBuilder::new();
+    let mut file = Sketch::new();
     let [p, q, r, f, g] = [2, 2, 2, 1, 1].map(|arity| file.symbol(arity));
     let c1 = file.clause(&[
         pos(app(p, [var(X), app(f, [var(Y)])])),

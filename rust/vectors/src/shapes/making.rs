@@ -6,12 +6,12 @@ use yestrwyn_types::limits::RECORDS;
 
 use super::{Ending, Shape};
 use crate::examples::edges::sized;
-use crate::sketch::{app, apply, var, FileBuilder, SignedTerm, Term};
+use crate::sketch::{app, apply, var, SignedTerm, Sketch, Term};
 
 /// A file of a shape under construction.
 pub(super) struct Making<'a> {
     shape: &'a Shape,
-    file: FileBuilder,
+    file: Sketch,
     /// A link from use to use, of two arguments.
     link: u16,
     /// A literal of a line, of one argument.
@@ -28,7 +28,7 @@ pub(super) struct Making<'a> {
 impl<'a> Making<'a> {
     /// A file with its symbols.
     pub fn new(shape: &'a Shape) -> Making<'a> {
-        let mut file = FileBuilder::new();
+        let mut file = Sketch::new();
         for _ in 0..shape.unused {
             file.symbol(0);
         }

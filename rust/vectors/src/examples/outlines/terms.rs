@@ -2,7 +2,7 @@
 
 use super::Sides;
 use crate::examples::edges::{hold_bindings, sized};
-use crate::sketch::FileBuilder;
+use crate::sketch::Sketch;
 
 /// Variables of one clause.
 pub(super) const X: u16 = 0;
@@ -12,7 +12,7 @@ pub(super) const W: u16 = 3;
 
 /// A file with its symbols: f of one argument, g of two, and constants a and b.
 pub(crate) struct Terms {
-    pub file: FileBuilder,
+    pub file: Sketch,
     f: u16,
     g: u16,
     a: u16,
@@ -22,7 +22,7 @@ pub(crate) struct Terms {
 impl Terms {
     /// The symbols; and steps after which there is room for some bindings only, if it is said for how many.
     pub fn new(room: Option<usize>) -> Terms {
-        let mut file = FileBuilder::new();
+        let mut file = Sketch::new();
         let [f, g, a, b] = [1, 2, 0, 0].map(|arity| file.symbol(arity));
         if let Some(room) = room {
             hold_bindings(&mut file, room);
