@@ -44,6 +44,9 @@ class ProofFile:
     def factor(self, clause, kept, deleted):
         return self._write(self.clauses, 6, 0, clause, kept, deleted)
 
+    def resolve_several(self, left, left_literal, right, *right_literals):
+        return self._write(self.clauses, 7, len(right_literals), left, left_literal, right, *right_literals)
+
     def _row(self, *record):
         # A row is written once and then named by its number, which saves the records of repeats.
         if record not in self.known_rows:

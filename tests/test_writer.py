@@ -32,6 +32,18 @@ def duty():
     return file.bytes
 
 
+def sheets():
+    """The trip `sheets`, whose steps resolve one literal with two."""
+    file = ProofFile()
+    signs, vale = map(file.symbol, (2, 0))
+    x = file.var(0)
+    by_x, by_vale = file.app(signs, x, x), file.app(signs, file.app(vale), x)
+    signed, not_both = file.clause(pos(by_x), pos(by_vale)), file.clause(neg(by_vale), neg(by_x))
+    not_vales_own = file.resolve_several(not_both, 1, signed, 1, 2)
+    file.resolve_several(not_vales_own, 1, signed, 1, 2)
+    return file.bytes
+
+
 class Writer(unittest.TestCase):
     def is_stored(self, name, written):
         self.assertEqual(written, (EXAMPLES / f"{name}.proof").read_bytes())
@@ -42,6 +54,9 @@ class Writer(unittest.TestCase):
 
     def test_duty(self):
         self.is_stored("duty", duty())
+
+    def test_sheets(self):
+        self.is_stored("sheets", sheets())
 
     def test_rows_are_written_once(self):
         file = ProofFile()

@@ -56,7 +56,7 @@ extern "C" {
  * The numbers of the answer:
  *   answer[0]  0 open, 1 accepted, 2 refused
  *   answer[1]  accepted: the number of the first empty clause; refused: the
- *              reason, 1 to 13 and never 6; open: 0
+ *              reason, 1 to 14 and never 6; open: 0
  *   answer[2]  refused: the record; otherwise 0
  *   answer[3], answer[4], answer[5], answer[6]
  *              how many symbols, rows, clauses and bindings there are
@@ -98,8 +98,9 @@ void checker_check(const uint8_t *file, size_t file_len,
  *             the number of arguments, the symbol and the arguments; or 0 and
  *             the earliest equal row, for a row that repeats it; then zeros
  *   origins   eight cells for each clause: 1 and the literals of an input
- *             clause; 2 and the numbers of a factoring step, or 3 and those of
- *             a resolution step, as its record has them; then zeros
+ *             clause; 2 and the numbers of a factoring step; or 2 plus the
+ *             number of right literals, and the numbers of a resolution step,
+ *             each as its record has them; then zeros
  *   values    is left to the library: it may hold anything
  *
  * Arguments and literals in nodes and origins are on earliest rows, also where

@@ -12,7 +12,7 @@ use Rattle.entry.specs.Progress.{Reading, RecordRead, tablesWith}
 use Rattle.verdict.specs.Refusal.{badKind, kindOfRecord}
 use Rattle.verdict.specs.State.{State, rowsOf}
 use Rattle.verdict.specs.Step.{require}
-use Rattle.inference.specs.Stepping.{BeforeStep, StepRead}
+use Rattle.inference.specs.Stepping.{BeforeStep, ResolveKind, StepRead}
 use Rattle.verdict.specs.Tables.{Tables}
 use Rattle.entry.proofs.Declaring.{symbol-read, variable-read, application-read, input-read}
 use Rattle.fields.proofs.FieldLaws.{kind-other}
@@ -72,6 +72,9 @@ module _ {F : List ℕ} {k : ℕ} {n : Counts} {s r C B N O A : List ℕ} (R : R
     pub step-asked : (j : ℕ) → m ≡ j → BeforeStep F k n C B N O A × (kindOf (recordPart F k) ≡ j)
     step-asked j z = (before-step, sym tag-is ∙ z)
 
+    pub resolve-asked : ResolveKind m → BeforeStep F k n C B N O A × ResolveKind (kindOf (recordPart F k))
+    resolve-asked z = (before-step, subst ResolveKind tag-is z)
+
     pub input-asked : m ≡ 4 → kindOf (recordPart F k) ≡ 4
     input-asked z = sym tag-is ∙ z
 
@@ -100,6 +103,6 @@ module _ {F : List ℕ} {k : ℕ} {n : Counts} {s r C B N O A : List ℕ} (R : R
     pub step-done : (C′ B′ O′ A′ : List ℕ) (e : Entered) → ((E : BeforeStep F k n C B N O A) → StepRead F k n C B N O A E C′ B′ O′ A′ e) → RecordRead F k n (tablesWith s r C B) N O A e (tablesWith s r C′ B′) N O′ A′
     step-done C′ B′ O′ A′ e f = record { next = λ t S K. f (record { inside = R .inside; tablesBefore = t; state = S; symbols = s; rows = r; kept = K }) .next }
 
-    pub other-done : ¬ (m ≡ 1) → ¬ (m ≡ 2) → ¬ (m ≡ 3) → ¬ (m ≡ 4) → ¬ (m ≡ 5) → ¬ (m ≡ 6) → RecordRead F k n (tablesWith s r C B) N O A (Refused 3) (tablesWith s r C B) N O A
+    pub other-done : ¬ (m ≡ 1) → ¬ (m ≡ 2) → ¬ (m ≡ 3) → ¬ (m ≡ 4) → ¬ (m ≡ 5) → ¬ (m ≡ 6) → ¬ (m ≡ 7) → RecordRead F k n (tablesWith s r C B) N O A (Refused 3) (tablesWith s r C B) N O A
     unfolding require
-    other-done a b c d e f = record { next = λ t S K. (badKind, at-kind S k (decoded (recordPart F k)) otherKind (ap kindNumbered (sym tag-is) ∙ kind-other m a b c d e f), refl, K .tables, K .nodes, K .origins, K .values) }
+    other-done a b c d e f g = record { next = λ t S K. (badKind, at-kind S k (decoded (recordPart F k)) otherKind (ap kindNumbered (sym tag-is) ∙ kind-other m a b c d e f g), refl, K .tables, K .nodes, K .origins, K .values) }

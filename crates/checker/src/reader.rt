@@ -49,6 +49,7 @@ fn read_record(
         4 => input_record(file, k, counts, clauses, nodes, origins),
         5 => resolve_record(file, k, counts, clauses, bindings, nodes, origins, values),
         6 => factor_record(file, k, counts, clauses, bindings, nodes, origins, values),
+        7 => resolve_record(file, k, counts, clauses, bindings, nodes, origins, values),
         _ => Entered::Refused(3),
     }
 }

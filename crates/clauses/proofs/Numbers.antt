@@ -1,17 +1,17 @@
 -- Laws of literal numbers: in a list without one element, in two lists joined, in a list of changed elements, and in an origin's numbers.
-use mathlib.Core.Path.{_≡_, refl, sym, ap, _∙_}
+use mathlib.Core.Path.{_≡_, refl, sym, ap, ap₂, _∙_, subst}
 use mathlib.Core.Bool.{Bool, true, false}
 use mathlib.Core.Option.{Option, none, some}
 use mathlib.Core.List.{List, [], _∷_, _++_, map}
 use Prim.Native.Nat.{ℕ, zero, suc, _+_, _-_, _≤_, _<_}
 use native.Mathlib.Omega.{arith}
 use lib.Dec.{eqb, leb, ltb}
-use lib.ListN.{length, take, length-take, length-map}
+use lib.ListN.{length, getD, take, replicate, length-take, length-map}
 use Rattle.record.specs.Record.{pick}
 use Rattle.unification.specs.Nodes.{part}
-use Rattle.derivation.specs.Derivation.{Literal, RowLiteral, literalOf, numbered, without, raiseLiteral, placed}
-use Rattle.derivation.specs.Stored.{originNumbers}
-use Rattle.clauses.specs.Named.{leftOver, passed, raiseNamed}
+use Rattle.derivation.specs.Derivation.{Literal, RowLiteral, literalOf, numbered, without, withoutAll, raiseLiteral, placed}
+use Rattle.derivation.specs.Stored.{originNumbers, originCode, rightCells}
+use Rattle.clauses.specs.Named.{leftOver, passed, passedAll, NamesRights, PassesRights, raiseNamed}
 use Rattle.derivation.proofs.Literals.{map-numbered}
 use native.Mathlib.Numerals.{add-one}
 use borrow.Author.Tests.{ne-eqb, leb-true, leb-false, ltb-true, ltb-false, le-leb, lt-leb, lt-ltb, le-ltb}
@@ -71,6 +71,87 @@ passed-in count a n l h = try (eqb a 0) refl h
     try : (b : Bool) → eqb a 0 ≡ b → n ≤ pick b count (pick (leb a count) (count - 1) count) → (1 ≤ pick b n (pick (ltb n a) n (n + 1))) × (pick b n (pick (ltb n a) n (n + 1)) ≤ count)
     try true p h = (l, h)
     try false p h = more (ltb n a) refl (leb a count) refl h
+
+-- The same for several numbers.
+abbrev pub leftOverAll : ℕ → List ℕ → ℕ
+leftOverAll count [] = count
+leftOverAll count (a ∷ ns) = leftOver (leftOverAll count ns) a
+
+pub length-without-all : {A : Type 0} (xs : List A) (ns : List ℕ) → length (withoutAll xs ns) ≡ leftOverAll (length xs) ns
+length-without-all xs [] = refl
+length-without-all xs (a ∷ ns) = length-without (withoutAll xs ns) a ∙ ap (λ (m : ℕ). leftOver m a) (length-without-all xs ns)
+
+passed-low : (n a : ℕ) → 1 ≤ n → 1 ≤ passed n a
+unfolding passed
+passed-low n a l = try (eqb a 0) (ltb n a)
+  where
+    try : (b c : Bool) → 1 ≤ pick b n (pick c n (n + 1))
+    try true c = l
+    try false true = l
+    try false false = omega arith
+
+pub passed-above : (n a : ℕ) → n ≤ passed n a
+unfolding passed
+passed-above n a = try (eqb a 0) (ltb n a)
+  where
+    try : (b c : Bool) → n ≤ pick b n (pick c n (n + 1))
+    try true c = omega arith
+    try false true = omega arith
+    try false false = omega arith
+
+pub passed-all-above : (n : ℕ) (ns : List ℕ) → n ≤ passedAll n ns
+passed-all-above n [] = omega arith
+passed-all-above n (a ∷ ns) = let x = passed-above n a in let y = passed-all-above (passed n a) ns in omega arith
+
+pub numbered-without-all : {A : Type 0} (xs : List A) (ns : List ℕ) (n : ℕ) → 1 ≤ n → numbered (withoutAll xs ns) n ≡ numbered xs (passedAll n ns)
+numbered-without-all xs [] n h = refl
+numbered-without-all xs (a ∷ ns) n h = numbered-without (withoutAll xs ns) a n h ∙ numbered-without-all xs ns (passed n a) (passed-low n a h)
+
+pub passed-all-in : (count : ℕ) (ns : List ℕ) (n : ℕ) → 1 ≤ n → n ≤ leftOverAll count ns → (1 ≤ passedAll n ns) × (passedAll n ns ≤ count)
+passed-all-in count [] n l h = (l, h)
+passed-all-in count (a ∷ ns) n l h = let p = passed-in (leftOverAll count ns) a n l h in passed-all-in count ns (passed n a) (p .0) (p .1)
+
+-- A zero passes nothing.
+passed-zeros : (n : ℕ) (ns : List ℕ) (k : ℕ) → passedAll n (ns ++ replicate k 0) ≡ passedAll n ns
+passed-zeros n [] zero = refl
+passed-zeros n [] (suc k) = ap (λ (m : ℕ). passedAll m (replicate k 0)) (passed-zero n) ∙ passed-zeros n [] k
+passed-zeros n (a ∷ ns) k = passed-zeros (passed n a) ns k
+
+-- The cells of an origin: of one right literal the first, of more all four.
+module _ {O : List ℕ} {c : ℕ} {ns : List ℕ} (H : NamesRights O c ns) where
+  first-cell : (xs : List ℕ) → length xs ≡ 1 → (y : ℕ) (ys zs : List ℕ) → y ∷ ys ≡ xs ++ zs → xs ≡ y ∷ []
+  first-cell [] l y ys zs e = absurd (omega arith)
+  first-cell (x ∷ []) l y ys zs e = ap (λ (m : ℕ). m ∷ []) (sym (ap (λ (xs : List ℕ). getD xs 0 0) e))
+  first-cell (x ∷ w ∷ xs) l y ys zs e = absurd (omega arith)
+
+  pub one-right : (n a u : ℕ) → a ≡ part O c 3 → u ≡ originCode O c → u ≡ 3 → passed n a ≡ passedAll n ns
+  one-right n a u pa pu three =
+      let l : length ns ≡ 1 = let k = H .code in omega arith in
+      sym (ap (passedAll n) (first-cell ns l (part O c 3) (part O c 4 ∷ part O c 5 ∷ part O c 6 ∷ []) (replicate (4 - length ns) 0) (H .cells)) ∙ ap (passed n) (sym pa))
+
+  pub all-rights : (n : ℕ) → passedAll n (rightCells O c) ≡ passedAll n ns
+  all-rights n = ap (passedAll n) (H .cells) ∙ passed-zeros n ns (4 - length ns)
+
+  pub passed-four : (n a b d e i j k r : ℕ) → a ≡ part O c 3 → i ≡ passed n a → b ≡ part O c 4 → j ≡ passed i b → d ≡ part O c 5 → k ≡ passed j d → e ≡ part O c 6 → r ≡ passed k e → r ≡ passedAll n ns
+  passed-four n a b d e i j k r pa pi pb pj pd pk pe pr =
+      pr ∙ ap₂ passed (pk ∙ ap₂ passed (pj ∙ ap₂ passed (pi ∙ ap (passed n) pa) pb) pd) pe ∙ all-rights n
+
+-- No sum wraps on the way: every number is at most the last.
+module _ {O : List ℕ} {c n : ℕ} (H : PassesRights O c n) where
+  all-fit : passedAll n (rightCells O c) < 65536
+  all-fit = subst (λ (m : ℕ). m < 65536) (sym (all-rights (H .names) n)) (H .fits)
+
+  pub fits-first : (a : ℕ) → a ≡ part O c 3 → passed n a < 65536
+  fits-first a pa = let z = passed-all-above (passed n (part O c 3)) (part O c 4 ∷ part O c 5 ∷ part O c 6 ∷ []) in rw pa (omega (arith, all-fit))
+
+  pub fits-second : (a i b : ℕ) → a ≡ part O c 3 → i ≡ passed n a → b ≡ part O c 4 → passed i b < 65536
+  fits-second a i b pa pi pb = let z = passed-all-above (passed (passed n (part O c 3)) (part O c 4)) (part O c 5 ∷ part O c 6 ∷ []) in rw (pi, pa, pb) (omega (arith, all-fit))
+
+  pub fits-third : (a i b j d : ℕ) → a ≡ part O c 3 → i ≡ passed n a → b ≡ part O c 4 → j ≡ passed i b → d ≡ part O c 5 → passed j d < 65536
+  fits-third a i b j d pa pi pb pj pd = let z = passed-all-above (passed (passed (passed n (part O c 3)) (part O c 4)) (part O c 5)) (part O c 6 ∷ []) in rw (pj, pi, pa, pb, pd) (omega (arith, all-fit))
+
+  pub fits-fourth : (a i b j d k e : ℕ) → a ≡ part O c 3 → i ≡ passed n a → b ≡ part O c 4 → j ≡ passed i b → d ≡ part O c 5 → k ≡ passed j d → e ≡ part O c 6 → passed k e < 65536
+  fits-fourth a i b j d k e pa pi pb pj pd pk pe = rw (pk, pj, pi, pa, pb, pd, pe) all-fit
 
 module _ {A : Type 0} where
   pub numbered-left : (xs ys : List A) (n : ℕ) → 1 ≤ n → n ≤ length xs → numbered (xs ++ ys) n ≡ numbered xs n

@@ -8,30 +8,30 @@ use lib.Dec.{eqb}
 use lib.ListN.{length, take, length-append, length-map}
 use Rattle.unification.specs.Nodes.{part}
 use Rattle.unification.specs.Row.{same}
-use Rattle.derivation.specs.Derivation.{literals, input, RowLiteral, literalOf, Derivation, resolve, factor, numbered, without, raiseLiteral, placed, maximumIndex}
-use Rattle.clauses.specs.Named.{namedLiteral, StoredClause, StoredLiteral, leftOver, passed, raiseNamed, ComesFrom, ComesUp, ComesFromInput}
+use Rattle.derivation.specs.Derivation.{literals, input, RowLiteral, literalOf, Derivation, resolve, factor, numbered, without, withoutAll, raiseLiteral, placed, maximumIndex}
+use Rattle.clauses.specs.Named.{namedLiteral, StoredClause, StoredLiteral, leftOver, passed, passedAll, NamesRights, PassesRights, raiseNamed, ComesFrom, ComesUp, ComesFromInput}
 use Rattle.derivation.specs.Stored.{literalsCell, indexCell, originCode, originNumbers, Cells, Stored, storedInput, storedResolve, storedFactor}
-use Rattle.clauses.proofs.Numbers.{length-without, numbered-without, passed-in, numbered-left, numbered-right, numbered-raised, raise-named-zero, raise-named-twice, input-few, input-numbered}
+use Rattle.clauses.proofs.Numbers.{length-without, numbered-without, passed-in, leftOverAll, length-without-all, numbered-without-all, passed-all-in, numbered-left, numbered-right, numbered-raised, raise-named-zero, raise-named-twice, input-few, input-numbered}
 use Rattle.clauses.specs.declared.literal.NamedLiteral.the-variants.{Found}
 
 pub maximum-low : (d : Derivation) → 1 ≤ maximumIndex d
 maximum-low (input number ls) = omega arith
-maximum-low (resolve number l a r b bs) = let h = maximum-low l in omega arith
+maximum-low (resolve number l a r ns bs) = let h = maximum-low l in omega arith
 maximum-low (factor number d a b bs) = maximum-low d
 
 -- The cells of a stored clause.
 pub stored-cells : {O C B : List ℕ} {c : ℕ} {d : Derivation} → Stored O C B c d → Cells C B c d
 stored-cells (storedInput k q s) = s
-stored-cells (storedResolve k la sa qa lb sb qb s) = s
+stored-cells (storedResolve k o f la sa qa lb sb qb s) = s
 stored-cells (storedFactor k l s₁ qa qb s) = s
 
 module _ {O C : List ℕ} {c n : ℕ} (low : 1 ≤ n) (high : n ≤ literalsCell C c) where
   -- A factor's literal comes from its parent, past the deleted one.
-  pub factor-from : {p a : ℕ} → (originCode O c ≡ 1 → ⊥) → (originCode O c ≡ 3 → ⊥) → p ≡ part O c 0 → a ≡ part O c 2
+  pub factor-from : {p a : ℕ} → originCode O c ≡ 2 → p ≡ part O c 0 → a ≡ part O c 2
       → {B : List ℕ} {d : Derivation} → Stored O C B c d → (p < c) × ComesFrom O C B d n p (passed n a) 0
-  factor-from no₁ no₃ pp pa (storedInput k q s) = absurd (no₁ k)
-  factor-from no₁ no₃ pp pa (storedResolve k la sa qa lb sb qb s) = absurd (no₃ k)
-  factor-from {p} {a} no₁ no₃ pp pa {B} (storedFactor {b = b} {d = e} k l t qa qb s) =
+  factor-from two pp pa (storedInput k q s) = absurd (omega arith)
+  factor-from two pp pa (storedResolve k o f la sa qa lb sb qb s) = absurd (omega arith)
+  factor-from {p} {a} two pp pa {B} (storedFactor {b = b} {d = e} k l t qa qb s) =
       let z : b ≡ a = sym qb ∙ sym pa in
       let t′ : Stored O C B p e = subst (λ (k : ℕ). Stored O C B k e) (sym pp) t in
       let few : n ≤ length (without (literals e) b) = let h = s .literalCount in omega arith in
@@ -40,11 +40,11 @@ module _ {O C : List ℕ} {c n : ℕ} (low : 1 ≤ n) (high : n ≤ literalsCell
       (omega arith, record { source = e; stored = t′; low = i .0; high = i .1; same = numbered-without (literals e) b n low ∙ ap (λ (k : ℕ). numbered (literals e) (passed n k)) z ∙ raise-named-zero (numbered (literals e) (passed n a)); fits = omega arith })
 
   -- A resolvent's literal comes from the left parent, if that has so many left.
-  pub left-from : {p a : ℕ} → originCode O c ≡ 3 → p ≡ part O c 0 → a ≡ part O c 1 → n ≤ leftOver (literalsCell C p) a
+  pub left-from : {p a : ℕ} → (originCode O c ≡ 1 → ⊥) → (originCode O c ≡ 2 → ⊥) → p ≡ part O c 0 → a ≡ part O c 1 → n ≤ leftOver (literalsCell C p) a
       → {B : List ℕ} {d : Derivation} → Stored O C B c d → (p < c) × ComesFrom O C B d n p (passed n a) 0
-  left-from three pp pa few (storedInput k q s) = absurd (omega arith)
-  left-from three pp pa few (storedFactor k l s₁ qa qb s) = absurd (omega arith)
-  left-from {p} {a} three pp pa few {B} (storedResolve {a = a₁} {b = b₁} {l = l} {r = r} k la sa qa lb sb qb s) =
+  left-from no₁ no₂ pp pa few (storedInput k q s) = absurd (no₁ k)
+  left-from no₁ no₂ pp pa few (storedFactor k l s₁ qa qb s) = absurd (no₂ k)
+  left-from {p} {a} no₁ no₂ pp pa few {B} (storedResolve {a = a₁} {ns = ns} {l = l} {r = r} k o f la sa qa lb sb qb s) =
       let z : a₁ ≡ a = sym qa ∙ sym pa in
       let t : Stored O C B p l = subst (λ (k : ℕ). Stored O C B k l) (sym pp) sa in
       let few′ : n ≤ length (without (literals l) a₁) = subst (λ (k : ℕ). n ≤ k) (sym (length-without (literals l) a₁ ∙ ap₂ leftOver (sym (stored-cells t .literalCount)) z)) few in
@@ -56,43 +56,60 @@ module _ {O C : List ℕ} {c n : ℕ} (low : 1 ≤ n) (high : n ≤ literalsCell
           low = i .0;
           high = i .1;
           same =
-              numbered-left (without (literals l) a₁) (map (raiseLiteral (maximumIndex l)) (without (literals r) b₁)) n low few′
+              numbered-left (without (literals l) a₁) (map (raiseLiteral (maximumIndex l)) (withoutAll (literals r) ns)) n low few′
               ∙ numbered-without (literals l) a₁ n low ∙ ap (λ (k : ℕ). numbered (literals l) (passed n k)) z ∙ raise-named-zero (numbered (literals l) (passed n a));
           fits = omega arith;
         },
       )
 
   -- Else it comes from the right parent, with indices raised by the left maximum index.
-  pub right-from : {p a q b kept m : ℕ} → originCode O c ≡ 3 → p ≡ part O c 0 → a ≡ part O c 1
-      → q ≡ part O c 2 → b ≡ part O c 3 → kept ≡ leftOver (literalsCell C p) a → kept < n → m ≡ indexCell C p
-      → {B : List ℕ} {d : Derivation} → Stored O C B c d → (q < c) × ComesFrom O C B d n q (passed (n - kept) b) m
-  right-from three pp pa pq pb pk more pm (storedInput k q s) = absurd (omega arith)
-  right-from three pp pa pq pb pk more pm (storedFactor k l s₁ qa qb s) = absurd (omega arith)
-  right-from {p} {a} {q} {b} {kept} {m} three pp pa pq pb pk more pm {B} (storedResolve {a = a₁} {b = b₁} {l = l} {r = r} k la sa qa lb sb qb s) =
+  pub right-from : {p a q j kept m : ℕ} → (originCode O c ≡ 1 → ⊥) → (originCode O c ≡ 2 → ⊥) → p ≡ part O c 0 → a ≡ part O c 1
+      → q ≡ part O c 2 → ((ns : List ℕ) → NamesRights O c ns → j ≡ passedAll (n - kept) ns) → kept ≡ leftOver (literalsCell C p) a → kept < n → m ≡ indexCell C p
+      → {B : List ℕ} {d : Derivation} → Stored O C B c d → (q < c) × ComesFrom O C B d n q j m
+  right-from no₁ no₂ pp pa pq pj pk more pm (storedInput k q s) = absurd (no₁ k)
+  right-from no₁ no₂ pp pa pq pj pk more pm (storedFactor k l s₁ qa qb s) = absurd (no₂ k)
+  right-from {p} {a} {q} {j} {kept} {m} no₁ no₂ pp pa pq pj pk more pm {B} (storedResolve {a = a₁} {ns = ns} {l = l} {r = r} k o f la sa qa lb sb qb s) =
       let t : Stored O C B p l = subst (λ (k : ℕ). Stored O C B k l) (sym pp) sa in
       let t′ : Stored O C B q r = subst (λ (k : ℕ). Stored O C B k r) (sym pq) sb in
       let z : length (without (literals l) a₁) ≡ kept = length-without (literals l) a₁ ∙ ap₂ leftOver (sym (stored-cells t .literalCount)) (sym qa ∙ sym pa) ∙ sym pk in
-      let y : b₁ ≡ b = sym qb ∙ sym pb in
+      let y : j ≡ passedAll (n - kept) ns = pj ns (record { code = k; some = o; few = f; cells = qb }) in
       let x : maximumIndex l ≡ m = sym (stored-cells t .index) ∙ sym pm in
-      let w : length (without (literals r) b₁) ≡ leftOver (literalsCell C q) b = length-without (literals r) b₁ ∙ ap₂ leftOver (sym (stored-cells t′ .literalCount)) y in
-      let v : literalsCell C c ≡ length (without (literals l) a₁) + length (without (literals r) b₁)
-      = s .literalCount ∙ length-append (without (literals l) a₁) (map (raiseLiteral (maximumIndex l)) (without (literals r) b₁))
-      ∙ ap (λ (k : ℕ). length (without (literals l) a₁) + k) (length-map (without (literals r) b₁) (raiseLiteral (maximumIndex l))) in
-      let i = passed-in (literalsCell C q) b (n - kept) (omega arith) (omega arith) in (
+      let w : length (withoutAll (literals r) ns) ≡ leftOverAll (literalsCell C q) ns = length-without-all (literals r) ns ∙ ap (λ (i : ℕ). leftOverAll i ns) (sym (stored-cells t′ .literalCount)) in
+      let v : literalsCell C c ≡ length (without (literals l) a₁) + length (withoutAll (literals r) ns)
+      = s .literalCount ∙ length-append (without (literals l) a₁) (map (raiseLiteral (maximumIndex l)) (withoutAll (literals r) ns))
+      ∙ ap (λ (k : ℕ). length (without (literals l) a₁) + k) (length-map (withoutAll (literals r) ns) (raiseLiteral (maximumIndex l))) in
+      let i = passed-all-in (literalsCell C q) ns (n - kept) (omega arith) (omega arith) in (
         omega arith,
         record {
           source = r;
           stored = t′;
-          low = i .0;
-          high = i .1;
+          low = subst (λ (i : ℕ). 1 ≤ i) (sym y) (i .0);
+          high = subst (λ (i : ℕ). i ≤ literalsCell C q) (sym y) (i .1);
           same =
-              numbered-right (without (literals l) a₁) (map (raiseLiteral (maximumIndex l)) (without (literals r) b₁)) n (omega arith)
-              ∙ numbered-raised (maximumIndex l) (without (literals r) b₁) (n - length (without (literals l) a₁))
-              ∙ ap₂ (λ (k j : ℕ). raiseNamed k (numbered (without (literals r) b₁) (n - j))) x z
-              ∙ ap (raiseNamed m) (numbered-without (literals r) b₁ (n - kept) (omega arith) ∙ ap (λ (k : ℕ). numbered (literals r) (passed (n - kept) k)) y);
+              numbered-right (without (literals l) a₁) (map (raiseLiteral (maximumIndex l)) (withoutAll (literals r) ns)) n (omega arith)
+              ∙ numbered-raised (maximumIndex l) (withoutAll (literals r) ns) (n - length (without (literals l) a₁))
+              ∙ ap₂ (λ (k j : ℕ). raiseNamed k (numbered (withoutAll (literals r) ns) (n - j))) x z
+              ∙ ap (raiseNamed m) (numbered-without-all (literals r) ns (n - kept) (omega arith) ∙ ap (numbered (literals r)) (sym y));
           fits = omega arith;
         },
       )
+
+  -- What the code asks where it passes the right literals.
+  pub rights-pass : {p a q kept : ℕ} → length O ≡ 32768 → (originCode O c ≡ 1 → ⊥) → (originCode O c ≡ 2 → ⊥) → p ≡ part O c 0 → a ≡ part O c 1
+      → q ≡ part O c 2 → kept ≡ leftOver (literalsCell C p) a → kept < n → literalsCell C q < 65536
+      → {B : List ℕ} {d : Derivation} → Stored O C B c d → PassesRights O c (n - kept)
+  rights-pass room no₁ no₂ pp pa pq pk more small (storedInput k q s) = absurd (no₁ k)
+  rights-pass room no₁ no₂ pp pa pq pk more small (storedFactor k l s₁ qa qb s) = absurd (no₂ k)
+  rights-pass {p} {a} {q} {kept} room no₁ no₂ pp pa pq pk more small {B} (storedResolve {a = a₁} {ns = ns} {l = l} {r = r} k o f la sa qa lb sb qb s) =
+      let t : Stored O C B p l = subst (λ (k : ℕ). Stored O C B k l) (sym pp) sa in
+      let t′ : Stored O C B q r = subst (λ (k : ℕ). Stored O C B k r) (sym pq) sb in
+      let z : length (without (literals l) a₁) ≡ kept = length-without (literals l) a₁ ∙ ap₂ leftOver (sym (stored-cells t .literalCount)) (sym qa ∙ sym pa) ∙ sym pk in
+      let w : length (withoutAll (literals r) ns) ≡ leftOverAll (literalsCell C q) ns = length-without-all (literals r) ns ∙ ap (λ (i : ℕ). leftOverAll i ns) (sym (stored-cells t′ .literalCount)) in
+      let v : literalsCell C c ≡ length (without (literals l) a₁) + length (withoutAll (literals r) ns)
+      = s .literalCount ∙ length-append (without (literals l) a₁) (map (raiseLiteral (maximumIndex l)) (withoutAll (literals r) ns))
+      ∙ ap (λ (k : ℕ). length (without (literals l) a₁) + k) (length-map (withoutAll (literals r) ns) (raiseLiteral (maximumIndex l))) in
+      let i = passed-all-in (literalsCell C q) ns (n - kept) (omega arith) (omega arith) .1 in
+      record { room = room; numbers = ns; names = record { code = k; some = o; few = f; cells = qb }; fits = omega arith }
 
 -- From clause to clause.
 pub from-itself : {O C B : List ℕ} {c n : ℕ} {d : Derivation} → 1 ≤ n → n ≤ literalsCell C c → Stored O C B c d → ComesFrom O C B d n c n 0
@@ -107,7 +124,7 @@ from-further {m = m} {j = j} {i = i} h g =
 -- In an input clause the literal is one of its seven numbers.
 input-at : {O C B : List ℕ} {p k : ℕ} {d : Derivation} → originCode O p ≡ 1 → 1 ≤ k → k ≤ literalsCell C p → Stored O C B p d
     → (k ≤ 7) × (numbered (literals d) k ≡ some (literalOf (part O p (k - 1)) .0, (literalOf (part O p (k - 1)) .1, 1)))
-input-at one low high (storedResolve k la sa qa lb sb qb s) = absurd (omega arith)
+input-at one low high (storedResolve k o f la sa qa lb sb qb s) = absurd (omega arith)
 input-at one low high (storedFactor k l s₁ qa qb s) = absurd (omega arith)
 input-at {O} {C} {p = p} {k = k} one low high (storedInput {ls = ls} kk q s) =
     let h : k ≤ length (placed 1 (map literalOf (take (literalsCell C p) (originNumbers O p)))) = let z = s .literalCount in rw q (omega arith) in
@@ -137,19 +154,23 @@ pub comes-high : {O C : List ℕ} {c n p k m : ℕ} → StoredLiteral O C c n �
 comes-high H up = up _ _ (H .clause .stored) .1 .high
 
 module _ {O C : List ℕ} {c n u : ℕ} (H : StoredLiteral O C c n) (pu : u ≡ originCode O c) where
-  pub factor-up : {p a : ℕ} → (originCode O c ≡ 1 → ⊥) → (u ≡ 3 → ⊥) → p ≡ part O c 0 → a ≡ part O c 2
+  pub factor-up : {p a : ℕ} → u ≡ 2 → p ≡ part O c 0 → a ≡ part O c 2
       → (B : List ℕ) (d : Derivation) → Stored O C B c d → (p < c) × ComesFrom O C B d n p (passed n a) 0
-  factor-up no₁ no₃ pp pa B d s = factor-from (H .low) (H .high) no₁ (λ z. no₃ (pu ∙ z)) pp pa s
+  factor-up two pp pa B d s = factor-from (H .low) (H .high) (sym pu ∙ two) pp pa s
 
-  module _ {p a count kept : ℕ} (three : u ≡ 3) (pp : p ≡ part O c 0) (pa : a ≡ part O c 1) (pc : count ≡ literalsCell C p) (pk : kept ≡ leftOver count a) where
+  module _ {p a count kept : ℕ} (no₁ : originCode O c ≡ 1 → ⊥) (no₂ : u ≡ 2 → ⊥) (pp : p ≡ part O c 0) (pa : a ≡ part O c 1) (pc : count ≡ literalsCell C p) (pk : kept ≡ leftOver count a) where
     pub left-up : n ≤ kept → (B : List ℕ) (d : Derivation) → Stored O C B c d → (p < c) × ComesFrom O C B d n p (passed n a) 0
     left-up few B d s =
-        left-from (H .low) (H .high) (sym pu ∙ three) pp pa (subst (λ (k : ℕ). n ≤ k) (pk ∙ ap (λ (k : ℕ). leftOver k a) pc) few) s
+        left-from (H .low) (H .high) no₁ (λ z. no₂ (pu ∙ z)) pp pa (subst (λ (k : ℕ). n ≤ k) (pk ∙ ap (λ (k : ℕ). leftOver k a) pc) few) s
 
-    pub right-up : {q b m : ℕ} → kept < n → q ≡ part O c 2 → b ≡ part O c 3 → m ≡ indexCell C p
-        → (B : List ℕ) (d : Derivation) → Stored O C B c d → (q < c) × ComesFrom O C B d n q (passed (n - kept) b) m
-    right-up more pq pb pm B d s =
-        right-from (H .low) (H .high) (sym pu ∙ three) pp pa pq pb (pk ∙ ap (λ (k : ℕ). leftOver k a) pc) more pm s
+    pub right-up : {q j m : ℕ} → kept < n → q ≡ part O c 2 → ((ns : List ℕ) → NamesRights O c ns → j ≡ passedAll (n - kept) ns) → m ≡ indexCell C p
+        → (B : List ℕ) (d : Derivation) → Stored O C B c d → (q < c) × ComesFrom O C B d n q j m
+    right-up more pq pj pm B d s =
+        right-from (H .low) (H .high) no₁ (λ z. no₂ (pu ∙ z)) pp pa pq pj (pk ∙ ap (λ (k : ℕ). leftOver k a) pc) more pm s
+
+    pub right-passes : {q : ℕ} → kept < n → q ≡ part O c 2 → literalsCell C q < 65536 → PassesRights O c (n - kept)
+    right-passes more pq small =
+        rights-pass (H .low) (H .high) (H .clause .room) no₁ (λ z. no₂ (pu ∙ z)) pp pa pq (pk ∙ ap (λ (k : ℕ). leftOver k a) pc) more small (H .clause .stored)
 
 -- One more step of the walk.
 pub walked : {O C : List ℕ} {c n p k m q j i : ℕ} → ((B : List ℕ) (d : Derivation) → Stored O C B c d → ComesFrom O C B d n p k m) → ComesUp O C p k q j i

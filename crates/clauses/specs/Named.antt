@@ -1,13 +1,13 @@
 -- Document 01, "Indices and bindings": a literal of a clause by its number, found or none, and the input clause that it comes from.
 use mathlib.Core.Path.{_≡_}
 use mathlib.Core.Option.{Option, none, some}
-use mathlib.Core.List.{List}
+use mathlib.Core.List.{List, [], _∷_, _++_}
 use Prim.Native.Nat.{ℕ, _+_, _-_, _≤_, _<_}
 use lib.Dec.{eqb, leb, ltb}
-use lib.ListN.{length}
+use lib.ListN.{length, replicate}
 use Rattle.record.specs.Record.{pick}
 use Rattle.derivation.specs.Derivation.{literals, Literal, Derivation, numbered, raiseLiteral, maximumIndex}
-use Rattle.derivation.specs.Stored.{literalsCell, originCode, Stored}
+use Rattle.derivation.specs.Stored.{literalsCell, originCode, rightCells, Stored}
 use Rattle.clauses.specs.declared.literal.NamedLiteral.{NamedLiteral}
 use Rattle.clauses.specs.declared.literal.NamedLiteral.the-variants.{Found, Absent}
 
@@ -36,6 +36,25 @@ leftOver count a = pick (eqb a 0) count (pick (leb a count) (count - 1) count)
 
 unfoldable pub passed : ℕ → ℕ → ℕ
 passed n a = pick (eqb a 0) n (pick (ltb n a) n (n + 1))
+
+-- The same without several numbers that rise: the number among all is past each of them in turn.
+abbrev pub passedAll : ℕ → List ℕ → ℕ
+passedAll n [] = n
+passedAll n (a ∷ ns) = passedAll (passed n a) ns
+
+-- A resolve names one to four right literals, and its origin holds them (document 02, Q-3).
+pub record NamesRights (O : List ℕ) (c : ℕ) (ns : List ℕ) : Type 0 where
+  pub code : originCode O c ≡ 2 + length ns
+  pub some : 1 ≤ length ns
+  pub few : length ns ≤ 4
+  pub cells : rightCells O c ≡ ns ++ replicate (4 - length ns) 0
+
+-- Some right literals are named, and the number past all of them is one of the program's.
+pub record PassesRights (O : List ℕ) (c n : ℕ) : Type 0 where
+  pub room : length O ≡ 32768
+  pub numbers : List ℕ
+  pub names : NamesRights O c numbers
+  pub fits : passedAll n numbers < 65536
 
 -- A literal that is there, with its index raised by m.
 abbrev pub raiseNamed : ℕ → Option Literal → Option Literal

@@ -36,8 +36,8 @@ pub fn bindings_cell(clauses: &[u16], c: u16) -> u16
     cell(clauses, 5 * (c as usize) + 4)
 }
 
-// Cell 0 of clause c in the table of origins: 1 for an input clause, 2 for a factor, 3 for a resolve. Its seven numbers are read by
-// `part_of`, as a row's are.
+// Cell 0 of clause c in the table of origins: 1 for an input clause, 2 for a factor, 2 more than the number of right literals for a resolve.
+// Its seven numbers are read by `part_of`, as a row's are.
 pub fn origin_code(origins: &Origins, c: u16) -> u16
     requires { ⌜ length (now origins) ≡ 32768 ⌝ }
     ensures { λ r. ⌜ r ≡ originCode (now (origins .entry)) c ⌝ }

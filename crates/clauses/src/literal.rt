@@ -4,7 +4,7 @@ ghost use mathlib.Core.List.{List};
 ghost use Prim.Native.Nat.{ℕ, _<_};
 ghost use Rattle.derivation.specs.Derivation.{Derivation, literals, numbered};
 ghost use Rattle.derivation.specs.Stored.{Stored, originCode};
-ghost use Rattle.clauses.specs.Named.{namedLiteral, StoredClause, StoredLiteral, leftOver, passed, ComesUp, ComesFromInput};
+ghost use Rattle.clauses.specs.Named.{namedLiteral, StoredClause, StoredLiteral, leftOver, passed, passedAll, NamesRights, PassesRights, ComesUp, ComesFromInput};
 use super::index_cell;
 use super::literals_cell;
 use super::origin_code;
@@ -45,6 +45,20 @@ fn passed_over(n: u16, a: u16) -> u16
     if n < a { n } else { n + 1 }
 }
 
+// The number that the n-th of the right parent's literals left has among all of them: past each literal that the resolve names. Most name one.
+fn passed_rights(origins: &Origins, c: u16, n: u16) -> u16
+    requires { ⌜ PassesRights (now origins) c n ⌝ }
+    ensures { λ r. ⌜ ((ns : List ℕ) → NamesRights (now (origins .entry)) c ns → r ≡ passedAll n ns) ⌝ }
+{
+    let first = passed_over(n, part_of(origins, c, 3));
+    if origin_code(origins, c) == 3 {
+        return first;
+    }
+    let second = passed_over(first, part_of(origins, c, 4));
+    let third = passed_over(second, part_of(origins, c, 5));
+    passed_over(third, part_of(origins, c, 6))
+}
+
 // The parent that literal n of a resolvent or a factor comes from.
 fn parent_place(origins: &Origins, clauses: &[u16], c: u16, n: u16) -> Place
     requires { ⌜ StoredLiteral (now origins) (now clauses) c n ⌝ }
@@ -53,7 +67,7 @@ fn parent_place(origins: &Origins, clauses: &[u16], c: u16, n: u16) -> Place
 {
     let left = part_of(origins, c, 0);
     let right = part_of(origins, c, 2);
-    if origin_code(origins, c) != 3 {
+    if origin_code(origins, c) == 2 {
         return Place {
             clause: left,
             number: passed_over(n, right),
@@ -72,7 +86,7 @@ fn parent_place(origins: &Origins, clauses: &[u16], c: u16, n: u16) -> Place
     let raised = index_cell(clauses, left);
     Place {
         clause: right,
-        number: passed_over(n - kept, part_of(origins, c, 3)),
+        number: passed_rights(origins, c, n - kept),
         added: raised,
     }
 }

@@ -1,21 +1,19 @@
 -- The bindings of a clause, its own and its parents': of variable rows that are there, with indices up to the maximum index, and of
 -- variables that its parents do not bind.
 use mathlib.Core.Path.{_≡_, refl}
-use mathlib.Core.Bool.{not}
 use mathlib.Core.Option.{none}
 use mathlib.Core.List.{List, [], _∷_}
 use Prim.Native.Nat.{ℕ, _+_, _<_}
-use native.Mathlib.Omega.{arith}
 use Rattle.unification.specs.Environment.{Binding, Environment}
 use Rattle.unification.specs.Row.{variable, Row, application, Expression}
-use Rattle.unification.specs.Unification.{mostWork, mostLinks, unified, unifying, noRoom}
+use Rattle.unification.specs.Unification.{mostWork, mostLinks, unified, Pair, unifying, noRoom}
 use Rattle.unification.proofs.Lists.{Each, each-more}
 use Rattle.unification.proofs.NewBindings.{NewBinding, NewEnd, new-run}
-use Rattle.unification.proofs.Ranges.{KeptArguments, IndicesKept}
-use Rattle.derivation.specs.Derivation.{literals, input, Derivation, resolve, factor, raise, maximumIndex, joined, lookup}
-use Rattle.derivation.proofs.Known.{Known, KnownRows, KnownEnvironment, known-numbered, known-joined, known-lookup}
+use Rattle.unification.proofs.Ranges.{KeptPairs, KeptArguments, IndicesKept, IndicesKeptPairs}
+use Rattle.derivation.specs.Derivation.{literals, input, Derivation, resolve, factor, pairsWith, maximumIndex, joined, lookup}
+use Rattle.derivation.proofs.Known.{Known, KnownRows, KnownEnvironment, known-numbered, known-pairs, known-joined, known-lookup}
 use Rattle.derivation.proofs.Literals.{In, each-numbered, LiteralIn, literals-in}
-use Rattle.derivation.proofs.Validity.{Unified, Valid, kept-joined, lookup-in}
+use Rattle.derivation.proofs.Validity.{Unified, Valid, kept-joined, resolve-in, lookup-in}
 
 -- A binding over rows of which P holds, with indices from 1 to m.
 pub record BindingThere (row : ℕ → Row) (P : ℕ → Type 0) (m : ℕ) (b : Binding) : Type 0 where
@@ -32,7 +30,7 @@ FreeIn ρ b = ρ (b .0) ≡ none
 
 abbrev pub BindingsThere : (ℕ → Row) → (ℕ → Type 0) → Derivation → Type 0
 BindingsThere row P (input number ls) = Unit {0}
-BindingsThere row P (resolve number l a r b bs) =
+BindingsThere row P (resolve number l a r ns bs) =
     BindingsThere row P l × BindingsThere row P r × (Each (BindingThere row P (maximumIndex l + maximumIndex r)) bs × Each (FreeIn (joined (maximumIndex l) (lookup l) (lookup r))) bs)
 BindingsThere row P (factor number d a b bs) = BindingsThere row P d × (Each (BindingThere row P (maximumIndex d)) bs × Each (FreeIn (lookup d)) bs)
 
@@ -45,12 +43,16 @@ module _ (P : ℕ → Type 0) (row : ℕ → Row) (below : (r s : ℕ) (xs : Lis
   arguments-in m [] i h k = tt
   arguments-in m (a ∷ xs) i h k = ((h .0, k), arguments-in m xs i (h .1) k)
 
-  pub unified-bindings : (m : ℕ) (base : Environment) (e d : Expression) (bs : List Binding) → Unified row base e d bs → KnownEnvironment P base → IndicesKept (In m) base → Known P e → In m (e .1) → Known P d → In m (d .1)
+  pairs-in : (m : ℕ) (ps : List Pair) → KeptPairs (Known P) (Known P) ps → IndicesKeptPairs (In m) ps → KeptPairs (InRange m) (InRange m) ps
+  pairs-in m [] h k = tt
+  pairs-in m (p ∷ ps) h k = ((h .0, k .0), (h .1, k .1), pairs-in m ps (h .2) (k .2))
+
+  pub unified-bindings : (m : ℕ) (base : Environment) (ps : List Pair) (bs : List Binding) → Unified row base ps bs → KnownEnvironment P base → IndicesKept (In m) base → KeptPairs (Known P) (Known P) ps → IndicesKeptPairs (In m) ps
       → Each (BindingThere row P m) bs × Each (FreeIn base) bs
-  unified-bindings m base e d bs u h k ke ie kd id =
+  unified-bindings m base ps bs u h k rows indices =
       let z : NewEnd (InRange m) (InRange m) row (λ e v q g. g) (λ e s xs q g. arguments-in m xs (e .1) (below (e .0) s xs q (g .0)) (g .1)) mostLinks (noRoom (u .0)) base (unified bs (u .1))
-      = rw (u .2) at (new-run (InRange m) (InRange m) row (λ e v q g. g) (λ e s xs q g. arguments-in m xs (e .1) (below (e .0) s xs q (g .0)) (g .1)) mostLinks (noRoom (u .0)) base mostWork (unifying [] ((e, d) ∷ []))
-      (λ x c p. ((h x c p .0, k x c p .0), (h x c p .1, k x c p .1)), ((ke, ie), (kd, id), tt)) tt) in (
+      = rw (u .2) at (new-run (InRange m) (InRange m) row (λ e v q g. g) (λ e s xs q g. arguments-in m xs (e .1) (below (e .0) s xs q (g .0)) (g .1)) mostLinks (noRoom (u .0)) base mostWork (unifying [] ps)
+      (λ x c p. ((h x c p .0, k x c p .0), (h x c p .1, k x c p .1)), pairs-in m ps rows indices) tt) in (
         each-more (NewBinding (InRange m) (InRange m) row (λ e v q g. g) (λ e s xs q g. arguments-in m xs (e .1) (below (e .0) s xs q (g .0)) (g .1)) mostLinks (noRoom (u .0)) base) (BindingThere row P m)
             (λ b n. record { number = n .number; isVariable = n .isVariable; variableRow = n .variableKept .0; variableIndex = n .variableKept .1; termRow = n .expressionKept .0; termIndex = n .expressionKept .1 }) bs z,
         each-more (NewBinding (InRange m) (InRange m) row (λ e v q g. g) (λ e s xs q g. arguments-in m xs (e .1) (below (e .0) s xs q (g .0)) (g .1)) mostLinks (noRoom (u .0)) base) (FreeIn base) (λ b n. n .free) bs z,
@@ -58,21 +60,19 @@ module _ (P : ℕ → Type 0) (row : ℕ → Row) (below : (r s : ℕ) (xs : Lis
 
   pub bindings-there : (c : Derivation) → Valid row c → KnownRows P c → BindingsThere row P c
   bindings-there (input number ls) K h = tt
-  bindings-there (resolve number l a r b bs) K h =
-      let c = K .2 in
-      let p = each-numbered (LiteralIn (maximumIndex l)) (literals l) a (c .0, c .1) (c .3) (literals-in l) in
-      let q = each-numbered (LiteralIn (maximumIndex r)) (literals r) b (not (c .0), c .2) (c .4) (literals-in r) in (
+  bindings-there (resolve number l a r ns bs) K h =
+      let c = K .2 in (
         bindings-there l (K .0) (h .0),
         bindings-there r (K .1) (h .1),
-        unified-bindings (maximumIndex l + maximumIndex r) (joined (maximumIndex l) (lookup l) (lookup r)) (c .1) (raise (maximumIndex l) (c .2)) bs (c .5)
+        unified-bindings (maximumIndex l + maximumIndex r) (joined (maximumIndex l) (lookup l) (lookup r)) (pairsWith (maximumIndex l) (c .1) (c .2)) bs (c .6)
             (known-joined P (maximumIndex l) (lookup l) (lookup r) (known-lookup P row row (λ r l. refl) below l (K .0) (h .0)) (known-lookup P row row (λ r l. refl) below r (K .1) (h .1)))
             (kept-joined (maximumIndex l) (maximumIndex r) (lookup l) (lookup r) (lookup-in row l (K .0)) (lookup-in row r (K .1)))
-            (known-numbered P l (h .0) a (c .0, c .1) (c .3)) (omega arith) (known-numbered P r (h .1) b (not (c .0), c .2) (c .4)) (omega arith),
+            (known-pairs P l r a ns (c .0) (c .1) (c .2) (h .0) (h .1) (c .3) (c .4)) (resolve-in l r a ns (c .0) (c .1) (c .2) (c .3) (c .4)),
       )
   bindings-there (factor number d a b bs) K h =
       let c = K .1 in (
         bindings-there d (K .0) h,
-        unified-bindings (maximumIndex d) (lookup d) (c .1) (c .2) bs (c .6) (known-lookup P row row (λ r l. refl) below d (K .0) h) (lookup-in row d (K .0))
-            (known-numbered P d h a (c .0, c .1) (c .3)) (each-numbered (LiteralIn (maximumIndex d)) (literals d) a (c .0, c .1) (c .3) (literals-in d))
-            (known-numbered P d h b (c .0, c .2) (c .4)) (each-numbered (LiteralIn (maximumIndex d)) (literals d) b (c .0, c .2) (c .4) (literals-in d)),
+        unified-bindings (maximumIndex d) (lookup d) ((c .1, c .2) ∷ []) bs (c .6) (known-lookup P row row (λ r l. refl) below d (K .0) h) (lookup-in row d (K .0))
+            (known-numbered P d h a (c .0, c .1) (c .3), known-numbered P d h b (c .0, c .2) (c .4), tt)
+            (each-numbered (LiteralIn (maximumIndex d)) (literals d) a (c .0, c .1) (c .3) (literals-in d), each-numbered (LiteralIn (maximumIndex d)) (literals d) b (c .0, c .2) (c .4) (literals-in d), tt),
       )

@@ -12,18 +12,18 @@ use Rattle.unification.specs.Row.{Row, application, Expression, Variable, rowTe
 use Rattle.unification.specs.Substitution.{composed}
 use Rattle.unification.specs.Term.{Term, apply}
 use Rattle.unification.specs.Unification.{unify, clash, occurs, failed}
-use Rattle.unification.specs.Unifier.{NoUnifier, MostGeneralUnifier}
+use Rattle.unification.specs.Unifier.{TermPair, NoUnifier, MostGeneralUnifier}
 use Rattle.unification.proofs.Lists.{Each, map-each, map-map, map-append}
-use Rattle.unification.proofs.Ranges.{IndicesKept}
+use Rattle.unification.proofs.Ranges.{IndicesKept, IndicesKeptPairs}
 use Rattle.unification.proofs.Solved.{Solved, unbound-at}
 use Rattle.unification.proofs.Terms.{variables-more, variables-apply}
-use Rattle.derivation.specs.Derivation.{literals, Literal, Derivation, resolve, factor, numbered, without, raise, raiseLiteral, maximumIndex, joined, lookup}
+use Rattle.derivation.specs.Derivation.{literals, Literal, Derivation, resolve, factor, numbered, without, numberedAll, withoutAll, StrictlyRising, raise, pairsWith, raiseLiteral, maximumIndex, joined, lookup}
 use Rattle.derivation.specs.Textbook.{instantiated, Resolvent, Factor, ClauseVariables, StandardizedApart}
 use Rattle.derivation.specs.Written.{written, Clause, substitution, renamed, joinedSubstitution, writtenLiteral}
-use Rattle.derivation.proofs.Literals.{In, map-without, map-numbered, each-numbered, each-without, LiteralIn, literals-in}
+use Rattle.derivation.proofs.Literals.{In, map-without, map-numbered, map-without-all, map-numbered-all, each-numbered, each-without, each-without-all, LiteralIn, literals-in}
 use Rattle.derivation.proofs.Substitutions.{written-left, written-right, solved-joined, lookup-solved}
-use Rattle.derivation.proofs.Unifiers.{unifier, no-unifier, value-after, most-general}
-use Rattle.derivation.proofs.Validity.{Unified, Valid, kept-joined, lookup-in}
+use Rattle.derivation.proofs.Unifiers.{writtenPairs, unifier, no-unifier, value-after, most-general}
+use Rattle.derivation.proofs.Validity.{Unified, Valid, signed, kept-joined, right-in, resolve-in, lookup-in}
 
 -- Literals written out by two substitutions.
 module _ (term : ℕ → Term ℕ) where
@@ -120,52 +120,59 @@ module _ (row : ℕ → Row) (term : ℕ → Term ℕ) (termLaw : (r : ℕ) → 
     rights : (e : Expression) → In n (e .1) → writtenOut term both (raise m e) ≡ apply (renamed m) (writtenOut term (substitution term r) e)
     rights e o = written-right term m n (lookup l) (lookup r) kl kr (substitution term l) (substitution term r) sl sr e (o .0)
 
-    module _ (a b : ℕ) (s : Bool) (e d : Expression) (p : numbered (literals l) a ≡ some (s, e)) (q : numbered (literals r) b ≡ some (not s, d)) where
+    module _ (a : ℕ) (ns : List ℕ) (s : Bool) (e : Expression) (ds : List Expression) (p : numbered (literals l) a ≡ some (s, e)) (q : numberedAll (literals r) ns ≡ some (signed (not s) ds)) where
       oe : In m (e .1)
       oe = each-numbered (LiteralIn m) (literals l) a (s, e) p (literals-in l)
 
-      od : In n (d .1)
-      od = each-numbered (LiteralIn n) (literals r) b (not s, d) q (literals-in r)
+      -- The pairs, written out: the left atom with each right one, renamed apart.
+      written-pairs : (cs : List Expression) → Each (λ c. In n (c .1)) cs → writtenPairs term both (pairsWith m e cs) ≡ map (λ t. (writtenOut term (substitution term l) e, t)) (map (λ c. apply (renamed m) (writtenOut term (substitution term r) c)) cs)
+      written-pairs [] h = refl
+      written-pairs (c ∷ cs) h = ap₂ (λ (x : TermPair) (xs : List TermPair). x ∷ xs) (ap₂ (λ (x y : Term Variable). (x, y)) (lefts e oe) (rights c (h .0))) (written-pairs cs (h .1))
 
-      oe′ : In (m + n) (e .1)
-      oe′ = omega (arith, oe)
+      pairs-written : writtenPairs term both (pairsWith m e ds) ≡ map (λ t. (writtenOut term (substitution term l) e, t)) (map (λ c. apply (renamed m) (writtenOut term (substitution term r) c)) ds)
+      pairs-written = written-pairs ds (right-in r ns (not s) ds q)
 
-      od′ : In (m + n) (m + d .1)
-      od′ = omega (arith, od)
-
-      -- A clash or an occurrence: the two atoms, written out and apart, have no unifier.
-      pub no-resolvent : (Y : Type 0) (held : ℕ) → (unify row held (joined (maximumIndex l) (lookup l) (lookup r)) e (raise (maximumIndex l) d) ≡ failed clash) ⊎ (unify row held (joined (maximumIndex l) (lookup l) (lookup r)) e (raise (maximumIndex l) d) ≡ failed occurs)
-          → NoUnifier Y ((writtenOut term (substitution term l) e, apply (renamed (maximumIndex l)) (writtenOut term (substitution term r) d)) ∷ [])
-      no-resolvent Y held f δ z =
-          no-unifier row term termLaw (In (m + n)) base both S Y held e (raise m d) f δ (ap (apply δ) (lefts e oe) ∙ z .0 ∙ sym (ap (apply δ) (rights d od)), tt)
+      -- A clash or an occurrence: the atoms, written out and apart, have no unifier.
+      pub no-resolvent : (Y : Type 0) (held : ℕ) → (unify row held (joined (maximumIndex l) (lookup l) (lookup r)) (pairsWith (maximumIndex l) e ds) ≡ failed clash) ⊎ (unify row held (joined (maximumIndex l) (lookup l) (lookup r)) (pairsWith (maximumIndex l) e ds) ≡ failed occurs)
+          → NoUnifier Y (map (λ t. (writtenOut term (substitution term l) e, t)) (map (λ c. apply (renamed (maximumIndex l)) (writtenOut term (substitution term r) c)) ds))
+      no-resolvent Y held f = subst (NoUnifier Y) pairs-written (no-unifier row term termLaw (In (m + n)) base both S Y held (pairsWith m e ds) f)
 
       module _ (arities : (r q s : ℕ) (xs ys : List ℕ) → row r ≡ application s xs → row q ≡ application s ys → length xs ≡ length ys)
-          (bs : List Binding) (u : Unified row (joined (maximumIndex l) (lookup l) (lookup r)) e (raise (maximumIndex l) d) bs) where
+          (rise : StrictlyRising ns) (bs : List Binding) (u : Unified row (joined (maximumIndex l) (lookup l) (lookup r)) (pairsWith (maximumIndex l) e ds) bs) where
+        κp : IndicesKeptPairs (In (m + n)) (pairsWith m e ds)
+        κp = resolve-in l r a ns s e ds p q
+
         abbrev θ : Variable → Term Variable
-        θ = unifier row term termLaw (In (m + n)) base both S arities e (raise m d) bs u κ oe′ od′
+        θ = unifier row term termLaw (In (m + n)) base both S arities (pairsWith m e ds) bs u κ κp
 
         left-part : map (writtenLiteral term both) (without (literals l) a) ≡ without (written term l) a
         left-part = written-same term both (substitution term l) m lefts (without (literals l) a) (each-without (LiteralIn m) (literals l) a (literals-in l)) ∙ map-without (writtenLiteral term (substitution term l)) (literals l) a
 
-        right-part : map (writtenLiteral term both) (map (raiseLiteral m) (without (literals r) b)) ≡ without (instantiated (renamed m) (written term r)) b
+        right-part : map (writtenLiteral term both) (map (raiseLiteral m) (withoutAll (literals r) ns)) ≡ withoutAll (instantiated (renamed m) (written term r)) ns
         right-part =
-            written-raised term (substitution term r) both (renamed m) m n rights (without (literals r) b) (each-without (LiteralIn n) (literals r) b (literals-in r))
-            ∙ ap (instantiated (renamed m)) (map-without (writtenLiteral term (substitution term r)) (literals r) b)
-            ∙ map-without (λ (x : Bool × Term Variable). (x .0, apply (renamed m) (x .1))) (written term r) b
+            written-raised term (substitution term r) both (renamed m) m n rights (withoutAll (literals r) ns) (each-without-all (LiteralIn n) (literals r) ns (literals-in r))
+            ∙ ap (instantiated (renamed m)) (map-without-all (writtenLiteral term (substitution term r)) (literals r) ns)
+            ∙ map-without-all (λ (x : Bool × Term Variable). (x .0, apply (renamed m) (x .1))) (written term r) ns
 
-        pub is-resolvent : (Y : Type 0) (number : ℕ) → Resolvent Y (renamed (maximumIndex l)) (written term l) a (written term r) b (written term (resolve number l a r b bs))
+        right-literals : (cs : List Expression) → map (λ (x : Bool × Term Variable). (x .0, apply (renamed m) (x .1))) (map (writtenLiteral term (substitution term r)) (signed (not s) cs)) ≡ map {B = Bool × Term Variable} (λ t. (not s, t)) (map (λ c. apply (renamed m) (writtenOut term (substitution term r) c)) cs)
+        right-literals [] = refl
+        right-literals (c ∷ cs) = ap (λ (xs : Clause). (not s, apply (renamed m) (writtenOut term (substitution term r) c)) ∷ xs) (right-literals cs)
+
+        pub is-resolvent : (Y : Type 0) (number : ℕ) → Resolvent Y (renamed (maximumIndex l)) (written term l) a (written term r) ns (written term (resolve number l a r ns bs))
         is-resolvent Y number = record {
           apart = standardized-apart l r Kl Kr;
           sign = s;
           left = writtenOut term (substitution term l) e;
-          right = apply (renamed m) (writtenOut term (substitution term r) d);
+          rights = map (λ c. apply (renamed m) (writtenOut term (substitution term r) c)) ds;
+          rising = rise;
           isLeft = map-numbered (writtenLiteral term (substitution term l)) (literals l) a (s, e) p;
-          isRight = map-numbered (λ (x : Bool × Term Variable). (x .0, apply (renamed m) (x .1))) (written term r) b (not s, writtenOut term (substitution term r) d) (map-numbered (writtenLiteral term (substitution term r)) (literals r) b (not s, d) q);
+          areRight = map-numbered-all (λ (x : Bool × Term Variable). (x .0, apply (renamed m) (x .1))) (written term r) ns (map (writtenLiteral term (substitution term r)) (signed (not s) ds))
+              (map-numbered-all (writtenLiteral term (substitution term r)) (literals r) ns (signed (not s) ds) q)
+              ∙ ap some (right-literals ds);
           unifier = θ;
-          mostGeneral = subst (λ (t : Term Variable). MostGeneralUnifier Y θ ((t, apply (renamed m) (writtenOut term (substitution term r) d)) ∷ [])) (lefts e oe) (subst (λ (t : Term Variable). MostGeneralUnifier Y θ ((writtenOut term both e, t) ∷ [])) (rights d od)
-              (most-general row term termLaw (In (m + n)) base both S arities e (raise m d) bs u κ oe′ od′ Y));
-          result = written-then term both (composed term both bs) θ (m + n) (value-after row term termLaw (In (m + n)) base both S arities e (raise m d) bs u κ oe′ od′) (literals (resolve number l a r b bs)) (literals-in (resolve number l a r b bs))
-              ∙ ap (instantiated θ) (map-append (writtenLiteral term both) (without (literals l) a) (map (raiseLiteral m) (without (literals r) b)) ∙ ap₂ (λ (x y : Clause). x ++ y) left-part right-part);
+          mostGeneral = subst (MostGeneralUnifier Y θ) pairs-written (most-general row term termLaw (In (m + n)) base both S arities (pairsWith m e ds) bs u κ κp Y);
+          result = written-then term both (composed term both bs) θ (m + n) (value-after row term termLaw (In (m + n)) base both S arities (pairsWith m e ds) bs u κ κp) (literals (resolve number l a r ns bs)) (literals-in (resolve number l a r ns bs))
+              ∙ ap (instantiated θ) (map-append (writtenLiteral term both) (without (literals l) a) (map (raiseLiteral m) (withoutAll (literals r) ns)) ∙ ap₂ (λ (x y : Clause). x ++ y) left-part right-part);
         }
 
   module _ (c : Derivation) (K : Valid row c) (a b : ℕ) (s : Bool) (e d : Expression) (p : numbered (literals c) a ≡ some (s, e)) (q : numbered (literals c) b ≡ some (s, d)) where
@@ -184,14 +191,14 @@ module _ (row : ℕ → Row) (term : ℕ → Term ℕ) (termLaw : (r : ℕ) → 
     id : In N (d .1)
     id = each-numbered (LiteralIn N) (literals c) b (s, d) q (literals-in c)
 
-    pub no-factor : (Y : Type 0) (held : ℕ) → (unify row held (lookup c) e d ≡ failed clash) ⊎ (unify row held (lookup c) e d ≡ failed occurs)
+    pub no-factor : (Y : Type 0) (held : ℕ) → (unify row held (lookup c) ((e, d) ∷ []) ≡ failed clash) ⊎ (unify row held (lookup c) ((e, d) ∷ []) ≡ failed occurs)
         → NoUnifier Y ((writtenOut term (substitution term c) e, writtenOut term (substitution term c) d) ∷ [])
-    no-factor Y held f = no-unifier row term termLaw (In N) (lookup c) (substitution term c) Sc Y held e d f
+    no-factor Y held f = no-unifier row term termLaw (In N) (lookup c) (substitution term c) Sc Y held ((e, d) ∷ []) f
 
     module _ (arities : (r q s : ℕ) (xs ys : List ℕ) → row r ≡ application s xs → row q ≡ application s ys → length xs ≡ length ys)
-        (bs : List Binding) (u : Unified row (lookup c) e d bs) (differ : ¬ (a ≡ b)) where
+        (bs : List Binding) (u : Unified row (lookup c) ((e, d) ∷ []) bs) (differ : ¬ (a ≡ b)) where
       abbrev φ : Variable → Term Variable
-      φ = unifier row term termLaw (In N) (lookup c) (substitution term c) Sc arities e d bs u κc ie id
+      φ = unifier row term termLaw (In N) (lookup c) (substitution term c) Sc arities ((e, d) ∷ []) bs u κc (ie, id, tt)
 
       pub is-factor : (Y : Type 0) (number : ℕ) → Factor Y (written term c) a b (written term (factor number c a b bs))
       is-factor Y number = record {
@@ -202,7 +209,7 @@ module _ (row : ℕ → Row) (term : ℕ → Term ℕ) (termLaw : (r : ℕ) → 
         isRight = map-numbered (writtenLiteral term (substitution term c)) (literals c) b (s, d) q;
         different = differ;
         unifier = φ;
-        mostGeneral = most-general row term termLaw (In N) (lookup c) (substitution term c) Sc arities e d bs u κc ie id Y;
-        result = written-then term (substitution term c) (composed term (substitution term c) bs) φ N (value-after row term termLaw (In N) (lookup c) (substitution term c) Sc arities e d bs u κc ie id) (without (literals c) b) (each-without (LiteralIn N) (literals c) b (literals-in c))
+        mostGeneral = most-general row term termLaw (In N) (lookup c) (substitution term c) Sc arities ((e, d) ∷ []) bs u κc (ie, id, tt) Y;
+        result = written-then term (substitution term c) (composed term (substitution term c) bs) φ N (value-after row term termLaw (In N) (lookup c) (substitution term c) Sc arities ((e, d) ∷ []) bs u κc (ie, id, tt)) (without (literals c) b) (each-without (LiteralIn N) (literals c) b (literals-in c))
             ∙ ap (instantiated φ) (map-without (writtenLiteral term (substitution term c)) (literals c) b);
       }

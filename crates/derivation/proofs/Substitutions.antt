@@ -1,6 +1,6 @@
 -- A clause's substitution gives every variable its value there.
 use mathlib.Core.Path.{_≡_, refl, sym, ap, _∙_, subst}
-use mathlib.Core.Bool.{Bool, true, false, not}
+use mathlib.Core.Bool.{Bool, true, false}
 use mathlib.Core.Option.{Option, none, some}
 use mathlib.Core.List.{List, [], _∷_}
 use Prim.Native.Nat.{ℕ, _+_, _-_, _≤_, _<_}
@@ -10,16 +10,16 @@ use Rattle.unification.specs.Environment.{Binding, Environment, extend, Respect
 use Rattle.unification.specs.Row.{Row, Expression, Variable, rowTerm, writtenOut}
 use Rattle.unification.specs.Substitution.{composed}
 use Rattle.unification.specs.Term.{Term, var, apply, Variables}
-use Rattle.unification.specs.Unification.{mostWork, mostLinks, unified, unifying, noRoom}
-use Rattle.unification.proofs.Ranges.{IndicesKept}
+use Rattle.unification.specs.Unification.{mostWork, mostLinks, unified, Pair, unifying, noRoom}
+use Rattle.unification.proofs.Ranges.{IndicesKept, IndicesKeptPairs}
 use Rattle.unification.proofs.Solved.{Solved}
 use Rattle.unification.proofs.SolvedRun.{SolvedEnd, solved-run}
 use Rattle.unification.proofs.Terms.{apply-ext, apply-apply, variables-more, variables-apply}
 use Rattle.unification.proofs.Tests.{to-T, some-not-none, some-injective}
-use Rattle.derivation.specs.Derivation.{literals, input, Derivation, resolve, factor, raise, maximumIndex, raiseAnswer, joined, lookup}
+use Rattle.derivation.specs.Derivation.{literals, input, Derivation, resolve, factor, raise, pairsWith, maximumIndex, raiseAnswer, joined, lookup}
 use Rattle.derivation.specs.Written.{substitution, renamed, joinedSubstitution}
 use Rattle.derivation.proofs.Literals.{In, each-numbered, LiteralIn, literals-in, leb-true, leb-false, leb-false-lt, joined-left, joined-right}
-use Rattle.derivation.proofs.Validity.{Unified, Valid, kept-joined, lookup-in, respects-left, respects-right}
+use Rattle.derivation.proofs.Validity.{Unified, Valid, kept-joined, resolve-in, lookup-in, respects-left, respects-right}
 
 module _ (m : ℕ) where
   -- An index is the left parent's, or raised from the right one's.
@@ -106,26 +106,24 @@ solved-none good term ρ h = record {
 }
 
 module _ (row : ℕ → Row) (term : ℕ → Term ℕ) (termLaw : (r : ℕ) → term r ≡ rowTerm term r (row r)) where
-  pub unified-solved : (good : ℕ → Type 0) (base : Environment) (e d : Expression) (bs : List Binding) → Unified row base e d bs → IndicesKept good base → good (e .1) → good (d .1)
+  pub unified-solved : (good : ℕ → Type 0) (base : Environment) (ps : List Pair) (bs : List Binding) → Unified row base ps bs → IndicesKept good base → IndicesKeptPairs good ps
       → (σ : Variable → Term Variable) → Solved good term base σ → Solved good term (extend base bs) (composed term σ bs)
-  unified-solved good base e d bs u h a b σ S =
-      let k : SolvedEnd good row mostLinks (noRoom (u .0)) base term termLaw σ (unified bs (u .1)) = rw (u .2) at (solved-run good row mostLinks (noRoom (u .0)) base term termLaw σ mostWork (unifying [] ((e, d) ∷ [])) (h, (a, b, tt)) S) in
+  unified-solved good base ps bs u h κ σ S =
+      let k : SolvedEnd good row mostLinks (noRoom (u .0)) base term termLaw σ (unified bs (u .1)) = rw (u .2) at (solved-run good row mostLinks (noRoom (u .0)) base term termLaw σ mostWork (unifying [] ps) (h, κ) S) in
       k
 
   pub lookup-solved : (c : Derivation) → Valid row c → Solved (In (maximumIndex c)) term (lookup c) (substitution term c)
   lookup-solved (input number ls) K = solved-none (In 1) term (lookup (input number ls)) (λ x. refl)
-  lookup-solved (resolve number l a r b bs) K =
+  lookup-solved (resolve number l a r ns bs) K =
       let c = K .2 in
-      let p = each-numbered (LiteralIn (maximumIndex l)) (literals l) a (c .0, c .1) (c .3) (literals-in l) in
-      let q = each-numbered (LiteralIn (maximumIndex r)) (literals r) b (not (c .0), c .2) (c .4) (literals-in r) in
       let kl = lookup-in row l (K .0) in
       let kr = lookup-in row r (K .1) in
-      unified-solved (In (maximumIndex l + maximumIndex r)) (joined (maximumIndex l) (lookup l) (lookup r)) (c .1) (raise (maximumIndex l) (c .2)) bs (c .5)
-      (kept-joined (maximumIndex l) (maximumIndex r) (lookup l) (lookup r) kl kr) (omega arith) (omega arith)
+      unified-solved (In (maximumIndex l + maximumIndex r)) (joined (maximumIndex l) (lookup l) (lookup r)) (pairsWith (maximumIndex l) (c .1) (c .2)) bs (c .6)
+      (kept-joined (maximumIndex l) (maximumIndex r) (lookup l) (lookup r) kl kr) (resolve-in l r a ns (c .0) (c .1) (c .2) (c .3) (c .4))
       (joinedSubstitution (maximumIndex l) (substitution term l) (substitution term r))
       (solved-joined term (maximumIndex l) (maximumIndex r) (lookup l) (lookup r) kl kr (substitution term l) (substitution term r) (lookup-solved l (K .0)) (lookup-solved r (K .1)))
   lookup-solved (factor number t a b bs) K =
       let c = K .1 in
-      unified-solved (In (maximumIndex t)) (lookup t) (c .1) (c .2) bs (c .6) (lookup-in row t (K .0))
-      (each-numbered (LiteralIn (maximumIndex t)) (literals t) a (c .0, c .1) (c .3) (literals-in t)) (each-numbered (LiteralIn (maximumIndex t)) (literals t) b (c .0, c .2) (c .4) (literals-in t))
+      unified-solved (In (maximumIndex t)) (lookup t) ((c .1, c .2) ∷ []) bs (c .6) (lookup-in row t (K .0))
+      (each-numbered (LiteralIn (maximumIndex t)) (literals t) a (c .0, c .1) (c .3) (literals-in t), each-numbered (LiteralIn (maximumIndex t)) (literals t) b (c .0, c .2) (c .4) (literals-in t), tt)
       (substitution term t) (lookup-solved t (K .0))

@@ -10,13 +10,13 @@ use lib.ListN.{length}
 use Rattle.unification.specs.Environment.{Binding, Environment, extend, Respects}
 use Rattle.unification.specs.Row.{Row, application, Expression, Variable, rowTerm, writtenOut}
 use Rattle.unification.specs.Term.{Term}
-use Rattle.unification.specs.Unification.{mostWork, mostLinks, unified, unifying, noRoom}
-use Rattle.unification.proofs.Soundness.{BackEnd, back-run}
+use Rattle.unification.specs.Unification.{mostWork, mostLinks, unified, Pair, unifying, noRoom}
+use Rattle.unification.proofs.Soundness.{AllEqual, BackEnd, back-run}
 use Rattle.unification.proofs.Tests.{true-not-false, some-not-none, some-injective}
-use Rattle.derivation.specs.Derivation.{literals, input, Literal, RowLiteral, Derivation, resolve, factor, numbered, without, raise, raiseLiteral, placed, maximumIndex, joined, lookup, uses, Use}
+use Rattle.derivation.specs.Derivation.{literals, input, Literal, RowLiteral, Derivation, resolve, factor, numbered, without, numberedAll, withoutAll, StrictlyRising, raise, pairsWith, raiseLiteral, placed, maximumIndex, joined, lookup, uses, Use}
 use Rattle.derivation.specs.Ground.{instances, Ground, instanceAt, Assignment, SomeTrue, AllTrue}
-use Rattle.derivation.proofs.Literals.{uses-length}
-use Rattle.derivation.proofs.Validity.{Unified, Valid, lookup-in, respects-left, respects-right}
+use Rattle.derivation.proofs.Literals.{numbered-cons, first-stays, rising-tail, uses-length}
+use Rattle.derivation.proofs.Validity.{Unified, Valid, signed, lookup-in, respects-left, respects-right}
 
 module _ (term : ℕ → Term ℕ) (A : Assignment) where
   -- A literal, and some literal of a list, is true where γ gives the variables' values.
@@ -100,14 +100,33 @@ module _ (term : ℕ → Term ℕ) (A : Assignment) where
   opposite false true p q = true-not-false p refl
   opposite false false p q = true-not-false q refl
 
-  holds-resolvent : (γ : Variable → Ground) (m : ℕ) (xs ys : List Literal) (a b : ℕ) (s : Bool) (e d : Expression) → numbered xs a ≡ some (s, e) → numbered ys b ≡ some (not s, d) → writtenOut term γ e ≡ writtenOut term γ (raise m d)
-      → SomeHolds γ xs → SomeHolds (raisedValues m γ) ys → SomeHolds γ (without xs a ++ map (raiseLiteral m) (without ys b))
-  holds-resolvent γ m xs ys a b s e d p q r h k = try (holds-without γ xs a (s, e) p h) (holds-without (raisedValues m γ) ys b (not s, d) q k)
+  -- Several literals taken out: one of them holds, or one that is left.
+  holds-without-all : (γ : Variable → Ground) (ls : List Literal) (ns : List ℕ) (ms : List Literal) → StrictlyRising ns → numberedAll ls ns ≡ some ms → SomeHolds γ ls → SomeHolds γ ms ⊎ SomeHolds γ (withoutAll ls ns)
+  holds-without-all γ ls [] ms h q x = inr x
+  holds-without-all γ ls (n ∷ ns) ms h q x = let z = numbered-cons ls n ns ms q in try (z .0) (z .1) (z .2) (z .4) (holds-without-all γ ls ns (z .1) (rising-tail n ns h) (z .3) x)
     where
-      try : Holds γ (s, e) ⊎ SomeHolds γ (without xs a) → Holds (raisedValues m γ) (not s, d) ⊎ SomeHolds (raisedValues m γ) (without ys b) → SomeHolds γ (without xs a ++ map (raiseLiteral m) (without ys b))
-      try (inr x) y = holds-left γ (without xs a) (map (raiseLiteral m) (without ys b)) x
-      try (inl x) (inr y) = holds-right γ (without xs a) (map (raiseLiteral m) (without ys b)) (holds-raised γ m (without ys b) y)
-      try (inl x) (inl y) = absurd (opposite (A (writtenOut term γ e)) s x (ap A r ∙ y))
+      last : (y : Literal) (zs : List Literal) → y ∷ zs ≡ ms → Holds γ y ⊎ SomeHolds γ (without (withoutAll ls ns) n) → SomeHolds γ ms ⊎ SomeHolds γ (without (withoutAll ls ns) n)
+      last y zs e (inl g) = inl (subst (SomeHolds γ) e (inl g))
+      last y zs e (inr g) = inr g
+
+      try : (y : Literal) (zs : List Literal) → numbered ls n ≡ some y → y ∷ zs ≡ ms → SomeHolds γ zs ⊎ SomeHolds γ (withoutAll ls ns) → SomeHolds γ ms ⊎ SomeHolds γ (without (withoutAll ls ns) n)
+      try y zs p e (inl g) = inl (subst (SomeHolds γ) e (inr g))
+      try y zs p e (inr g) = last y zs e (holds-without γ (withoutAll ls ns) n y (first-stays ls n ns h ∙ p) g)
+
+  -- The left literal and a right one do not both hold where γ makes their atoms equal.
+  not-both : (γ : Variable → Ground) (m : ℕ) (s : Bool) (e : Expression) (ds : List Expression) → AllEqual term γ (pairsWith m e ds) → Holds γ (s, e) → SomeHolds (raisedValues m γ) (signed (not s) ds) → ⊥
+  not-both γ m s e [] r x y = y
+  not-both γ m s e (d ∷ ds) r x (inl y) = opposite (A (writtenOut term γ e)) s x (ap A (r .0) ∙ y)
+  not-both γ m s e (d ∷ ds) r x (inr y) = not-both γ m s e ds (r .1) x y
+
+  holds-resolvent : (γ : Variable → Ground) (m : ℕ) (xs ys : List Literal) (a : ℕ) (ns : List ℕ) (s : Bool) (e : Expression) (ds : List Expression) → numbered xs a ≡ some (s, e) → numberedAll ys ns ≡ some (signed (not s) ds) → StrictlyRising ns
+      → AllEqual term γ (pairsWith m e ds) → SomeHolds γ xs → SomeHolds (raisedValues m γ) ys → SomeHolds γ (without xs a ++ map (raiseLiteral m) (withoutAll ys ns))
+  holds-resolvent γ m xs ys a ns s e ds p q rise r h k = try (holds-without γ xs a (s, e) p h) (holds-without-all (raisedValues m γ) ys ns (signed (not s) ds) rise q k)
+    where
+      try : Holds γ (s, e) ⊎ SomeHolds γ (without xs a) → SomeHolds (raisedValues m γ) (signed (not s) ds) ⊎ SomeHolds (raisedValues m γ) (withoutAll ys ns) → SomeHolds γ (without xs a ++ map (raiseLiteral m) (withoutAll ys ns))
+      try (inr x) y = holds-left γ (without xs a) (map (raiseLiteral m) (withoutAll ys ns)) x
+      try (inl x) (inr y) = holds-right γ (without xs a) (map (raiseLiteral m) (withoutAll ys ns)) (holds-raised γ m (withoutAll ys ns) y)
+      try (inl x) (inl y) = absurd (not-both γ m s e ds r x y)
 
   holds-factor : (γ : Variable → Ground) (ls : List Literal) (a b : ℕ) (s : Bool) (e d : Expression) → numbered ls a ≡ some (s, e) → numbered ls b ≡ some (s, d) → ¬ (a ≡ b) → writtenOut term γ e ≡ writtenOut term γ d
       → SomeHolds γ ls → SomeHolds γ (without ls b)
@@ -119,24 +138,24 @@ module _ (term : ℕ → Term ℕ) (A : Assignment) where
 
 module _ (row : ℕ → Row) (term : ℕ → Term ℕ) (termLaw : (r : ℕ) → term r ≡ rowTerm term r (row r))
     (arities : (r q s : ℕ) (xs ys : List ℕ) → row r ≡ application s xs → row q ≡ application s ys → length xs ≡ length ys) where
-  -- What respects a step's bindings respects those before, and makes the two atoms equal.
-  pub unified-sound : {Y : Type 0} (γ : Variable → Term Y) (base : Environment) (e d : Expression) (bs : List Binding) → Unified row base e d bs → Respects term γ (extend base bs) → Respects term γ base × (writtenOut term γ e ≡ writtenOut term γ d)
-  unified-sound γ base e d bs u R =
-      let k : BackEnd row mostLinks (noRoom (u .0)) base term termLaw arities γ (unifying [] ((e, d) ∷ [])) (unified bs (u .1)) = rw (u .2) at (back-run row mostLinks (noRoom (u .0)) base term termLaw arities γ mostWork (unifying [] ((e, d) ∷ [])) tt) in
-      (k R .0, k R .1 .0)
+  -- What respects a step's bindings respects those before, and makes the two atoms of every pair equal.
+  pub unified-sound : {Y : Type 0} (γ : Variable → Term Y) (base : Environment) (ps : List Pair) (bs : List Binding) → Unified row base ps bs → Respects term γ (extend base bs) → Respects term γ base × AllEqual term γ ps
+  unified-sound γ base ps bs u R =
+      let k : BackEnd row mostLinks (noRoom (u .0)) base term termLaw arities γ (unifying [] ps) (unified bs (u .1)) = rw (u .2) at (back-run row mostLinks (noRoom (u .0)) base term termLaw arities γ mostWork (unifying [] ps) tt) in
+      k R
 
   module _ (A : Assignment) where
     pub sound : (c : Derivation) → Valid row c → (γ : Variable → Ground) → Respects term γ (lookup c) → AllTrue A (instances term γ 1 (uses c)) → SomeHolds term A γ (literals c)
     sound (input number ls) K γ R h = holds-instance term A γ ls (h .0)
-    sound (resolve number l a r b bs) K γ R h =
+    sound (resolve number l a r ns bs) K γ R h =
         let c = K .2 in
-        let u = unified-sound γ (joined (maximumIndex l) (lookup l) (lookup r)) (c .1) (raise (maximumIndex l) (c .2)) bs (c .5) R in
+        let u = unified-sound γ (joined (maximumIndex l) (lookup l) (lookup r)) (pairsWith (maximumIndex l) (c .1) (c .2)) bs (c .6) R in
         let w = instances-split term A γ 1 (uses l) (uses r) h in
         let v : AllTrue A (instances term γ (maximumIndex l + 1) (uses r)) = rw (← uses-length l, add-comm) (w .1) in
-        holds-resolvent term A γ (maximumIndex l) (literals l) (literals r) a b (c .0) (c .1) (c .2) (c .3) (c .4) (u .1)
+        holds-resolvent term A γ (maximumIndex l) (literals l) (literals r) a ns (c .0) (c .1) (c .2) (c .3) (c .4) (c .5) (u .1)
         (sound l (K .0) γ (respects-left term γ (maximumIndex l) (maximumIndex r) (lookup l) (lookup r) (u .0) (lookup-in row l (K .0))) (w .0))
         (sound r (K .1) (raisedValues term A (maximumIndex l) γ) (respects-right term γ (maximumIndex l) (maximumIndex r) (lookup l) (lookup r) (u .0) (lookup-in row r (K .1))) (instances-raised term A γ (maximumIndex l) 1 (uses r) v))
     sound (factor number t a b bs) K γ R h =
         let c = K .1 in
-        let u = unified-sound γ (lookup t) (c .1) (c .2) bs (c .6) R in
-        holds-factor term A γ (literals t) a b (c .0) (c .1) (c .2) (c .3) (c .4) (c .5) (u .1) (sound t (K .0) γ (u .0) h)
+        let u = unified-sound γ (lookup t) ((c .1, c .2) ∷ []) bs (c .6) R in
+        holds-factor term A γ (literals t) a b (c .0) (c .1) (c .2) (c .3) (c .4) (c .5) (u .1 .0) (sound t (K .0) γ (u .0) h)

@@ -2,12 +2,12 @@
 use mathlib.Core.Path.{_≡_}
 use mathlib.Core.Bool.{Bool, not}
 use mathlib.Core.Option.{some}
-use mathlib.Core.List.{[], _∷_, _++_, map}
+use mathlib.Core.List.{List, [], _∷_, _++_, map}
 use Prim.Native.Nat.{ℕ, _≤_, _<_}
 use Rattle.unification.specs.Row.{Variable}
 use Rattle.unification.specs.Term.{Term, var, apply, Variables}
 use Rattle.unification.specs.Unifier.{MostGeneralUnifier}
-use Rattle.derivation.specs.Derivation.{numbered, without}
+use Rattle.derivation.specs.Derivation.{numbered, without, numberedAll, withoutAll, StrictlyRising}
 use Rattle.derivation.specs.Written.{Clause}
 
 -- A substitution applied to a clause.
@@ -29,18 +29,20 @@ pub record StandardizedApart (rename : Variable → Term Variable) (C D : Clause
   pub leftBelow : ClauseVariables (λ x. x .1 ≤ bound) C
   pub rightAbove : ClauseVariables (λ x. bound < x .1) (instantiated rename D)
 
--- E is the resolvent of C and D on the literals numbered a and b, where D's variables have been renamed apart from C's. The unifier is most
--- general among those whose values are terms over Y; the theorems hold for every Y.
-pub record Resolvent (Y : Type 0) (rename : Variable → Term Variable) (C : Clause) (a : ℕ) (D : Clause) (b : ℕ) (E : Clause) : Type 0 where
+-- E is the resolvent of C and D on the literal numbered a and the literals numbered bs, where D's variables have been renamed apart from C's:
+-- the rule RIF, and with one number the binary rule. The unifier is most general among those whose values are terms over Y; the theorems hold for
+-- every Y.
+pub record Resolvent (Y : Type 0) (rename : Variable → Term Variable) (C : Clause) (a : ℕ) (D : Clause) (bs : List ℕ) (E : Clause) : Type 0 where
   pub apart : StandardizedApart rename C D
   pub sign : Bool
   pub left : Term Variable
-  pub right : Term Variable
+  pub rights : List (Term Variable)
+  pub rising : StrictlyRising bs
   pub isLeft : numbered C a ≡ some (sign, left)
-  pub isRight : numbered (instantiated rename D) b ≡ some (not sign, right)
+  pub areRight : numberedAll (instantiated rename D) bs ≡ some (map (λ t. (not sign, t)) rights)
   pub unifier : Variable → Term Variable
-  pub mostGeneral : MostGeneralUnifier Y unifier ((left, right) ∷ [])
-  pub result : E ≡ instantiated unifier (without C a ++ without (instantiated rename D) b)
+  pub mostGeneral : MostGeneralUnifier Y unifier (map (λ t. (left, t)) rights)
+  pub result : E ≡ instantiated unifier (without C a ++ withoutAll (instantiated rename D) bs)
 
 -- E is the factor of C that keeps literal a and deletes literal b, with the unifier as in a resolvent.
 pub record Factor (Y : Type 0) (C : Clause) (a b : ℕ) (E : Clause) : Type 0 where

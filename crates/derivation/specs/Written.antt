@@ -28,7 +28,7 @@ joinedSubstitution m left right x = pick (leb (x .1) m) (left x) (apply (renamed
 module _ (term : ℕ → Term ℕ) where
   abbrev pub substitution : Derivation → Variable → Term Variable
   substitution (input number ls) x = var x
-  substitution (resolve number l a r b bs) x = composed term (joinedSubstitution (maximumIndex l) (substitution l) (substitution r)) bs x
+  substitution (resolve number l a r ns bs) x = composed term (joinedSubstitution (maximumIndex l) (substitution l) (substitution r)) bs x
   substitution (factor number c a b bs) x = composed term (substitution c) bs x
 
   -- Literals written out by a substitution.

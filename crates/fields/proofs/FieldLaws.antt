@@ -1,16 +1,16 @@
 -- The fields of a record, taken one by one.
-use mathlib.Core.Path.{_≡_, refl, sym, _∙_}
+use mathlib.Core.Path.{_≡_, refl, sym, ap, _∙_}
 use mathlib.Core.Bool.{Bool, true, false, _&&_}
 use mathlib.Core.List.{List, [], _∷_, map}
 use Prim.Native.Nat.{ℕ, zero, suc, _+_, _-_, _/_, _≤_, _<_}
 use native.Mathlib.Omega.{arith}
-use lib.Dec.{eqb, leb}
+use lib.Dec.{eqb, leb, ltb}
 use lib.ListN.{getD, take, drop, drop-of-length-le}
-use borrow.Author.Tests.{eq-eqb, ne-eqb, lt-ltb, le-ltb, le-leb, lt-leb}
+use borrow.Author.Tests.{eq-eqb, ne-eqb, ltb-true, ltb-false, lt-ltb, le-ltb, le-leb, lt-leb}
 use Rattle.record.specs.Record.{recordPart, countOf, fieldOf, fieldsOf, otherKind, kindNumbered}
 use Rattle.derivation.specs.Derivation.{literalOf}
 use Rattle.fields.specs.Fields.{arityIn, arityAnswer}
-use Rattle.verdict.specs.Refusal.{zeros, allBelow}
+use Rattle.verdict.specs.Refusal.{zeros, allBelow, rising}
 use Rattle.fields.specs.declared.Arity.{Arity}
 use Rattle.fields.specs.declared.Arity.the-variants.{Is, Missing}
 
@@ -76,9 +76,47 @@ none-passed {n} {k} y e h q = rw (← e, h) q
 pub none-failed : {n k : ℕ} (y : Bool) → n ≡ k → (n ≡ 0 → ⊥) → false ≡ (eqb k 0 && y)
 none-failed {n} {k} y e h = rw (← e, ne-eqb n 0 h)
 
+-- Of one to four: none; up to four; more.
+pub no-rights : {n k : ℕ} (y : ℕ → Bool) → n ≡ k → n ≡ 0 → false ≡ (leb 1 k && leb k 4 && y k)
+no-rights {n} {k} y e h = rw (← e, h)
+
+pub few-rights : {n k : ℕ} {x : Bool} (y : ℕ → Bool) → n ≡ k → (n ≡ 0 → ⊥) → n ≤ 4 → x ≡ y n → x ≡ (leb 1 k && leb k 4 && y k)
+few-rights {n} {k} y e m h q = rw (← e, le-leb 1 n (omega arith), le-leb n 4 h) q
+
+pub many-rights : {n k : ℕ} (y : ℕ → Bool) → n ≡ k → 4 < n → false ≡ (leb 1 k && leb k 4 && y k)
+many-rights {n} {k} y e h = rw (← e, le-leb 1 n (omega arith), lt-leb n 4 h)
+
+-- Numbers that rise, two by two.
+module _ (p : List ℕ) (n i : ℕ) (few : n ≤ 4) where
+  abbrev Rest : Bool
+  Rest = rising (take (n + 3 - i) (drop i (fieldsOf p)))
+
+  two-next : 3 ≤ i → i < n + 2 → take (n + 3 - i) (drop i (fieldsOf p)) ≡ fieldOf p i ∷ fieldOf p (i + 1) ∷ take (n + 3 - (i + 1 + 1)) (drop (i + 1 + 1) (fieldsOf p))
+  two-next a b = field-next-to p i (n + 3) (omega arith) (omega arith) ∙ ap (λ (xs : List ℕ). fieldOf p i ∷ xs) (field-next-to p (i + 1) (n + 3) (omega arith) (omega arith))
+
+  module _ {x y : ℕ} (a : 3 ≤ i) (b : i < n + 2) (ex : x ≡ fieldOf p i) (ey : y ≡ fieldOf p (i + 1)) where
+    pub rise-stop : y ≤ x → rising (take (n + 3 - i) (drop i (fieldsOf p))) ≡ false
+    rise-stop z = rw (two-next a b, ← ex, ← ey, le-ltb x y z)
+
+    pub rise-on : x < y → rising (take (n + 3 - i) (drop i (fieldsOf p))) ≡ rising (take (n + 3 - (i + 1)) (drop (i + 1) (fieldsOf p)))
+    rise-on z =
+        let t : List ℕ = fieldOf p (i + 1) ∷ take (n + 3 - (i + 1 + 1)) (drop (i + 1 + 1) (fieldsOf p)) in
+        let less : ltb (fieldOf p i) (fieldOf p (i + 1)) ≡ true = rw (← ex, ← ey, lt-ltb x y z) in
+        ap rising (two-next a b) ∙ ap (λ (c : Bool). c && rising (fieldOf p (i + 1) ∷ take (n + 3 - (i + 1 + 1)) (drop (i + 1 + 1) (fieldsOf p)))) less
+        ∙ ap rising (sym (field-next-to p (i + 1) (n + 3) (omega arith) (omega arith)))
+
+  pub rise-end : 3 ≤ i → n + 2 ≤ i → rising (take (n + 3 - i) (drop i (fieldsOf p))) ≡ true
+  rise-end a b = try (ltb i (n + 3)) refl
+    where
+      try : (c : Bool) → ltb i (n + 3) ≡ c → rising (take (n + 3 - i) (drop i (fieldsOf p))) ≡ true
+      try true q =
+          let l = ltb-true i (n + 3) q in
+          ap rising (field-next-to p i (n + 3) l (omega arith) ∙ ap (λ (xs : List ℕ). fieldOf p i ∷ xs) (fields-end p (i + 1) (n + 3) (omega arith)))
+      try false q = ap rising (fields-end p i (n + 3) (ltb-false i (n + 3) q))
+
 -- A number that no kind has.
-pub kind-other : (k : ℕ) → (k ≡ 1 → ⊥) → (k ≡ 2 → ⊥) → (k ≡ 3 → ⊥) → (k ≡ 4 → ⊥) → (k ≡ 5 → ⊥) → (k ≡ 6 → ⊥) → kindNumbered k ≡ otherKind
-kind-other k a b d e f g = rw (ne-eqb k 1 a, ne-eqb k 2 b, ne-eqb k 3 d, ne-eqb k 4 e, ne-eqb k 5 f, ne-eqb k 6 g)
+pub kind-other : (k : ℕ) → (k ≡ 1 → ⊥) → (k ≡ 2 → ⊥) → (k ≡ 3 → ⊥) → (k ≡ 4 → ⊥) → (k ≡ 5 → ⊥) → (k ≡ 6 → ⊥) → (k ≡ 7 → ⊥) → kindNumbered k ≡ otherKind
+kind-other k a b d e f g h = rw (ne-eqb k 1 a, ne-eqb k 2 b, ne-eqb k 3 d, ne-eqb k 4 e, ne-eqb k 5 f, ne-eqb k 6 g, ne-eqb k 7 h)
 
 -- A symbol's arity.
 pub arity-found : (file symbols : List ℕ) (n s : ℕ) {k a : ℕ} {p : List ℕ} → s < n → k ≡ getD symbols s 0 → p ≡ recordPart file k → a ≡ countOf p

@@ -5,8 +5,8 @@ use mathlib.Core.List.{List}
 use Prim.Native.Nat.{ℕ}
 use lib.Dec.{eqb, ltb}
 use lib.ListN.{getD, drop}
-use Rattle.record.specs.Record.{pick, Record, recordPart, countOf}
-use Rattle.verdict.specs.Refusal.{zeros}
+use Rattle.record.specs.Record.{pick, Record, recordPart, kindOf, countOf, decoded, resolveKind, severalKind}
+use Rattle.verdict.specs.Refusal.{zeros, inRange}
 use Rattle.fields.specs.declared.Arity.{Arity}
 use Rattle.fields.specs.declared.Arity.the-variants.{Is, Missing}
 
@@ -22,3 +22,9 @@ arityAnswer (some n) = Is n
 -- Byte 1 of a step is zero, and so are the fields that it does not use.
 abbrev pub stepInRange : ℕ → Record → Bool
 stepInRange used r = eqb (r .count) 0 && zeros (drop used (r .fields))
+
+-- How many right literals a resolve of kind 5 or 7 names (document 02, Q-3); none where it is out of range.
+abbrev pub rightCount : List ℕ → ℕ
+rightCount part =
+    pick (eqb (kindOf part) 5) (pick (inRange resolveKind (decoded part)) 1 0)
+    (pick (inRange severalKind (decoded part)) (countOf part) 0)

@@ -3,3 +3,4 @@ pub mod StepLaws
 pub mod StepTests
 pub mod StepEnds
 pub mod StepNamed
+pub mod RightLaws

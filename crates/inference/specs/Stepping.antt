@@ -1,19 +1,22 @@
 -- Resolve and factor in the program: the contracts of its inner functions. No demand needs this file.
 use mathlib.Core.Path.{_≡_}
+use mathlib.Core.Logic.{_⊎_}
 use mathlib.Core.Bool.{true}
 use mathlib.Core.Option.{Option, none, some}
 use mathlib.Core.List.{List}
 use Prim.Native.Nat.{ℕ, _+_, _-_, _*_, _≤_, _<_}
 use lib.ListN.{length, getD}
-use Rattle.record.specs.Record.{recordCount, recordPart, kindOf, fieldsOf, decoded, resolveKind, factorKind}
+use Rattle.record.specs.Record.{recordCount, recordPart, kindOf, fieldsOf, decoded, factorKind, fieldC}
+use Rattle.unification.specs.Listed.{listedFrom}
 use Rattle.unify.specs.Unifying.{Counted}
-use Rattle.derivation.specs.Derivation.{literals, Literal, Derivation, numbered, maximumIndex}
+use Rattle.derivation.specs.Derivation.{literals, Literal, Derivation, numbered, numberedAll, maximumIndex}
 use Rattle.derivation.specs.Stored.{Stored}
 use Rattle.tables.specs.Cells.{clearedPart, withClauseCells}
 use Rattle.distinct.specs.Rows.{withNode}
 use Rattle.entry.specs.Progress.{Kept, Next, tablesWith}
-use Rattle.verdict.specs.Refusal.{inRange, leftOf, rightOf, deletedOf, fittingSigns}
+use Rattle.verdict.specs.Refusal.{kindOfRecord, inRange, rising, leftOf, rightNumbers, rightOf, deletedOf, oppositeSigns, factorSigns}
 use Rattle.verdict.specs.State.{State, clauseOf}
+use Rattle.verdict.specs.Step.{atoms}
 use Rattle.verdict.specs.Tables.{Tables}
 use Rattle.unify.specs.declared.Unified.{Unified}
 use Rattle.unify.specs.declared.Unified.the-variants.{Done, Refused}
@@ -50,13 +53,28 @@ pub record AtomOf (S : State) (c r i : ℕ) : Type 0 where
 abbrev pub atomNamed : {S : State} {c r i : ℕ} → AtomOf S c r i → Derivation × Literal
 atomNamed x = (x .clause, x .literal)
 
--- A resolve on two atoms whose result has a maximum index of at most 4,096.
-pub record Resolving (k : ℕ) (n : Counts) (C B N O A : List ℕ) (x y : Atom) : Type 0 where
+-- The literals of clause c that a resolve names on the right, all of which exist, with their atoms listed in an array.
+pub record RightsOf (S : State) (c : ℕ) (ns L : List ℕ) : Type 0 where
+  pub clause : Derivation
+  pub named : List Literal
+  pub isClause : clauseOf S c ≡ some clause
+  pub areLiterals : numberedAll (literals clause) ns ≡ some named
+  pub listed : listedFrom L 0 (length ns) ≡ atoms named
+
+abbrev pub rightsNamed : {S : State} {c : ℕ} {ns L : List ℕ} → RightsOf S c ns L → Derivation × List Literal
+rightsNamed y = (y .clause, y .named)
+
+-- A resolve on an atom and m listed ones of clause `right`, whose result has a maximum index of at most 4,096.
+pub record Resolving (k : ℕ) (n : Counts) (C B N O A : List ℕ) (x : Atom) (right : ℕ) (L : List ℕ) (m : ℕ) : Type 0 where
   pub file : List ℕ
   pub step : BeforeStep file k n C B N O A
   pub left : AtomOf (step .state) (x .clause) (x .row) (x .index)
-  pub right : AtomOf (step .state) (y .clause) (y .row) (y .index)
-  pub fits : maximumIndex (left .clause) + maximumIndex (right .clause) ≤ 4096
+  pub numbers : List ℕ
+  pub count : m ≡ length numbers
+  pub few : m ≤ 4
+  pub room : length L ≡ 8
+  pub rights : RightsOf (step .state) right numbers L
+  pub fits : maximumIndex (left .clause) + maximumIndex (rights .clause) ≤ 4096
 
 -- A factor on two atoms of one clause.
 pub record Factoring (k : ℕ) (n : Counts) (C B N O A : List ℕ) (x y : Atom) : Type 0 where
@@ -127,18 +145,30 @@ pairAnswer a c none y = pair.Absent
 pairAnswer a c (some x) none = pair.Absent
 pairAnswer a c (some x) (some y) = pair.Both (signedAtom a (x .1)) (signedAtom c (y .1))
 
--- A resolve or a factor whose tests up to 8 have passed, with the seven fields of its record.
-pub record ResolveNamed (ns : List ℕ) (k : ℕ) (n : Counts) (C B N O A : List ℕ) (x y : Atom) : Type 0 where
+-- The kinds of a resolve, on one right literal or on several.
+abbrev pub ResolveKind : ℕ → Type 0
+ResolveKind kind = (kind ≡ 5) ⊎ (kind ≡ 7)
+
+-- The right literals that record k names, by its kind.
+abbrev pub rightsAt : List ℕ → ℕ → List ℕ
+rightsAt F k = rightNumbers (kindOfRecord (decoded (recordPart F k))) (decoded (recordPart F k))
+
+-- A resolve or a factor whose tests up to 8 have passed, with the seven fields of its record; a resolve on m listed atoms.
+pub record ResolveNamed (ns : List ℕ) (k : ℕ) (n : Counts) (C B N O A : List ℕ) (x : Atom) (L : List ℕ) (m : ℕ) : Type 0 where
   pub file : List ℕ
   pub numbers : ns ≡ fieldsOf (recordPart file k)
   pub step : BeforeStep file k n C B N O A
-  pub isResolve : kindOf (recordPart file k) ≡ 5
-  pub ranged : inRange resolveKind (decoded (recordPart file k)) ≡ true
+  pub isResolve : ResolveKind (kindOf (recordPart file k))
+  pub count : m ≡ length (rightsAt file k)
+  pub few : m ≤ 4
+  pub room : length L ≡ 8
+  pub ranged : inRange (kindOfRecord (decoded (recordPart file k))) (decoded (recordPart file k)) ≡ true
+  pub rises : rising (rightsAt file k) ≡ true
   pub left : AtomOf (step .state) (x .clause) (x .row) (x .index)
-  pub right : AtomOf (step .state) (y .clause) (y .row) (y .index)
+  pub rights : RightsOf (step .state) (fieldC (decoded (recordPart file k))) (rightsAt file k) L
   pub isLeft : leftOf (step .state) (decoded (recordPart file k)) ≡ some (atomNamed left)
-  pub isRight : rightOf (step .state) (decoded (recordPart file k)) ≡ some (atomNamed right)
-  pub signs : fittingSigns (step .state) resolveKind (decoded (recordPart file k)) ≡ true
+  pub isRight : rightOf (step .state) (kindOfRecord (decoded (recordPart file k))) (decoded (recordPart file k)) ≡ some (rightsNamed rights)
+  pub signs : oppositeSigns (step .state) (kindOfRecord (decoded (recordPart file k))) (decoded (recordPart file k)) ≡ true
 
 pub record FactorNamed (ns : List ℕ) (k : ℕ) (n : Counts) (C B N O A : List ℕ) (x y : Atom) : Type 0 where
   pub file : List ℕ
@@ -151,7 +181,7 @@ pub record FactorNamed (ns : List ℕ) (k : ℕ) (n : Counts) (C B N O A : List 
   pub deleted : AtomOf (step .state) (y .clause) (y .row) (y .index)
   pub isKept : leftOf (step .state) (decoded (recordPart file k)) ≡ some (atomNamed kept)
   pub isDeleted : deletedOf (step .state) (decoded (recordPart file k)) ≡ some (atomNamed deleted)
-  pub signs : fittingSigns (step .state) factorKind (decoded (recordPart file k)) ≡ true
+  pub signs : factorSigns (step .state) (decoded (recordPart file k)) ≡ true
 
 -- What the program has after record k, by the state before it.
 pub record StepRead (F : List ℕ) (k : ℕ) (n : Counts) (C B N O A : List ℕ) (E : BeforeStep F k n C B N O A) (C′ B′ O′ A′ : List ℕ) (e : Entered) : Type 0 where

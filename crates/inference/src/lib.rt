@@ -14,6 +14,8 @@ ghost use mathlib.Core.List.{_∷_};
 ghost use Rattle.verdict.specs.Refusal.{literalNamed, equalSigns};
 ghost use Rattle.inference.specs.Stepping.{Finishing, finished, stepFinished, ClausesStored, namedAnswer, pairAnswer};
 
+pub mod rights;
+
 // An atom of a clause: the clause's number, and the atom's row and index.
 pub struct Atom {
     pub clause: u16,
@@ -70,7 +72,7 @@ pub fn finish_step(
 }
 
 // The literal that a step names, if the clause and the literal exist.
-fn named_literal(origins: &Origins, clauses: &[u16], count: u16, c: u16, n: u16) -> NamedLiteral
+pub fn named_literal(origins: &Origins, clauses: &[u16], count: u16, c: u16, n: u16) -> NamedLiteral
     requires { ⌜ ClausesStored (now origins) (now clauses) count ⌝ }
     ensures { λ r. ⌜ ((R : ClausesStored (now (origins .entry)) (now (clauses .entry)) count) → r ≡ namedAnswer (literalNamed (R .state) c n)) ⌝ }
 {

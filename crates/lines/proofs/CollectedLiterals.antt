@@ -2,28 +2,28 @@
 use mathlib.Core.Path.{_≡_, refl, sym, ap, _∙_, subst}
 use mathlib.Core.Bool.{Bool, true, false}
 use mathlib.Core.Option.{some}
-use mathlib.Core.List.{List, _++_, map}
-use Prim.Native.Nat.{ℕ, _+_, _-_, _≤_, _<_}
+use mathlib.Core.List.{List, [], _∷_, _++_, map}
+use Prim.Native.Nat.{ℕ, zero, suc, _+_, _-_, _*_, _≤_, _<_}
 use native.Mathlib.Omega.{arith}
 use lib.Dec.{eqb, leb}
-use lib.ListN.{length, take, length-append, length-map}
+use lib.ListN.{length, getD, take, replicate, length-append, length-map}
 use borrow.Author.Tests.{eqb-true, eqb-false, leb-true, leb-false}
 use Rattle.record.specs.Record.{pick}
 use Rattle.unification.specs.Nodes.{part}
-use Rattle.derivation.specs.Derivation.{literals, Literal, RowLiteral, literalOf, Derivation, numbered, without, raiseLiteral, placed, maximumIndex}
-use Rattle.clauses.specs.Named.{leftOver, passed, raiseNamed}
-use Rattle.derivation.specs.Stored.{originCode, originNumbers, literalsCell, indexCell, Stored, storedInput, storedResolve, storedFactor}
+use Rattle.derivation.specs.Derivation.{literals, Literal, RowLiteral, literalOf, Derivation, numbered, without, withoutAll, raiseLiteral, placed, maximumIndex}
+use Rattle.clauses.specs.Named.{leftOver, passed, NamesRights, raiseNamed}
+use Rattle.derivation.specs.Stored.{originCode, originNumbers, rightCells, literalsCell, indexCell, Stored, storedInput, storedResolve, storedFactor}
 use Rattle.clauses.proofs.Numbers.{length-without, numbered-without, passed-in, numbered-left, numbered-right, numbered-raised, raise-named-twice, input-few, input-numbered}
 use Rattle.clauses.proofs.Origins.{stored-cells}
-use Rattle.lines.specs.Literals.{literalWith, listed, Holds, Placed, Deleted, Collectable, Collected}
+use Rattle.lines.specs.Literals.{literalWith, listed, Holds, Placed, Deleted, RightsDeleted, Collectable, Collected}
 
 -- The first n numbers of an input clause's origin are in the list.
 pub record FieldsPlaced (L L′ O : List ℕ) (c base o n : ℕ) : Type 0 where
-  pub room : length L′ ≡ 8704
+  pub room : length L′ ≡ 33024
   pub before : (k : ℕ) → k ≤ base → listed L′ k ≡ listed L k
   pub fields : (k : ℕ) → 1 ≤ k → k ≤ n → listed L′ (base + k) ≡ literalWith (part O c (k - 1)) (o + 1)
 
-pub fields-none : (L O : List ℕ) (c base o : ℕ) → length L ≡ 8704 → FieldsPlaced L L O c base o 0
+pub fields-none : (L O : List ℕ) (c base o : ℕ) → length L ≡ 33024 → FieldsPlaced L L O c base o 0
 fields-none L O c base o room = record { room = room; before = λ k h. refl; fields = λ k l h. absurd (omega arith) }
 
 pub fields-more : {L L₁ L₂ O : List ℕ} {c base o n code : ℕ} → FieldsPlaced L L₁ O c base o n → code ≡ part O c n → Placed L₁ L₂ (base + (n + 1)) code (o + 1) → FieldsPlaced L L₂ O c base o (n + 1)
@@ -40,7 +40,7 @@ fields-more {L} {L₁} {L₂} {O} {c} {base} {o} {n} {code} X p P =
             ap (λ (j : ℕ). listed L₂ (base + j)) e ∙ P .here ∙ ap (λ (x : ℕ). literalWith x (o + 1)) (p ∙ ap (part O c) y)
         try false q = let e = eqb-false k (n + 1) q in P .others (base + k) (λ z. e (omega arith)) ∙ X .fields k l (omega arith)
 
--- At most one literal less is left.
+-- At most one literal less is left, and at most as many less as are taken out.
 one-less : (ls : List Literal) (a : ℕ) → length ls ≤ length (without ls a) + 1
 unfolding leftOver
 one-less ls a = subst (λ (k : ℕ). length ls ≤ k + 1) (sym (length-without ls a)) (try (eqb a 0) (leb a (length ls)))
@@ -49,6 +49,10 @@ one-less ls a = subst (λ (k : ℕ). length ls ≤ k + 1) (sym (length-without l
     try true c = omega arith
     try false true = omega arith
     try false false = omega arith
+
+some-less : (ls : List Literal) (ns : List ℕ) → length ls ≤ length (withoutAll ls ns) + length ns
+some-less ls [] = omega arith
+some-less ls (n ∷ ns) = let x = some-less ls ns in let y = one-less (withoutAll ls ns) n in omega (arith, x, y)
 
 -- The literals of the list without one of them.
 without-last : {L L₁ : List ℕ} {base all a r : ℕ} (ls : List Literal) → all ≡ base + length ls → Deleted L L₁ base all a r → r ≡ base + length (without ls a)
@@ -62,6 +66,61 @@ without-holds {L} {L₁} {base} {all} {a} {r} {o} ls e D H = record { literal = 
         let h′ : n ≤ leftOver (length ls) a = subst (λ (k : ℕ). n ≤ k) (length-without ls a) h in
         let i = passed-in (length ls) a n low h′ in
         ap some (D .left (length ls) e n low h′) ∙ H .literal (passed n a) (i .0) (i .1) ∙ ap (raiseNamed o) (sym (numbered-without ls a n low))
+
+-- Number 0 takes out nothing, so the zeros after the right literals can be taken out with them.
+without-zero : (ls : List Literal) → without ls 0 ≡ ls
+without-zero [] = refl
+without-zero (l ∷ ls) = refl
+
+without-zeros : (ls : List Literal) (ns : List ℕ) (k : ℕ) → withoutAll ls (ns ++ replicate k 0) ≡ withoutAll ls ns
+without-zeros ls [] zero = refl
+without-zeros ls [] (suc k) = without-zero (withoutAll ls (replicate k 0)) ∙ without-zeros ls [] k
+without-zeros ls (n ∷ ns) k = ap (λ (ms : List Literal). without ms n) (without-zeros ls ns k)
+
+without-cells : {O : List ℕ} {c : ℕ} (ls : List Literal) (ns : List ℕ) → NamesRights O c ns → withoutAll ls (rightCells O c) ≡ withoutAll ls ns
+without-cells ls ns H = ap (withoutAll ls) (H .cells) ∙ without-zeros ls ns (4 - length ns)
+
+-- A resolve with code 3 names one right literal, which is in the first of those cells.
+only-right : {O : List ℕ} {c u : ℕ} → u ≡ originCode O c → u ≡ 3 → (ns : List ℕ) → NamesRights O c ns → part O c 3 ∷ [] ≡ ns
+only-right p three [] H = let k = H .some in absurd (omega arith)
+only-right p three (n ∷ []) H = ap (λ (xs : List ℕ). getD xs 0 0 ∷ []) (H .cells)
+only-right p three (n ∷ m ∷ ns) H = let k = H .code in absurd (omega arith)
+
+-- The literals of the list without all right literals that a resolve names: one, or those of all four cells, the last one first.
+module _ {O L : List ℕ} {base end c : ℕ} where
+  pub one-deleted : {L₁ : List ℕ} {u a r : ℕ} → u ≡ originCode O c → u ≡ 3 → a ≡ part O c 3 → Deleted L L₁ base end a r → RightsDeleted O L L₁ base end c r
+  one-deleted {L₁} {u} {a} {r} pu three pa D =
+      record {
+        room = D .room;
+        before = D .before;
+        last = λ ns H ls e. without-last ls e D ∙ ap (λ (ms : List ℕ). base + length (withoutAll ls ms)) (same ns H);
+        holds = λ ns H ls e o K. subst (λ (ms : List ℕ). Holds L₁ base o (withoutAll ls ms)) (same ns H) (without-holds ls e D K);
+      }
+    where
+      same : (ns : List ℕ) → NamesRights O c ns → a ∷ [] ≡ ns
+      same ns H = ap (λ (n : ℕ). n ∷ []) pa ∙ only-right pu three ns H
+
+  pub four-deleted : {L₁ L₂ L₃ L₄ : List ℕ} {k₁ k₂ k₃ k₄ third second first r : ℕ}
+      → k₄ ≡ part O c 6 → Deleted L L₁ base end k₄ third → k₃ ≡ part O c 5 → Deleted L₁ L₂ base third k₃ second
+      → k₂ ≡ part O c 4 → Deleted L₂ L₃ base second k₂ first → k₁ ≡ part O c 3 → Deleted L₃ L₄ base first k₁ r → RightsDeleted O L L₄ base end c r
+  four-deleted {L₁} {L₂} {L₃} {L₄} {k₁} {k₂} {k₃} {k₄} {third} {second} {first} {r} p₄ D₄ p₃ D₃ p₂ D₂ p₁ D₁ =
+      record {
+        room = D₁ .room;
+        before = λ k h. D₁ .before k h ∙ D₂ .before k h ∙ D₃ .before k h ∙ D₄ .before k h;
+        last = λ ns H ls e. without-last (withoutAll ls (k₂ ∷ k₃ ∷ k₄ ∷ [])) (first-is-last ls e) D₁ ∙ ap (λ (ms : List Literal). base + length ms) (same ls ns H);
+        holds = λ ns H ls e o K. subst (Holds L₄ base o) (same ls ns H)
+            (without-holds (withoutAll ls (k₂ ∷ k₃ ∷ k₄ ∷ [])) (first-is-last ls e) D₁
+            (without-holds (withoutAll ls (k₃ ∷ k₄ ∷ [])) (second-is-last ls e) D₂ (without-holds (without ls k₄) (without-last ls e D₄) D₃ (without-holds ls e D₄ K))));
+      }
+    where
+      second-is-last : (ls : List Literal) → end ≡ base + length ls → second ≡ base + length (withoutAll ls (k₃ ∷ k₄ ∷ []))
+      second-is-last ls e = without-last (without ls k₄) (without-last ls e D₄) D₃
+
+      first-is-last : (ls : List Literal) → end ≡ base + length ls → first ≡ base + length (withoutAll ls (k₂ ∷ k₃ ∷ k₄ ∷ []))
+      first-is-last ls e = without-last (withoutAll ls (k₃ ∷ k₄ ∷ [])) (second-is-last ls e) D₂
+
+      same : (ls : List Literal) (ns : List ℕ) → NamesRights O c ns → withoutAll ls (k₁ ∷ k₂ ∷ k₃ ∷ k₄ ∷ []) ≡ withoutAll ls ns
+      same ls ns H = (λ i. withoutAll ls (p₁ i ∷ p₂ i ∷ p₃ i ∷ p₄ i ∷ [])) ∙ without-cells ls ns H
 
 -- Literals that stay where they are.
 kept-holds : {L L₁ : List ℕ} {base end o : ℕ} (ls : List Literal) → end ≡ base + length ls → ((k : ℕ) → k ≤ end → listed L₁ k ≡ listed L k) → Holds L base o ls → Holds L₁ base o ls
@@ -90,11 +149,11 @@ both-last base m xs ys e f = omega (arith, e, f, length-append xs (map (raiseLit
 module _ {O C : List ℕ} {base c o : ℕ} (K : Collectable O C base c o) where
   -- An input clause.
   module _ {count : ℕ} (one : originCode O c ≡ 1) (pc : count ≡ literalsCell C c) where
-    pub input-room : (count ≤ 7) × (base + count < 4352) × (o + 1 ≤ 4096)
+    pub input-room : (count ≤ 7) × (base + count < 16512) × (o + 1 ≤ 4096)
     input-room = try (K .derivation) (K .stored) (K .fits) (K .few)
       where
-        try : {B : List ℕ} (d : Derivation) → Stored O C B c d → o + maximumIndex d ≤ 4096 → base + length (literals d) + c < 4352 → (count ≤ 7) × (base + count < 4352) × (o + 1 ≤ 4096)
-        try d (storedResolve k la sa qa lb sb qb s) fits few = absurd (omega arith)
+        try : {B : List ℕ} (d : Derivation) → Stored O C B c d → o + maximumIndex d ≤ 4096 → base + length (literals d) + 4 * c < 16512 → (count ≤ 7) × (base + count < 16512) × (o + 1 ≤ 4096)
+        try d (storedResolve k low high la sa qa lb sb qb s) fits few = absurd (omega arith)
         try d (storedFactor k l t qa qb s) fits few = absurd (omega arith)
         try d (storedInput {ls = ls} k q s) fits few =
             let n : count ≡ length (placed 1 ls) = pc ∙ s .literalCount in
@@ -105,7 +164,7 @@ module _ {O C : List ℕ} {base c o : ℕ} (K : Collectable O C base c o) where
     input-collected {L} {L₁} {n} pn X = record { room = X .room; before = X .before; last = λ B d s. ap (λ (k : ℕ). base + k) (pn ∙ pc ∙ stored-cells s .literalCount); holds = holds }
       where
         holds : (B : List ℕ) (d : Derivation) → Stored O C B c d → Holds L₁ base o (literals d)
-        holds B d (storedResolve k la sa qa lb sb qb s) = absurd (omega arith)
+        holds B d (storedResolve k low high la sa qa lb sb qb s) = absurd (omega arith)
         holds B d (storedFactor k l₁ t qa qb s) = absurd (omega arith)
         holds B d (storedInput {ls = ls} k q s) = record { literal = literal }
           where
@@ -127,14 +186,14 @@ module _ {O C : List ℕ} {base c o : ℕ} (K : Collectable O C base c o) where
     pub to-first : (p < c) × Collectable O C base p o
     to-first = try (K .derivation) (K .stored) (K .fits) (K .few)
       where
-        try : (d : Derivation) → Stored O C (K .bindings) c d → o + maximumIndex d ≤ 4096 → base + length (literals d) + c < 4352 → (p < c) × Collectable O C base p o
+        try : (d : Derivation) → Stored O C (K .bindings) c d → o + maximumIndex d ≤ 4096 → base + length (literals d) + 4 * c < 16512 → (p < c) × Collectable O C base p o
         try d (storedInput k e s) fits few = absurd (no₁ (isKind ∙ k))
         try d (storedFactor {a = a} {b = b} {d = e} k l t qa qb s) fits few =
             let z = isLeft in (
               omega arith,
               record { originRoom = K .originRoom; bindings = K .bindings; derivation = e; stored = left-at t; fits = fits; few = omega (arith, few, l, z, one-less (literals e) b) },
             )
-        try d (storedResolve {a = a} {b = b} {l = l} {r = r} k la sa qa lb sb qb s) fits few =
+        try d (storedResolve {a = a} {ns = ns} {l = l} {r = r} k low high la sa qa lb sb qb s) fits few =
             let z = isLeft in (
               omega arith,
               record {
@@ -143,35 +202,35 @@ module _ {O C : List ℕ} {base c o : ℕ} (K : Collectable O C base c o) where
                 derivation = l;
                 stored = left-at sa;
                 fits = omega arith;
-                few = omega (arith, few, la, z, one-less (literals l) a, length-append (without (literals l) a) (map (raiseLiteral (maximumIndex l)) (without (literals r) b)));
+                few = omega (arith, few, la, z, one-less (literals l) a, length-append (without (literals l) a) (map (raiseLiteral (maximumIndex l)) (withoutAll (literals r) ns)));
               },
             )
 
     module _ {L L₁ : List ℕ} {all : ℕ} (G : Collected O C L L₁ base p o all) where
       -- How many the first parent has.
-      pub first-room : (base ≤ all) × (all < 4352)
+      pub first-room : (base ≤ all) × (all < 16512)
       first-room =
           let x = to-first in
           let e = G .last (x .1 .bindings) (x .1 .derivation) (x .1 .stored) in
           (omega (arith, e), omega (arith, e, x .1 .few))
 
-      pub from-first : (u ≡ 3 → ⊥) → {L₂ : List ℕ} {end : ℕ} → Deleted L₁ L₂ base all q end → Collected O C L L₂ base c o end
-      from-first no₃ {L₂} {end} D = record { room = D .room; before = λ k h. D .before k h ∙ G .before k h; last = last; holds = holds }
+      pub from-first : u ≡ 2 → {L₂ : List ℕ} {end : ℕ} → Deleted L₁ L₂ base all q end → Collected O C L L₂ base c o end
+      from-first two {L₂} {end} D = record { room = D .room; before = λ k h. D .before k h ∙ G .before k h; last = last; holds = holds }
         where
           last : (B : List ℕ) (d : Derivation) → Stored O C B c d → end ≡ base + length (literals d)
           last B d (storedInput k e s) = absurd (no₁ (isKind ∙ k))
-          last B d (storedResolve k la sa qa lb sb qb s) = absurd (no₃ (isKind ∙ k))
+          last B d (storedResolve k low high la sa qa lb sb qb s) = let z = isKind ∙ k in absurd (omega (arith, z, two, low))
           last B d (storedFactor {b = b} {d = e} k l t qa qb s) =
               without-last (literals e) (G .last B e (left-at t)) D ∙ ap (λ (x : ℕ). base + length (without (literals e) x)) (isSecond ∙ qb)
 
           holds : (B : List ℕ) (d : Derivation) → Stored O C B c d → Holds L₂ base o (literals d)
           holds B d (storedInput k e s) = absurd (no₁ (isKind ∙ k))
-          holds B d (storedResolve k la sa qa lb sb qb s) = absurd (no₃ (isKind ∙ k))
+          holds B d (storedResolve k low high la sa qa lb sb qb s) = let z = isKind ∙ k in absurd (omega (arith, z, two, low))
           holds B d (storedFactor {b = b} {d = e} k l t qa qb s) =
               subst (λ (x : ℕ). Holds L₂ base o (without (literals e) x)) (isSecond ∙ qb) (without-holds (literals e) (G .last B e (left-at t)) D (G .holds B e (left-at t)))
 
       -- A resolvent has a second parent.
-      module _ {a kept m : ℕ} {L₂ : List ℕ} (three : u ≡ 3) (isNamed : a ≡ part O c 1) (D : Deleted L₁ L₂ base all a kept) (pm : m ≡ indexCell C p) where
+      module _ {a kept m : ℕ} {L₂ : List ℕ} (no₂ : u ≡ 2 → ⊥) (isNamed : a ≡ part O c 1) (D : Deleted L₁ L₂ base all a kept) (pm : m ≡ indexCell C p) where
         left-index : {B : List ℕ} {l : Derivation} → Stored O C B p l → m ≡ maximumIndex l
         left-index t = pm ∙ stored-cells t .index
 
@@ -181,10 +240,10 @@ module _ {O C : List ℕ} {base c o : ℕ} (K : Collectable O C base c o) where
         pub to-second : (q < c) × Collectable O C kept q (o + m)
         to-second = try (K .derivation) (K .stored) (K .fits) (K .few)
           where
-            try : (d : Derivation) → Stored O C (K .bindings) c d → o + maximumIndex d ≤ 4096 → base + length (literals d) + c < 4352 → (q < c) × Collectable O C kept q (o + m)
+            try : (d : Derivation) → Stored O C (K .bindings) c d → o + maximumIndex d ≤ 4096 → base + length (literals d) + 4 * c < 16512 → (q < c) × Collectable O C kept q (o + m)
             try d (storedInput k e s) fits few = absurd (no₁ (isKind ∙ k))
-            try d (storedFactor k l t qa qb s) fits few = let z = isKind ∙ k in absurd (omega (arith, z, three))
-            try d (storedResolve {a = a₁} {b = b₁} {l = l} {r = r} k la sa qa lb sb qb s) fits few =
+            try d (storedFactor k l t qa qb s) fits few = absurd (no₂ (isKind ∙ k))
+            try d (storedResolve {a = a₁} {ns = ns} {l = l} {r = r} k low high la sa qa lb sb qb s) fits few =
                 let z = isSecond in
                 let y = left-index (left-at sa) in
                 let x : kept ≡ base + length (without (literals l) a₁) = subst (λ (i : ℕ). kept ≡ base + length (without (literals l) i)) (isNamed ∙ qa) (left-last (left-at sa)) in (
@@ -195,19 +254,19 @@ module _ {O C : List ℕ} {base c o : ℕ} (K : Collectable O C base c o) where
                     derivation = r;
                     stored = right-at sb;
                     fits = omega (arith, y, fits);
-                    few = omega (arith, few, lb, z, x, one-less (literals r) b₁, length-append (without (literals l) a₁) (map (raiseLiteral (maximumIndex l)) (without (literals r) b₁)), length-map (without (literals r) b₁) (raiseLiteral (maximumIndex l)));
+                    few = omega (arith, few, lb, z, x, high, some-less (literals r) ns, length-append (without (literals l) a₁) (map (raiseLiteral (maximumIndex l)) (withoutAll (literals r) ns)), length-map (withoutAll (literals r) ns) (raiseLiteral (maximumIndex l)));
                   },
                 )
 
         module _ {L₃ : List ℕ} {final : ℕ} (J : Collected O C L₂ L₃ kept q (o + m) final) where
-          pub second-room : (kept ≤ final) × (final < 4352)
+          pub second-room : (kept ≤ final) × (final < 16512)
           second-room =
               let x = to-second in
               let e = J .last (x .1 .bindings) (x .1 .derivation) (x .1 .stored) in
               (omega (arith, e), omega (arith, e, x .1 .few))
 
-          pub from-both : {b end : ℕ} {L₄ : List ℕ} → b ≡ part O c 3 → Deleted L₃ L₄ kept final b end → Collected O C L L₄ base c o end
-          from-both {b} {end} {L₄} isOther E =
+          pub from-both : {end : ℕ} {L₄ : List ℕ} → RightsDeleted O L₃ L₄ kept final c end → Collected O C L L₄ base c o end
+          from-both {end} {L₄} E =
               record {
                 room = E .room;
                 before = λ k h. E .before k (omega (arith, h, kept-low)) ∙ J .before k (omega (arith, h, kept-low)) ∙ D .before k h ∙ G .before k h;
@@ -219,24 +278,26 @@ module _ {O C : List ℕ} {base c o : ℕ} (K : Collectable O C base c o) where
               kept-low = let x = to-first in omega (arith, left-last (x .1 .stored))
 
               -- The resolvent with the numbers of the code.
-              same : (l r : Derivation) (a₁ b₁ : ℕ) → a ≡ a₁ → b ≡ b₁ → m ≡ maximumIndex l
-                  → without (literals l) a ++ map (raiseLiteral m) (without (literals r) b) ≡ without (literals l) a₁ ++ map (raiseLiteral (maximumIndex l)) (without (literals r) b₁)
-              same l r a₁ b₁ x y z = λ i. without (literals l) (x i) ++ map (raiseLiteral (z i)) (without (literals r) (y i))
+              same : (l r : Derivation) (a₁ : ℕ) (ns : List ℕ) → a ≡ a₁ → m ≡ maximumIndex l
+                  → without (literals l) a ++ map (raiseLiteral m) (withoutAll (literals r) ns) ≡ without (literals l) a₁ ++ map (raiseLiteral (maximumIndex l)) (withoutAll (literals r) ns)
+              same l r a₁ ns x z = λ i. without (literals l) (x i) ++ map (raiseLiteral (z i)) (withoutAll (literals r) ns)
 
               last : (B : List ℕ) (d : Derivation) → Stored O C B c d → end ≡ base + length (literals d)
               last B d (storedInput k e s) = absurd (no₁ (isKind ∙ k))
-              last B d (storedFactor k l t qa qb s) = let z = isKind ∙ k in absurd (omega (arith, z, three))
-              last B d (storedResolve {a = a₁} {b = b₁} {l = l} {r = r} k la sa qa lb sb qb s) =
-                  both-last base m (without (literals l) a) (without (literals r) b) (left-last (left-at sa)) (without-last (literals r) (J .last B r (right-at sb)) E)
-                  ∙ ap (λ (ls : List Literal). base + length ls) (same l r a₁ b₁ (isNamed ∙ qa) (isOther ∙ qb) (left-index (left-at sa)))
+              last B d (storedFactor k l t qa qb s) = absurd (no₂ (isKind ∙ k))
+              last B d (storedResolve {a = a₁} {ns = ns} {l = l} {r = r} k low high la sa qa lb sb qb s) =
+                  let names : NamesRights O c ns = record { code = k; some = low; few = high; cells = qb } in
+                  both-last base m (without (literals l) a) (withoutAll (literals r) ns) (left-last (left-at sa)) (E .last ns names (literals r) (J .last B r (right-at sb)))
+                  ∙ ap (λ (ls : List Literal). base + length ls) (same l r a₁ ns (isNamed ∙ qa) (left-index (left-at sa)))
 
               holds : (B : List ℕ) (d : Derivation) → Stored O C B c d → Holds L₄ base o (literals d)
               holds B d (storedInput k e s) = absurd (no₁ (isKind ∙ k))
-              holds B d (storedFactor k l t qa qb s) = let z = isKind ∙ k in absurd (omega (arith, z, three))
-              holds B d (storedResolve {a = a₁} {b = b₁} {l = l} {r = r} k la sa qa lb sb qb s) =
+              holds B d (storedFactor k l t qa qb s) = absurd (no₂ (isKind ∙ k))
+              holds B d (storedResolve {a = a₁} {ns = ns} {l = l} {r = r} k low high la sa qa lb sb qb s) =
+                  let names : NamesRights O c ns = record { code = k; some = low; few = high; cells = qb } in
                   let t = left-at sa in
                   let e = left-last t in
                   let x : Holds L₂ base o (without (literals l) a) = without-holds (literals l) (G .last B l t) D (G .holds B l t) in
                   let y : Holds L₄ base o (without (literals l) a) = kept-holds (without (literals l) a) e (λ i h. E .before i h ∙ J .before i h) x in
-                  let v : Holds L₄ kept (o + m) (without (literals r) b) = without-holds (literals r) (J .last B r (right-at sb)) E (J .holds B r (right-at sb)) in
-                  subst (Holds L₄ base o) (same l r a₁ b₁ (isNamed ∙ qa) (isOther ∙ qb) (left-index t)) (both-hold m (without (literals l) a) (without (literals r) b) e y v)
+                  let v : Holds L₄ kept (o + m) (withoutAll (literals r) ns) = E .holds ns names (literals r) (J .last B r (right-at sb)) (o + m) (J .holds B r (right-at sb)) in
+                  subst (Holds L₄ base o) (same l r a₁ ns (isNamed ∙ qa) (left-index t)) (both-hold m (without (literals l) a) (withoutAll (literals r) ns) e y v)

@@ -66,7 +66,7 @@ module _ (O C N A T : List ℕ) (at c n : ℕ) (r : NamedLiteral) (G : (B : List
       no e = let z : _≡_ {A = ℕ} 0 1 = cc in omega arith
 
 -- There is room in the list for all literals.
-pub collected-few : {O C L L′ : List ℕ} {c count : ℕ} → Collectable O C 0 c 0 → Collected O C L L′ 0 c 0 count → count < 4352
+pub collected-few : {O C L L′ : List ℕ} {c count : ℕ} → Collectable O C 0 c 0 → Collected O C L L′ 0 c 0 count → count < 16512
 collected-few R K = omega (arith, R .few, K .last (R .bindings) (R .derivation) (R .stored))
 
 -- The literal that the program has in its list is the one with the number.

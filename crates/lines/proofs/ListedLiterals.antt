@@ -4,15 +4,16 @@ use mathlib.Core.Bool.{Bool, true, false}
 use mathlib.Core.List.{List}
 use Prim.Native.Nat.{ℕ, _+_, _-_, _*_, _≤_, _<_}
 use native.Mathlib.Omega.{arith}
-use lib.Dec.{eqb, ltb}
+use lib.Dec.{eqb, leb, ltb}
 use lib.ListN.{length, getD, set, length-set}
 use lib.Seq.{getD-set-same, getD-set-other}
 use borrow.Author.Tests.{ne-eqb, eqb-true, eqb-false, ltb-true, ltb-false, le-leb, lt-leb, lt-ltb, le-ltb}
+use Rattle.record.specs.Record.{pick}
 use Rattle.clauses.specs.Named.{leftOver, passed}
 use Rattle.lines.specs.Literals.{literalWith, listed, Placed, Moved, Deleted}
 
 -- Two cells written are one literal.
-pub placed-there : (L : List ℕ) (n code index : ℕ) → length L ≡ 8704 → n < 4352 → Placed L (set (set L (2 * n) code) (2 * n + 1) index) n code index
+pub placed-there : (L : List ℕ) (n code index : ℕ) → length L ≡ 33024 → n < 16512 → Placed L (set (set L (2 * n) code) (2 * n + 1) index) n code index
 unfolding listed
 placed-there L n code index room inside =
     record {
@@ -29,7 +30,7 @@ placed-there L n code index room inside =
     long : length (set (set L (2 * n) code) (2 * n + 1) index) ≡ length L
     long = length-set (set L (2 * n) code) (2 * n + 1) index ∙ length-set L (2 * n) code
 
-pub moved-none : (L : List ℕ) (n : ℕ) → length L ≡ 8704 → Moved L L n n
+pub moved-none : (L : List ℕ) (n : ℕ) → length L ≡ 33024 → Moved L L n n
 moved-none L n room = record { room = room; moved = λ k l h. absurd (omega arith); below = λ k h. refl; above = λ k h. refl }
 
 -- One literal more.
@@ -75,7 +76,23 @@ pass-zero : (n a : ℕ) → a ≡ 0 → passed n a ≡ n
 unfolding passed
 pass-zero n a z = ap (passed n) z
 
-module _ (L : List ℕ) (base end a : ℕ) (room : length L ≡ 8704) where
+-- Not more are left than there were, so the last one stays inside the list.
+over-few : (count a : ℕ) → leftOver count a ≤ count
+unfolding leftOver
+over-few count a = try (eqb a 0) (leb a count)
+  where
+    try : (b c : Bool) → pick b count (pick c (count - 1) count) ≤ count
+    try true c = omega arith
+    try false true = omega arith
+    try false false = omega arith
+
+pub deleted-room : {L L₁ : List ℕ} {base end a r : ℕ} → base ≤ end → end < 16512 → Deleted L L₁ base end a r → (base ≤ r) × (r < 16512)
+deleted-room {base = base} {end = end} {a = a} low high D =
+    let e = D .last (end - base) (omega arith) in
+    let f = over-few (end - base) a in
+    (omega (arith, e), omega (arith, low, high, e, f))
+
+module _ (L : List ℕ) (base end a : ℕ) (room : length L ≡ 33024) where
   pub deleted-zero : a ≡ 0 → Deleted L L base end a end
   deleted-zero z =
       record {

@@ -4,5 +4,5 @@ pub mod line;
 mod literals;
 
 // The list that the literals of a clause are collected in, two cells for each: a clause has at most 128 of them, and while it is put
-// together there is one more at each step that it has at most.
-type LiteralList = [u16; 8704];
+// together there are four more at each step that it has at most, the right literals that the step names.
+type LiteralList = [u16; 33024];

@@ -79,8 +79,8 @@ fn write_listed(
     n: usize,
 ) -> usize
     requires { ⌜ WritingReady (now nodes) (now values) (now text) (listed (now list) n .1) ⌝ }
-    requires { ⌜ length (now list) ≡ 8704 ⌝ }
-    requires { ⌜ n < 4352 ⌝ }
+    requires { ⌜ length (now list) ≡ 33024 ⌝ }
+    requires { ⌜ n < 16512 ⌝ }
     ensures { λ end. ⌜ WritesLiteral (now (nodes .entry)) (now (values .entry)) (now (values .exit)) (now (text .entry)) (now (text .exit)) at (listed (now (list .entry)) n .0) (listed (now (list .entry)) n .1) end × Sized (now (nodes .entry)) (now (values .exit)) (now (text .exit)) ⌝ }
 {
     let code = list[2 * n];
@@ -101,7 +101,7 @@ fn write_collected_literals(
     requires { ⌜ LiteralsReady (now origins) (now clauses) (now nodes) (now values) (now text) c ⌝ }
     ensures { λ end. ⌜ WritesLiterals (now (origins .entry)) (now (clauses .entry)) (now (nodes .entry)) (now (values .entry)) (now (values .exit)) (now (text .entry)) (now (text .exit)) at c end × Sized (now (nodes .entry)) (now (values .exit)) (now (text .exit)) ⌝ }
 {
-    let mut list = [0u16; 8704];
+    let mut list = [0u16; 33024];
     let count = collect(origins, clauses, &mut list, 0, c, 0);
     let mut end = at;
     let mut n: usize = 0;

@@ -9,12 +9,12 @@ ghost use mathlib.Core.Path.{_≡_};
 ghost use Prim.Native.Nat.{_≤_, _<_};
 ghost use lib.ListN.{length};
 ghost use Rattle.derivation.specs.Stored.{originCode};
-ghost use Rattle.lines.specs.Literals.{Placed, Moved, Deleted, Collectable, Collected};
+ghost use Rattle.lines.specs.Literals.{Placed, Moved, Deleted, RightsDeleted, Collectable, Collected};
 
 // The cells of literal n.
-fn place(list: &mut [u16; 8704], n: usize, code: u16, index: u16)
-    requires { ⌜ length (now list) ≡ 8704 ⌝ }
-    requires { ⌜ n < 4352 ⌝ }
+fn place(list: &mut [u16; 33024], n: usize, code: u16, index: u16)
+    requires { ⌜ length (now list) ≡ 33024 ⌝ }
+    requires { ⌜ n < 16512 ⌝ }
     ensures { λ _. ⌜ Placed (now (list .entry)) (now (list .exit)) n code index ⌝ }
 {
     list[2 * n] = code;
@@ -22,10 +22,10 @@ fn place(list: &mut [u16; 8704], n: usize, code: u16, index: u16)
 }
 
 // Every literal after number n, as far as number `end`, gets the number before its own.
-fn move_down(list: &mut [u16; 8704], n: usize, end: usize)
-    requires { ⌜ length (now list) ≡ 8704 ⌝ }
+fn move_down(list: &mut [u16; 33024], n: usize, end: usize)
+    requires { ⌜ length (now list) ≡ 33024 ⌝ }
     requires { ⌜ n ≤ end ⌝ }
-    requires { ⌜ end < 4352 ⌝ }
+    requires { ⌜ end < 16512 ⌝ }
     ensures { λ _. ⌜ Moved (now (list .entry)) (now (list .exit)) n end ⌝ }
 {
     let mut k = n;
@@ -39,10 +39,10 @@ fn move_down(list: &mut [u16; 8704], n: usize, end: usize)
 }
 
 // Of the literals after number `base`, as far as number `end`, the a-th is taken out, if there is one. Answers the number of the last one.
-fn delete(list: &mut [u16; 8704], base: usize, end: usize, a: u16) -> usize
-    requires { ⌜ length (now list) ≡ 8704 ⌝ }
+fn delete(list: &mut [u16; 33024], base: usize, end: usize, a: u16) -> usize
+    requires { ⌜ length (now list) ≡ 33024 ⌝ }
     requires { ⌜ base ≤ end ⌝ }
-    requires { ⌜ end < 4352 ⌝ }
+    requires { ⌜ end < 16512 ⌝ }
     ensures { λ r. ⌜ Deleted (now (list .entry)) (now (list .exit)) base end a r ⌝ }
 {
     if a == 0 {
@@ -56,16 +56,40 @@ fn delete(list: &mut [u16; 8704], base: usize, end: usize, a: u16) -> usize
     end - 1
 }
 
+// The right literals that clause c's step names are taken out of those after number `base`, the last one first, so that the numbers of
+// the others still count. Most steps name one. Answers the number of the last literal left.
+fn delete_rights(
+    origins: &Origins,
+    list: &mut [u16; 33024],
+    base: usize,
+    end: usize,
+    c: u16,
+) -> usize
+    requires { ⌜ length (now origins) ≡ 32768 ⌝ }
+    requires { ⌜ length (now list) ≡ 33024 ⌝ }
+    requires { ⌜ base ≤ end ⌝ }
+    requires { ⌜ end < 16512 ⌝ }
+    ensures { λ r. ⌜ RightsDeleted (now (origins .entry)) (now (list .entry)) (now (list .exit)) base end c r ⌝ }
+{
+    if origin_code(origins, c) == 3 {
+        return delete(list, base, end, part_of(origins, c, 3));
+    }
+    let third = delete(list, base, end, part_of(origins, c, 6));
+    let second = delete(list, base, third, part_of(origins, c, 5));
+    let first = delete(list, base, second, part_of(origins, c, 4));
+    delete(list, base, first, part_of(origins, c, 3))
+}
+
 // The literals of an input clause, after number `base`: the numbers of its origin.
 fn collect_input(
     origins: &Origins,
     clauses: &[u16],
-    list: &mut [u16; 8704],
+    list: &mut [u16; 33024],
     base: usize,
     c: u16,
     offset: u16,
 ) -> usize
-    requires { ⌜ length (now list) ≡ 8704 ⌝ }
+    requires { ⌜ length (now list) ≡ 33024 ⌝ }
     requires { ⌜ Collectable (now origins) (now clauses) base c offset ⌝ }
     requires { ⌜ originCode (now origins) c ≡ 1 ⌝ }
     ensures { λ end. ⌜ Collected (now (origins .entry)) (now (clauses .entry)) (now (list .entry)) (now (list .exit)) base c offset end ⌝ }
@@ -85,12 +109,12 @@ fn collect_input(
 pub fn collect(
     origins: &Origins,
     clauses: &[u16],
-    list: &mut [u16; 8704],
+    list: &mut [u16; 33024],
     base: usize,
     c: u16,
     offset: u16,
 ) -> usize
-    requires { ⌜ length (now list) ≡ 8704 ⌝ }
+    requires { ⌜ length (now list) ≡ 33024 ⌝ }
     requires { ⌜ Collectable (now origins) (now clauses) base c offset ⌝ }
     ensures { λ end. ⌜ Collected (now (origins .entry)) (now (clauses .entry)) (now (list .entry)) (now (list .exit)) base c offset end ⌝ }
 {
@@ -101,11 +125,11 @@ pub fn collect(
     let left = part_of(origins, c, 0);
     let second = part_of(origins, c, 2);
     let all = collect(origins, clauses, list, base, left, offset);
-    if code != 3 {
+    if code == 2 {
         return delete(list, base, all, second);
     }
     let kept = delete(list, base, all, part_of(origins, c, 1));
     let above = offset + index_cell(clauses, left);
     let last = collect(origins, clauses, list, kept, second, above);
-    delete(list, kept, last, part_of(origins, c, 3))
+    delete_rights(origins, list, kept, last, c)
 }

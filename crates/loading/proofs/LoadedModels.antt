@@ -3,10 +3,11 @@
 use mathlib.Core.Path.{_≡_, refl, sym, ap, ap₂, _∙_, subst}
 use mathlib.Core.Bool.{true}
 use mathlib.Core.Option.{Option, none, some}
-use mathlib.Core.List.{List}
+use mathlib.Core.List.{List, _++_}
 use Prim.Native.Nat.{ℕ, _+_, _-_, _*_, _≤_}
 use native.Mathlib.Omega.{arith}
-use lib.ListN.{length}
+use lib.ListN.{length, take}
+use lib.Seq.{take-append-seam}
 use Rattle.unification.specs.Repeated.{orElse}
 use Rattle.following.specs.Clearing.{Cleared}
 use Rattle.unification.specs.Environment.{follow, Environment, Ends}
@@ -21,19 +22,23 @@ use Rattle.loading.proofs.Loading.{within-joined}
 use Rattle.loading.proofs.ValidBindings.{in-larger, joined-in, lookup-in-step}
 use borrow.Author.Tests.{le-leb, lt-leb}
 
+-- Right literals with zeros after them are one list.
+same-rights : (ns ns′ : List ℕ) → length ns ≡ length ns′ → (zs zs′ : List ℕ) → ns ++ zs ≡ ns′ ++ zs′ → ns ≡ ns′
+same-rights ns ns′ l zs zs′ e = sym (take-append-seam ns zs) ∙ ap₂ (λ (k : ℕ) (xs : List ℕ). take k xs) l e ∙ take-append-seam ns′ zs′
+
 -- A clause of the tables is one derivation.
 pub stored-once : {O C B : List ℕ} {c : ℕ} {d e : Derivation} → Stored O C B c d → Stored O C B c e → d ≡ e
 stored-once {c = c} (storedInput k q s) (storedInput k′ q′ s′) = ap (input c) (sym q ∙ q′)
-stored-once (storedInput k q s) (storedResolve k′ la sa qa lb sb qb s′) = absurd (omega arith)
+stored-once (storedInput k q s) (storedResolve k′ k₁ k₂ la sa qa lb sb qb s′) = absurd (omega arith)
 stored-once (storedInput k q s) (storedFactor k′ la sa qa qb s′) = absurd (omega arith)
-stored-once (storedResolve k la sa qa lb sb qb s) (storedInput k′ q′ s′) = absurd (omega arith)
-stored-once {c = c} (storedResolve k la sa qa lb sb qb s) (storedResolve k′ la′ sa′ qa′ lb′ sb′ qb′ s′) =
+stored-once (storedResolve k k₁ k₂ la sa qa lb sb qb s) (storedInput k′ q′ s′) = absurd (omega arith)
+stored-once {c = c} (storedResolve {ns = ns} k k₁ k₂ la sa qa lb sb qb s) (storedResolve {ns = ns′} k′ k₁′ k₂′ la′ sa′ qa′ lb′ sb′ qb′ s′) =
     let l = stored-once sa sa′ in
     let r = stored-once sb sb′ in
-    λ i. resolve c (l i) ((sym qa ∙ qa′) i) (r i) ((sym qb ∙ qb′) i) ((sym (s .own) ∙ s′ .own) i)
-stored-once (storedResolve k la sa qa lb sb qb s) (storedFactor k′ la′ sa′ qa′ qb′ s′) = absurd (omega arith)
+    λ i. resolve c (l i) ((sym qa ∙ qa′) i) (r i) (same-rights ns ns′ (omega arith) _ _ (sym qb ∙ qb′) i) ((sym (s .own) ∙ s′ .own) i)
+stored-once (storedResolve k k₁ k₂ la sa qa lb sb qb s) (storedFactor k′ la′ sa′ qa′ qb′ s′) = absurd (omega arith)
 stored-once (storedFactor k la sa qa qb s) (storedInput k′ q′ s′) = absurd (omega arith)
-stored-once (storedFactor k la sa qa qb s) (storedResolve k′ la′ sa′ qa′ lb′ sb′ qb′ s′) = absurd (omega arith)
+stored-once (storedFactor k la sa qa qb s) (storedResolve k′ k₁′ k₂′ la′ sa′ qa′ lb′ sb′ qb′ s′) = absurd (omega arith)
 stored-once {c = c} (storedFactor k la sa qa qb s) (storedFactor k′ la′ sa′ qa′ qb′ s′) =
     let l = stored-once sa sa′ in
     λ i. factor c (l i) ((sym qa ∙ qa′) i) ((sym qb ∙ qb′) i) ((sym (s .own) ∙ s′ .own) i)

@@ -97,7 +97,7 @@ module _ (N : List ℕ) (T : NodesOk N) where
 
   pub length-clause : (d : Derivation) (o : ℕ) (A : List ℕ) → length (putClause N o d A) ≡ length A
   length-clause (input number ls) o A = refl
-  length-clause (resolve number l a r b bs) o A =
+  length-clause (resolve number l a r ns bs) o A =
       length-clause r (o + maximumIndex l) (putClause N o l (putBindings N o bs A)) ∙ length-clause l o (putBindings N o bs A) ∙ length-bindings o bs A
   length-clause (factor number d a b bs) o A = length-clause d o (putBindings N o bs A) ∙ length-bindings o bs A
 
@@ -203,7 +203,7 @@ module _ (N : List ℕ) (T : NodesOk N) where
   pub clause-read : (d : Derivation) → BindingsIn N d → (o : ℕ) → o + maximumIndex d ≤ 4096 → (A : List ℕ) → length A ≡ 524416 → (x : Variable) → InStep N 4096 x → isVariable N (x .0) ≡ true
       → readCell N (putClause N o d A) x ≡ orElse (within o (maximumIndex d) (lookup d) x) (readCell N A x)
   clause-read (input number ls) K o fits A room x g v = sym (ap (λ (q : Option Expression). orElse q (readCell N A x)) (within-nothing o 1 x))
-  clause-read (resolve number l a r b bs) K o fits A room x g v =
+  clause-read (resolve number l a r ns bs) K o fits A room x g v =
       let m = maximumIndex l in
       let n = maximumIndex r in
       let both = joined m (lookup l) (lookup r) in

@@ -99,12 +99,12 @@ input-loaded {O} {C} {B} {N} {A} {c} {o} L pu one = all-loaded L (L .room) cells
   where
     cells : (d : Derivation) → Stored O C B c d → A ≡ putClause N o d A
     cells d (storedInput k q s) = refl
-    cells d (storedResolve k la sa qa lb sb qb s) = absurd (omega arith)
+    cells d (storedResolve k k₁ k₂ la sa qa lb sb qb s) = absurd (omega arith)
     cells d (storedFactor k l t qa qb s) = absurd (omega arith)
 
 own-all : (N : List ℕ) (d : Derivation) → BindingsIn N d → AllIn N (maximumIndex d) (ownBindings d)
 own-all N (input number ls) K = tt
-own-all N (resolve number l a r b bs) K = K .2
+own-all N (resolve number l a r ns bs) K = K .2
 own-all N (factor number d a b bs) K = K .1
 
 -- A clause's own bindings are put first; then its parents can be loaded.
@@ -127,48 +127,48 @@ module _ {O C B N A : List ℕ} {c o u first n : ℕ} (L : Loadable O C B N A c 
     own-put s = G .cells ∙ ap (λ (bs : List Binding). putBindings N o bs A) (own-is s)
 
     -- A factor's only parent.
-    pub to-parent : (u ≡ 1 → ⊥) → (u ≡ 3 → ⊥) → (p < c) × Loadable O C B N A₁ p o
-    to-parent no₁ no₃ = try (L .derivation) (L .stored) (L .bindings) (L .fits)
-      where
-        try : (d : Derivation) → Stored O C B c d → BindingsIn N d → o + maximumIndex d ≤ 4096 → (p < c) × Loadable O C B N A₁ p o
-        try d (storedInput k q s) K fits = absurd (no₁ (pu ∙ k))
-        try d (storedResolve k la sa qa lb sb qb s) K fits = absurd (no₃ (pu ∙ k))
-        try d (storedFactor {d = e} k l t qa qb s) K fits =
-            (omega arith, record { nodes = L .nodes; nodeRoom = L .nodeRoom; originRoom = L .originRoom; room = G .room; derivation = e; stored = subst (λ (k : ℕ). Stored O C B k e) (sym pp) t; bindings = K .0; fits = fits })
-
-    pub factor-loaded : {A₂ : List ℕ} → (u ≡ 1 → ⊥) → (u ≡ 3 → ⊥) → Loaded O C B N A₁ A₂ p o → Loaded O C B N A A₂ c o
-    factor-loaded {A₂} no₁ no₃ P = all-loaded L (P .room) cells
-      where
-        cells : (d : Derivation) → Stored O C B c d → A₂ ≡ putClause N o d A
-        cells d (storedInput k q s) = absurd (no₁ (pu ∙ k))
-        cells d (storedResolve k la sa qa lb sb qb s) = absurd (no₃ (pu ∙ k))
-        cells d (storedFactor {d = e} k l t qa qb s) = P .cells e (subst (λ (k : ℕ). Stored O C B k e) (sym pp) t) ∙ ap (putClause N o e) (own-put (storedFactor k l t qa qb s))
-
-    -- The left parent of a resolvent.
-    pub to-left : u ≡ 3 → (p < c) × Loadable O C B N A₁ p o
-    to-left three = try (L .derivation) (L .stored) (L .bindings) (L .fits)
+    pub to-parent : u ≡ 2 → (p < c) × Loadable O C B N A₁ p o
+    to-parent two = try (L .derivation) (L .stored) (L .bindings) (L .fits)
       where
         try : (d : Derivation) → Stored O C B c d → BindingsIn N d → o + maximumIndex d ≤ 4096 → (p < c) × Loadable O C B N A₁ p o
         try d (storedInput k q s) K fits = absurd (omega arith)
-        try d (storedFactor k l t qa qb s) K fits = absurd (omega arith)
-        try d (storedResolve {l = l} {r = r} k la sa qa lb sb qb s) K fits =
+        try d (storedResolve k k₁ k₂ la sa qa lb sb qb s) K fits = absurd (omega arith)
+        try d (storedFactor {d = e} k l t qa qb s) K fits =
+            (omega arith, record { nodes = L .nodes; nodeRoom = L .nodeRoom; originRoom = L .originRoom; room = G .room; derivation = e; stored = subst (λ (k : ℕ). Stored O C B k e) (sym pp) t; bindings = K .0; fits = fits })
+
+    pub factor-loaded : {A₂ : List ℕ} → u ≡ 2 → Loaded O C B N A₁ A₂ p o → Loaded O C B N A A₂ c o
+    factor-loaded {A₂} two P = all-loaded L (P .room) cells
+      where
+        cells : (d : Derivation) → Stored O C B c d → A₂ ≡ putClause N o d A
+        cells d (storedInput k q s) = absurd (omega arith)
+        cells d (storedResolve k k₁ k₂ la sa qa lb sb qb s) = absurd (omega arith)
+        cells d (storedFactor {d = e} k l t qa qb s) = P .cells e (subst (λ (k : ℕ). Stored O C B k e) (sym pp) t) ∙ ap (putClause N o e) (own-put (storedFactor k l t qa qb s))
+
+    -- The left parent of a resolvent.
+    pub to-left : (u ≡ 1 → ⊥) → (u ≡ 2 → ⊥) → (p < c) × Loadable O C B N A₁ p o
+    to-left no₁ no₂ = try (L .derivation) (L .stored) (L .bindings) (L .fits)
+      where
+        try : (d : Derivation) → Stored O C B c d → BindingsIn N d → o + maximumIndex d ≤ 4096 → (p < c) × Loadable O C B N A₁ p o
+        try d (storedInput k q s) K fits = absurd (no₁ (pu ∙ k))
+        try d (storedFactor k l t qa qb s) K fits = absurd (no₂ (pu ∙ k))
+        try d (storedResolve {l = l} {r = r} k k₁ k₂ la sa qa lb sb qb s) K fits =
             (omega arith, record { nodes = L .nodes; nodeRoom = L .nodeRoom; originRoom = L .originRoom; room = G .room; derivation = l; stored = subst (λ (k : ℕ). Stored O C B k l) (sym pp) sa; bindings = K .0; fits = omega arith })
 
-    module _ {q : ℕ} (three : u ≡ 3) (pq : q ≡ part O c 2) where
+    module _ {q : ℕ} (no₁ : u ≡ 1 → ⊥) (no₂ : u ≡ 2 → ⊥) (pq : q ≡ part O c 2) where
       -- It is the last one to be loaded where the right one is an input clause.
       pub left-loaded : {t : ℕ} {A₂ : List ℕ} → t ≡ originCode O q → t ≡ 1 → Loaded O C B N A₁ A₂ p o → Loaded O C B N A A₂ c o
       left-loaded {t} {A₂} pt one P = all-loaded L (P .room) cells
         where
           none : (r : Derivation) → Stored O C B q r → (k : ℕ) (y : List ℕ) → putClause N k r y ≡ y
           none r (storedInput k q₁ s) i y = refl
-          none r (storedResolve k la sa qa lb sb qb s) i y = absurd (omega arith)
+          none r (storedResolve k k₁ k₂ la sa qa lb sb qb s) i y = absurd (omega arith)
           none r (storedFactor k l t qa qb s) i y = absurd (omega arith)
 
           cells : (d : Derivation) → Stored O C B c d → A₂ ≡ putClause N o d A
-          cells d (storedInput k q₁ s) = absurd (omega arith)
-          cells d (storedFactor k l t qa qb s) = absurd (omega arith)
-          cells d (storedResolve {l = l} {r = r} k la sa qa lb sb qb s) =
-              P .cells l (subst (λ (k : ℕ). Stored O C B k l) (sym pp) sa) ∙ ap (putClause N o l) (own-put (storedResolve k la sa qa lb sb qb s))
+          cells d (storedInput k q₁ s) = absurd (no₁ (pu ∙ k))
+          cells d (storedFactor k l t qa qb s) = absurd (no₂ (pu ∙ k))
+          cells d (storedResolve {l = l} {r = r} k k₁ k₂ la sa qa lb sb qb s) =
+              P .cells l (subst (λ (k : ℕ). Stored O C B k l) (sym pp) sa) ∙ ap (putClause N o l) (own-put (storedResolve k k₁ k₂ la sa qa lb sb qb s))
               ∙ sym (none r (subst (λ (k : ℕ). Stored O C B k r) (sym pq) sb) (o + maximumIndex l) (putClause N o l (putBindings N o (ownBindings d) A)))
 
       -- Else the right one comes after it, above its maximum index.
@@ -180,9 +180,9 @@ module _ {O C B N A : List ℕ} {c o u first n : ℕ} (L : Loadable O C B N A c 
         to-right = try (L .derivation) (L .stored) (L .bindings) (L .fits)
           where
             try : (d : Derivation) → Stored O C B c d → BindingsIn N d → o + maximumIndex d ≤ 4096 → (q < c) × Loadable O C B N A₂ q (o + m)
-            try d (storedInput k q₁ s) K fits = absurd (omega arith)
-            try d (storedFactor k l t qa qb s) K fits = absurd (omega arith)
-            try d (storedResolve {l = l} {r = r} k la sa qa lb sb qb s) K fits =
+            try d (storedInput k q₁ s) K fits = absurd (no₁ (pu ∙ k))
+            try d (storedFactor k l t qa qb s) K fits = absurd (no₂ (pu ∙ k))
+            try d (storedResolve {l = l} {r = r} k k₁ k₂ la sa qa lb sb qb s) K fits =
                 let y = left-index sa in
                 (omega arith, record { nodes = L .nodes; nodeRoom = L .nodeRoom; originRoom = L .originRoom; room = P .room; derivation = r; stored = subst (λ (k : ℕ). Stored O C B k r) (sym pq) sb; bindings = K .1; fits = omega arith })
 
@@ -190,8 +190,8 @@ module _ {O C B N A : List ℕ} {c o u first n : ℕ} (L : Loadable O C B N A c 
         both-loaded {A₃} R = all-loaded L (R .room) cells
           where
             cells : (d : Derivation) → Stored O C B c d → A₃ ≡ putClause N o d A
-            cells d (storedInput k q₁ s) = absurd (omega arith)
-            cells d (storedFactor k l t qa qb s) = absurd (omega arith)
-            cells d (storedResolve {l = l} {r = r} k la sa qa lb sb qb s) =
+            cells d (storedInput k q₁ s) = absurd (no₁ (pu ∙ k))
+            cells d (storedFactor k l t qa qb s) = absurd (no₂ (pu ∙ k))
+            cells d (storedResolve {l = l} {r = r} k k₁ k₂ la sa qa lb sb qb s) =
                 R .cells r (subst (λ (k : ℕ). Stored O C B k r) (sym pq) sb)
-                ∙ ap₂ (λ (k : ℕ) (y : List ℕ). putClause N (o + k) r y) (left-index sa) (P .cells l (subst (λ (k : ℕ). Stored O C B k l) (sym pp) sa) ∙ ap (putClause N o l) (own-put (storedResolve k la sa qa lb sb qb s)))
+                ∙ ap₂ (λ (k : ℕ) (y : List ℕ). putClause N (o + k) r y) (left-index sa) (P .cells l (subst (λ (k : ℕ). Stored O C B k l) (sym pp) sa) ∙ ap (putClause N o l) (own-put (storedResolve k k₁ k₂ la sa qa lb sb qb s)))

@@ -56,7 +56,7 @@ joined-in N m n ρ ρ′ h h′ x e q = try (leb (x .1) m) refl q
 -- Looking up keeps to the table and to the maximum index.
 pub lookup-in-step : (N : List ℕ) (d : Derivation) → BindingsIn N d → KeptIn N (maximumIndex d) (lookup d)
 lookup-in-step N (input number ls) K x e q = absurd (some-not-none refl q)
-lookup-in-step N (resolve number l a r b bs) K x e q =
+lookup-in-step N (resolve number l a r ns bs) K x e q =
     extend-in N (maximumIndex l + maximumIndex r) (joined (maximumIndex l) (lookup l) (lookup r)) bs (K .2)
     (joined-in N (maximumIndex l) (maximumIndex r) (lookup l) (lookup r) (lookup-in-step N l (K .0)) (lookup-in-step N r (K .1))) x e q
 lookup-in-step N (factor number d a b bs) K x e q = extend-in N (maximumIndex d) (lookup d) bs (K .1) (lookup-in-step N d (K .0)) x e q

@@ -44,7 +44,7 @@ putBindings N o (b ∷ bs) A = putBinding N o b (putBindings N o bs A)
 -- All bindings of a derivation put into the array: its own, then those of its parents, the right one's raised by the left maximum index.
 abbrev pub putClause : List ℕ → ℕ → Derivation → List ℕ → List ℕ
 putClause N o (input number ls) A = A
-putClause N o (resolve number l a r b bs) A = putClause N (o + maximumIndex l) r (putClause N o l (putBindings N o bs A))
+putClause N o (resolve number l a r ns bs) A = putClause N (o + maximumIndex l) r (putClause N o l (putBindings N o bs A))
 putClause N o (factor number d a b bs) A = putClause N o d (putBindings N o bs A)
 
 -- A binding of a clause whose maximum index is m: of a variable of the table, to an expression of the table, at indices from 1 to m.
@@ -65,7 +65,7 @@ AllFree ρ (b ∷ bs) = (ρ (b .0) ≡ none) × AllFree ρ bs
 -- So are all bindings of a derivation, each in the clause that owns it, and of a variable that its parents do not bind.
 abbrev pub BindingsIn : List ℕ → Derivation → Type 0
 BindingsIn N (input number ls) = Unit {0}
-BindingsIn N (resolve number l a r b bs) =
+BindingsIn N (resolve number l a r ns bs) =
     BindingsIn N l × BindingsIn N r × AllIn N (maximumIndex l + maximumIndex r) bs × AllFree (joined (maximumIndex l) (lookup l) (lookup r)) bs
 BindingsIn N (factor number d a b bs) = BindingsIn N d × AllIn N (maximumIndex d) bs × AllFree (lookup d) bs
 

@@ -67,7 +67,7 @@ fn load_clause(
     let n = bindings_cell(*clauses, c);
     put_bindings(*bindings, nodes, values, first, n, offset);
     let left = part_of(origins, c, 0);
-    if code != 3 {
+    if code == 2 {
         return load_clause(origins, clauses, bindings, nodes, values, left, offset);
     }
     let right = part_of(origins, c, 2);

@@ -4,8 +4,9 @@ ghost use mathlib.Core.Path.{_≡_};
 ghost use Prim.Native.Nat.{_≤_};
 ghost use lib.ListN.{length};
 ghost use Rattle.unification.specs.Nodes.{nodeArity, nodeRow};
+ghost use Rattle.unification.specs.Listed.{listedFrom};
 ghost use Rattle.unification.specs.Outlines.{outlinesClash};
-ghost use Rattle.outlines.specs.Comparing.{smaller, PairCompared, ArgumentsCompared};
+ghost use Rattle.outlines.specs.Comparing.{smaller, PairCompared, ArgumentsCompared, someClash};
 use following::nodes::Nodes;
 use following::nodes::arity_of;
 use following::nodes::is_variable;
@@ -85,4 +86,21 @@ pub fn outlines_clash(nodes: &Nodes, r: u16, q: u16) -> bool
         Compared::Clash => true,
         Compared::Agree(_) => false,
     }
+}
+
+// Whether the outline of row r clashes with that of one of n listed rows. Each comparison may take up all the pairs.
+pub fn some_outlines_clash(nodes: &Nodes, r: u16, listed: &[u16; 8], n: u16) -> bool
+    requires { ⌜ length (now nodes) ≡ 32768 ⌝ }
+    requires { ⌜ length (now listed) ≡ 8 ⌝ }
+    requires { ⌜ n ≤ 4 ⌝ }
+    ensures { λ b. ⌜ b ≡ someClash (nodeRow (now (nodes .entry))) r (listedFrom (now (listed .entry)) 0 n) ⌝ }
+{
+    let mut j: u16 = 0;
+    while j < n {
+        if outlines_clash(nodes, r, listed[2 * (j as usize)]) {
+            return true;
+        }
+        j += 1;
+    }
+    false
 }

@@ -1,31 +1,33 @@
-// A resolve: the outlines of the two atoms are compared, the bindings of both parents are loaded once, the atoms are unified, and the clause is
-// entered.
+// A resolve, on one right literal or on several: the outlines of the left atom and each right one are compared, the bindings of both parents are
+// loaded once, the left atom is unified with each right one in turn, and the clause is entered.
 use clauses::index_cell;
+use clauses::literal::NamedLiteral;
 use clauses::literals_cell;
 use entry::entry::Counts;
 use entry::entry::Entered;
-use fields::step_in_range;
+use fields::right_count;
+use fields::rights_rise;
 use following::nodes::Nodes;
 use following::nodes::Origins;
 use following::values::ValueCells;
 use inference::Atom;
-use inference::NamedPair;
 use inference::finish_step;
-use inference::named_pair;
-use inference::same_sign;
+use inference::named_literal;
+use inference::rights::refused_rights;
 use loading::load;
-use outlines::outlines_clash;
+use outlines::some_outlines_clash;
 use record::fields;
 use record::record_part;
 use unify::Unified;
-use unify::unify_literals;
+use unify::unify_with_each;
 ghost use mathlib.Core.Path.{_≡_};
 ghost use Rattle.record.specs.Record.{recordPart, kindOf};
 ghost use Rattle.unify.specs.Unifying.{outcomeOf};
 ghost use Rattle.verdict.specs.Step.{unifyResolve};
-ghost use Rattle.inference.specs.Stepping.{BeforeStep, Resolving, UnifiedTables, atomNamed, ResolveNamed, StepRead};
+ghost use Rattle.inference.specs.Stepping.{BeforeStep, Resolving, UnifiedTables, atomNamed, rightsNamed, ResolveKind, ResolveNamed, StepRead};
 
-// Unifies the atoms of a resolve over the bindings of both parents. The right parent's indices are raised by the left one's maximum.
+// Unifies the left atom of a resolve with n listed ones of the right parent, over the bindings of both parents. The right parent's indices are
+// raised by the left one's maximum.
 fn unify_resolve(
     k: u16,
     counts: Counts,
@@ -35,38 +37,33 @@ fn unify_resolve(
     origins: &Origins,
     values: &mut ValueCells,
     left: Atom,
-    right: Atom,
+    right: u16,
+    listed: &[u16; 8],
+    n: u16,
 ) -> Unified
-    requires { ⌜ Resolving k counts (now clauses) (now bindings) (now nodes) (now origins) (now values) left right ⌝ }
-    ensures { λ u. ⌜ ((R : Resolving k counts (now (clauses .entry)) (now (bindings .entry)) (now (nodes .entry)) (now (origins .entry)) (now (values .entry)) left right) → unifyResolve (R .step .state) (atomNamed (R .left)) (atomNamed (R .right)) ≡ outcomeOf (now (bindings .exit)) (counts .bindings) u) ⌝ }
+    requires { ⌜ Resolving k counts (now clauses) (now bindings) (now nodes) (now origins) (now values) left right (now listed) n ⌝ }
+    ensures { λ u. ⌜ ((R : Resolving k counts (now (clauses .entry)) (now (bindings .entry)) (now (nodes .entry)) (now (origins .entry)) (now (values .entry)) left right (now (listed .entry)) n) → unifyResolve (R .step .state) (atomNamed (R .left)) (rightsNamed (R .rights)) ≡ outcomeOf (now (bindings .exit)) (counts .bindings) u) ⌝ }
     ensures { λ u. ⌜ UnifiedTables (now (bindings .entry)) (now (bindings .exit)) (now (values .exit)) (counts .bindings) u ⌝ }
 {
     let raised = index_cell(clauses, left.clause);
-    let top = raised + index_cell(clauses, right.clause);
+    let top = raised + index_cell(clauses, right);
     following::values::clear(values, top);
     load(origins, clauses, bindings, nodes, values, left.clause, 0);
-    load(
-        origins,
-        clauses,
-        bindings,
-        nodes,
-        values,
-        right.clause,
-        raised,
-    );
-    unify_literals(
+    load(origins, clauses, bindings, nodes, values, right, raised);
+    unify_with_each(
         nodes,
         values,
         bindings,
         counts.bindings,
         left.row,
         left.index,
-        right.row,
-        raised + right.index,
+        listed,
+        n,
+        raised,
     )
 }
 
-// A resolve on two named atoms of opposite signs: the limits on its result, outlines, unification, and its end.
+// A resolve on a named atom and n listed ones of the other sign: the limits on its result, outlines, unification, and its end.
 fn resolve_atoms(
     numbers: &[u16; 7],
     k: u16,
@@ -77,20 +74,22 @@ fn resolve_atoms(
     origins: &mut Origins,
     values: &mut ValueCells,
     left: Atom,
-    right: Atom,
+    listed: &[u16; 8],
+    n: u16,
 ) -> Entered
-    requires { ⌜ ResolveNamed (now numbers) k counts (now clauses) (now bindings) (now nodes) (now origins) (now values) left right ⌝ }
-    ensures { λ e. ⌜ ((R : ResolveNamed (now (numbers .entry)) k counts (now (clauses .entry)) (now (bindings .entry)) (now (nodes .entry)) (now (origins .entry)) (now (values .entry)) left right) → StepRead (R .file) k counts (now (clauses .entry)) (now (bindings .entry)) (now (nodes .entry)) (now (origins .entry)) (now (values .entry)) (R .step) (now (clauses .exit)) (now (bindings .exit)) (now (origins .exit)) (now (values .exit)) e) ⌝ }
+    requires { ⌜ ResolveNamed (now numbers) k counts (now clauses) (now bindings) (now nodes) (now origins) (now values) left (now listed) n ⌝ }
+    ensures { λ e. ⌜ ((R : ResolveNamed (now (numbers .entry)) k counts (now (clauses .entry)) (now (bindings .entry)) (now (nodes .entry)) (now (origins .entry)) (now (values .entry)) left (now (listed .entry)) n) → StepRead (R .file) k counts (now (clauses .entry)) (now (bindings .entry)) (now (nodes .entry)) (now (origins .entry)) (now (values .entry)) (R .step) (now (clauses .exit)) (now (bindings .exit)) (now (origins .exit)) (now (values .exit)) e) ⌝ }
 {
-    let literals = literals_cell(clauses, left.clause) + literals_cell(clauses, right.clause) - 2;
+    let right = numbers[2];
+    let literals = literals_cell(clauses, left.clause) + literals_cell(clauses, right) - 1 - n;
     if 128 < literals {
         return Entered::Refused(9);
     }
-    let index = index_cell(clauses, left.clause) + index_cell(clauses, right.clause);
-    if 4096 < index {
+    let maximum = index_cell(clauses, left.clause) + index_cell(clauses, right);
+    if 4096 < maximum {
         return Entered::Refused(9);
     }
-    if outlines_clash(nodes, left.row, right.row) {
+    if some_outlines_clash(nodes, left.row, listed, n) {
         return Entered::Refused(10);
     }
     let u = unify_resolve(
@@ -103,14 +102,16 @@ fn resolve_atoms(
         values,
         left,
         right,
+        listed,
+        n,
     );
     finish_step(
         u,
         k,
         counts,
         literals,
-        index,
-        3,
+        maximum,
+        2 + n,
         numbers,
         clauses,
         bindings,
@@ -118,7 +119,7 @@ fn resolve_atoms(
     )
 }
 
-// A resolve: the tests in the order of their numbers, with the literals that it names taken apart before their signs are compared.
+// A resolve of kind 5 or 7: the tests in the order of their numbers, 14 before 8. The right literals are listed as they are looked up.
 pub fn resolve_record(
     file: &[u8],
     k: u16,
@@ -130,31 +131,35 @@ pub fn resolve_record(
     values: &mut ValueCells,
 ) -> Entered
     requires { ⌜ BeforeStep (now file) k counts (now clauses) (now bindings) (now nodes) (now origins) (now values) ⌝ }
-    requires { ⌜ kindOf (recordPart (now file) k) ≡ 5 ⌝ }
+    requires { ⌜ ResolveKind (kindOf (recordPart (now file) k)) ⌝ }
     ensures { λ e. ⌜ ((E : BeforeStep (now (file .entry)) k counts (now (clauses .entry)) (now (bindings .entry)) (now (nodes .entry)) (now (origins .entry)) (now (values .entry))) → StepRead (now (file .entry)) k counts (now (clauses .entry)) (now (bindings .entry)) (now (nodes .entry)) (now (origins .entry)) (now (values .entry)) E (now (clauses .exit)) (now (bindings .exit)) (now (origins .exit)) (now (values .exit)) e) ⌝ }
 {
     let part = record_part(file, k as usize);
-    if !step_in_range(part, 4) {
+    let n = right_count(part);
+    if n == 0 {
         return Entered::Refused(4);
     }
     let numbers = fields(part);
-    let pair = named_pair(
+    let left = named_literal(origins, clauses, counts.clauses, numbers[0], numbers[1]);
+    let NamedLiteral::Found(positive, row, index) = left else {
+        return Entered::Refused(5);
+    };
+    let mut listed = [0u16; 8];
+    let q = refused_rights(
         origins,
         clauses,
         counts.clauses,
-        numbers[0],
-        numbers[1],
-        numbers[2],
-        numbers[3],
+        &numbers,
+        n as u16,
+        positive,
+        rights_rise(part, n),
+        &mut listed,
     );
-    let NamedPair::Both(x, y) = pair else {
-        return Entered::Refused(5);
-    };
-    if same_sign(x.positive, y.positive) {
-        return Entered::Refused(8);
+    if q != 0 {
+        return Entered::Refused(q);
     }
-    let first = x.atom;
-    let second = y.atom;
+    let clause = numbers[0];
+    let atom = Atom { clause, row, index };
     resolve_atoms(
         &numbers,
         k,
@@ -164,7 +169,8 @@ pub fn resolve_record(
         nodes,
         origins,
         values,
-        first,
-        second,
+        atom,
+        &listed,
+        n as u16,
     )
 }

@@ -36,10 +36,10 @@ at-rest : run (rowAt treeRows) mostLinks (noRoom 0) noBindings 0 (unifying [] []
 unfolding run
 at-rest = refl
 
-last-work : unify (rowAt treeRows) 0 noBindings (14, 1) (14, 2) ≡ unified [] 0
+last-work : unify (rowAt treeRows) 0 noBindings (((14, 1), (14, 2)) ∷ []) ≡ unified [] 0
 last-work = reached-run _ _ _ _ 16384 _ _ (one-more 16383 13 refl full-tree []) 0 mostWork work-16384 ∙ at-rest
 
-no-further-work : unify (rowAt treeRows) 0 noBindings (15, 1) (15, 2) ≡ failed overwork
+no-further-work : unify (rowAt treeRows) 0 noBindings (((15, 1), (15, 2)) ∷ []) ≡ failed overwork
 no-further-work = trees.spent _ _ _ _ 16385 _ _ (one-more 16384 14 refl (one-more 16383 13 refl full-tree) []) mostWork (omega (arith, work-16384))
 
 pub unifications-hold : UnificationsHold

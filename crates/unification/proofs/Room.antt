@@ -48,5 +48,5 @@ module _ (row : ℕ → Row) (links held : ℕ) (base : Environment) where
   pub room-run : (n : ℕ) (s : Task) → RoomTask s → RoomEnd (run row links (noRoom held) base n s)
   room-run n s h = runs row links (noRoom held) base RoomTask RoomEnd room-turn tt n s h
 
-pub bindings-fit : (row : ℕ → Row) (held : ℕ) (base : Environment) (e d : Expression) (bs : List Binding) (n : ℕ) → unify row held base e d ≡ unified bs n → held ≤ mostBindings → held + length bs ≤ mostBindings
-bindings-fit row held base e d bs n q h = rw q at (room-run row mostLinks held base mostWork (unifying [] ((e, d) ∷ [])) (rw add-zero h))
+pub bindings-fit : (row : ℕ → Row) (held : ℕ) (base : Environment) (ps : List Pair) (bs : List Binding) (n : ℕ) → unify row held base ps ≡ unified bs n → held ≤ mostBindings → held + length bs ≤ mostBindings
+bindings-fit row held base ps bs n q h = rw q at (room-run row mostLinks held base mostWork (unifying [] ps) (rw add-zero h))

@@ -30,6 +30,11 @@ among-later [] i ys j a = a
 among-later (x ∷ xs) i [] j a = a
 among-later (x ∷ xs) i (y ∷ ys) j a = later (among-later xs i ys j a)
 
+-- The outlines of one of the pairs clash.
+pub data ClashAmong (row : ℕ → Row) : List Pair → Type 0 where
+  clash-here : {p : Pair} {ps : List Pair} → outlinesClash row (p .0 .0) (p .1 .0) ≡ true → ClashAmong row (p ∷ ps)
+  clash-later : {p : Pair} {ps : List Pair} → ClashAmong row ps → ClashAmong row (p ∷ ps)
+
 applied-symbol : {s t : ℕ} {xs ys : List ℕ} {e d : Expression} → applied s xs e ≡ applied t ys d → s ≡ t
 applied-symbol p = cc
 
@@ -146,7 +151,9 @@ module _ (row : ℕ → Row) (links : ℕ) (isFull : List Binding → Bool) (bas
   goes-on s t (m-into u xs d f g) c = test-goes g c
   goes-on s t (m-endless-test d f) c = tt
 
-  pub clash-not-unified : (n : ℕ) (bs : List Binding) (p : Pair) → outlinesClash row (p .0 .0) (p .1 .0) ≡ true → (cs : List Binding) (m : ℕ) → ¬ (run row links isFull base n (unifying bs (p ∷ [])) ≡ unified cs m)
-  clash-not-unified n bs p z cs m e =
-      let c : Coming (p ∷ []) = record { pairs = mostOutlinePairs; rows = (p .0 .0, p .1 .0) ∷ []; among = this-one none-left; clashes = z } in
-      subst NotUnified e (runs row links isFull base Expected NotUnified goes-on tt n (unifying bs (p ∷ [])) c)
+  among-pairs : {ps : List Pair} → ClashAmong row ps → Coming ps
+  among-pairs (clash-here {p} z) = record { pairs = mostOutlinePairs; rows = (p .0 .0, p .1 .0) ∷ []; among = this-one none-left; clashes = z }
+  among-pairs (clash-later h) = let c = among-pairs h in record { pairs = c .pairs; rows = c .rows; among = later (c .among); clashes = c .clashes }
+
+  pub clash-not-unified : (n : ℕ) (bs : List Binding) (ps : List Pair) → ClashAmong row ps → (cs : List Binding) (m : ℕ) → ¬ (run row links isFull base n (unifying bs ps) ≡ unified cs m)
+  clash-not-unified n bs ps z cs m e = subst NotUnified e (runs row links isFull base Expected NotUnified goes-on tt n (unifying bs ps) (among-pairs z))

@@ -70,7 +70,7 @@ common = P (g (y 5)) (f (y 5) (g (y 5)))
 
 pub record CaseL : Type 0 where
   pub before : values (extend noBindings printed) ≡ P (x 3) (f (x 4) (x 3)) ∷ P (g (x 7)) (f (x 7) (g (y 5))) ∷ []
-  pub unifies : unify (rowAt exampleRows) 6 (extend noBindings printed) (3, 2) (5, 7) ≡ unified added (mostWork - 10)
+  pub unifies : unify (rowAt exampleRows) 6 (extend noBindings printed) (((3, 2), (5, 7)) ∷ []) ≡ unified added (mostWork - 10)
   pub after : values (extend (extend noBindings printed) added) ≡ common ∷ common ∷ []
   pub afterInPrint : values (extend (extend noBindings printed) addedInPrint) ≡ common ∷ common ∷ []
 
@@ -94,16 +94,16 @@ treeRows =
 -- Each with what unification gives: new bindings and the work that is left, or why it fails.
 pub record UnificationsHold : Type 0 where
   -- F: one binding, work 4; the right side is followed before the occurrence test. D: the variable occurs.
-  pub caseF : unify (rowAt pairRows) 0 noBindings (2, 1) (3, 1) ≡ unified (((0, 1), (1, 1)) ∷ []) (mostWork - 4)
-  pub caseD : unify (rowAt pairRows) 0 noBindings (4, 1) (6, 2) ≡ failed occurs
+  pub caseF : unify (rowAt pairRows) 0 noBindings (((2, 1), (3, 1)) ∷ []) ≡ unified (((0, 1), (1, 1)) ∷ []) (mostWork - 4)
+  pub caseD : unify (rowAt pairRows) 0 noBindings (((4, 1), (6, 2)) ∷ []) ≡ failed occurs
   -- One number at two indices is two variables: v0 at 1 is bound to v0 at 2.
-  pub twoVariables : unify (rowAt pairRows) 0 noBindings (0, 1) (0, 2) ≡ unified (((0, 1), (0, 2)) ∷ []) (mostWork - 2)
+  pub twoVariables : unify (rowAt pairRows) 0 noBindings (((0, 1), (0, 2)) ∷ []) ≡ unified (((0, 1), (0, 2)) ∷ []) (mostWork - 2)
   -- The last binding that there is room for, and the first that there is not.
-  pub lastBinding : unify (rowAt pairRows) 8191 noBindings (0, 1) (1, 1) ≡ unified (((0, 1), (1, 1)) ∷ []) (mostWork - 2)
-  pub noFurtherBinding : unify (rowAt pairRows) 8192 noBindings (0, 1) (1, 1) ≡ failed full
+  pub lastBinding : unify (rowAt pairRows) 8191 noBindings (((0, 1), (1, 1)) ∷ []) ≡ unified (((0, 1), (1, 1)) ∷ []) (mostWork - 2)
+  pub noFurtherBinding : unify (rowAt pairRows) 8192 noBindings (((0, 1), (1, 1)) ∷ []) ≡ failed full
   -- All work is used up, and one pair more is too much.
-  pub lastWork : unify (rowAt treeRows) 0 noBindings (14, 1) (14, 2) ≡ unified [] 0
-  pub noFurtherWork : unify (rowAt treeRows) 0 noBindings (15, 1) (15, 2) ≡ failed overwork
+  pub lastWork : unify (rowAt treeRows) 0 noBindings (((14, 1), (14, 2)) ∷ []) ≡ unified [] 0
+  pub noFurtherWork : unify (rowAt treeRows) 0 noBindings (((15, 1), (15, 2)) ∷ []) ≡ failed overwork
 
 -- ── Outlines ──
 

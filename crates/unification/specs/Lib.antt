@@ -11,3 +11,4 @@ pub mod Nodes
 pub mod ValueArray
 pub mod Bindings
 pub mod Cases
+pub mod Listed

@@ -117,6 +117,6 @@ module _ (row : ℕ → Row) (links : ℕ) (isFull : List Binding → Bool) (ρ 
     noTurn : {s : Task} → Reaches zero s s
     oneTurn : {n : ℕ} {s t u : Task} → turn s ≡ goOn t → Reaches n t u → Reaches (suc n) s u
 
--- Unification of two expressions in an environment, with so many bindings held before.
-abbrev pub unify : (ℕ → Row) → ℕ → Environment → Expression → Expression → Outcome
-unify row held ρ e d = run row mostLinks (noRoom held) ρ mostWork (unifying [] ((e, d) ∷ []))
+-- Unification of pairs of expressions in an environment, one pair after another, with so many bindings held before.
+abbrev pub unify : (ℕ → Row) → ℕ → Environment → List Pair → Outcome
+unify row held ρ ps = run row mostLinks (noRoom held) ρ mostWork (unifying [] ps)

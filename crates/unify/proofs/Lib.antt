@@ -1,3 +1,4 @@
 pub mod Answer
 pub mod BindingsAdded
+pub mod EachListed
 pub mod PairWalk

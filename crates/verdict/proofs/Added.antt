@@ -8,7 +8,7 @@ use native.Mathlib.Omega.{arith}
 use lib.Dec.{eqb}
 use lib.ListN.{length, getD, take, drop, length-take, length-drop, length-map}
 use lib.Seq.{getD-take, getD-drop}
-use Rattle.record.specs.Record.{pick, Record, otherKind, Kind, symbolKind, variableKind, applicationKind, inputKind, resolveKind, factorKind, fieldA, fieldB, fieldC, fieldD}
+use Rattle.record.specs.Record.{pick, Record, otherKind, Kind, symbolKind, variableKind, applicationKind, inputKind, resolveKind, factorKind, severalKind, fieldA, fieldB, fieldC}
 use Rattle.unification.specs.Repeated.{earliestEqual, orSame}
 use Rattle.unification.specs.Row.{variable, Row}
 use Rattle.unification.proofs.Lists.{Each}
@@ -19,10 +19,10 @@ use Rattle.derivation.proofs.Literals.{each-numbered}
 use Rattle.derivation.specs.Derivation.{RowLiteral, literalOf, inputLiterals, resolve, factor, numbered}
 use Rattle.verdict.specs.Conditions.{fieldNumbered, ofApplication, ofInput}
 use Rattle.verdict.specs.Demands.{EarliestEqual, RecordOfRow, ownRecord, earliestRecord, Adds, addsSymbol, addsVariable, addsApplication, addsInput, addsResolvent, addsFactor}
-use Rattle.verdict.specs.Refusal.{kindOfRecord, inRange, hasArity, allBelow, argumentRows, leftOf, rightOf, deletedOf}
+use Rattle.verdict.specs.Refusal.{kindOfRecord, inRange, hasArity, allBelow, argumentRows, leftOf, rightNumbers, rightOf, deletedOf}
 use Rattle.verdict.specs.State.{State, entry, rowsOf, arityOf, earliestOf, recordOfRow, nextClause}
-use Rattle.verdict.specs.Step.{stands, step, unifyResolve, unifyFactor, newApplication, newLiterals, enter}
-use Rattle.verdict.proofs.RangeTests.{of-kind, range-fits, equal, unequal}
+use Rattle.verdict.specs.Step.{stands, step, unifyResolve, unifyFactor, newApplication, newLiterals, enterResolvent, enter}
+use Rattle.verdict.proofs.RangeTests.{IsResolve, on-one, on-several, of-kind, range-fits, equal, unequal}
 use Rattle.verdict.proofs.StepTests.{resolves, factors}
 use Rattle.verdict.proofs.Inversions.{tests-passed, stands-same, step-stands, named-stands, clause-added, all-below, rows-below, entry-some, Passed}
 
@@ -104,6 +104,12 @@ module _ (S : State) (k : ℕ) (r : Record) (T : State) (seven : length (r .fiel
       let below = each-numbered (λ (y : RowLiteral). y .1 < length (rowsOf S)) (inputLiterals r) (suc i) x (m .1) h in
       (x .1, ap (λ (b : Bool). 2 * x .1 + pick b 1 0) (sym s) ∙ literal-read i x (subst (λ (n : ℕ). numbered (inputLiterals r) n ≡ some x) (sym e) (m .1)), subst (EarliestEqual S (x .1)) (ap (λ (y : RowLiteral). y .1) (m .2)) (earliest-taken (x .1) below))
 
+  resolvent-adds : (kind : Kind) → IsResolve kind → kindOfRecord r ≡ kind → enterResolvent S k kind r ≡ stands T → Adds S k r T
+  resolvent-adds kind i e q =
+      let s = named-stands _ (leftOf S r) (rightOf S kind r) T q in
+      let c = clause-added S k (resolve (nextClause S) (s .0 .0) (fieldB r) (s .1 .0) (rightNumbers kind r)) (unifyResolve S (s .0) (s .1)) T (s .4) in
+      addsResolvent (resolves S r kind i (s .0) (s .1) e (s .2) (s .3)) (sym (c .3))
+
   adds : (kind : Kind) → kindOfRecord r ≡ kind → Passed S kind r → enter S k kind r ≡ stands T → Adds S k r T
   adds symbolKind e a q = addsSymbol (of-kind r symbolKind e) (sym (stands-same q))
   adds variableKind e a q = addsVariable (of-kind r variableKind e) (record-of-row S k (variable (fieldA r))) (sym (stands-same q))
@@ -118,10 +124,8 @@ module _ (S : State) (k : ℕ) (r : Record) (T : State) (seven : length (r .fiel
       let h : r .count ≤ 7 = range-fits r (ofInput n) (subst (λ (x : Kind). inRange x r ≡ true) (sym e) (a .ranged)) .0 in
       let l : length (newLiterals S r) ≡ r .count = simp (length-map, length-take) (omega arith) in
       addsInput n l (λ i l p. literal-taken i l p (rows-below (length (rowsOf S)) (inputLiterals r) (a .there))) (sym (stands-same q))
-  adds resolveKind e a q =
-      let s = named-stands _ (leftOf S r) (rightOf S r) T q in
-      let c = clause-added S k (resolve (nextClause S) (s .0 .0) (fieldB r) (s .1 .0) (fieldD r)) (unifyResolve S (s .0) (s .1)) T (s .4) in
-      addsResolvent (resolves S r (s .0) (s .1) e (s .2) (s .3)) (sym (c .3))
+  adds resolveKind e a q = resolvent-adds resolveKind on-one e q
+  adds severalKind e a q = resolvent-adds severalKind on-several e q
   adds factorKind e a q =
       let s = named-stands _ (leftOf S r) (deletedOf S r) T q in
       let c = clause-added S k (factor (nextClause S) (s .0 .0) (fieldB r) (fieldC r)) (unifyFactor S (s .0) (s .1)) T (s .4) in

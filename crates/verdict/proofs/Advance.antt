@@ -8,15 +8,15 @@ use native.Mathlib.Omega.{arith}
 use lib.Dec.{eqb, leb, leb→le}
 use lib.ListN.{length, take, drop, length-take, length-map, take-append-drop}
 use lib.Seq.{take-length}
-use Rattle.record.specs.Record.{Record, records, recordCount, recordPart, countOf, decoded, otherKind, Kind, symbolKind, variableKind, applicationKind, inputKind, resolveKind, factorKind, fieldA, fieldB, fieldC, fieldD}
+use Rattle.record.specs.Record.{Record, records, recordCount, recordPart, countOf, decoded, otherKind, Kind, symbolKind, variableKind, applicationKind, inputKind, resolveKind, factorKind, severalKind, fieldA, fieldB, fieldC}
 use Rattle.record.proofs.Records.{records-length, record-numbered}
 use Rattle.unification.specs.Row.{variable, Row, application}
 use Rattle.unification.proofs.Lists.{Each}
 use Rattle.unification.proofs.Tests.{to-T, both-true}
 use Rattle.derivation.specs.Derivation.{input, inputLiterals, Derivation, resolve, factor}
-use Rattle.verdict.specs.Refusal.{tests, Reason, kindOfRecord, zeros, argumentRows, leftOf, rightOf, deletedOf}
+use Rattle.verdict.specs.Refusal.{tests, Reason, kindOfRecord, zeros, argumentRows, leftOf, rightNumbers, rightOf, deletedOf}
 use Rattle.verdict.specs.State.{State, emptyState, withRow, withClause, rowsOf, earliestOf, recordOfRow, derivations, nextClause}
-use Rattle.verdict.specs.Step.{stands, refused, Result, step, unifyResolve, unifyFactor, newApplication, newLiterals, enter, read, allStand, refusedAt}
+use Rattle.verdict.specs.Step.{stands, refused, Result, step, unifyResolve, unifyFactor, newApplication, newLiterals, enterResolvent, enter, read, allStand, refusedAt}
 use Rattle.verdict.specs.Verdict.{ending}
 use Rattle.verdict.proofs.Inversions.{tests-passed, stands-same, step-stands, named-stands, clause-added, Passed}
 use Rattle.verdict.proofs.Reading.{start-ok, read-on}
@@ -86,6 +86,12 @@ module _ (F : List ℕ) (k : ℕ) (S : State) (H : Standing F k S) (l : k < reco
     few-arguments : rec .count ≤ 6 → length (map (earliestOf S) (argumentRows rec)) ≤ 6
     few-arguments h = simp (length-map, length-take) (omega arith)
 
+    resolvent-more : (kind : Kind) → enterResolvent S k kind rec ≡ stands T → Tally F (suc k) T
+    resolvent-more kind z =
+        let s = named-stands _ (leftOf S rec) (rightOf S kind rec) T z in
+        let c = clause-added S k (resolve (nextClause S) (s .0 .0) (fieldB rec) (s .1 .0) (rightNumbers kind rec)) (unifyResolve S (s .0) (s .1)) T (s .4) in
+        clause-more (resolve (nextClause S) (s .0 .0) (fieldB rec) (s .1 .0) (rightNumbers kind rec) (c .0)) (c .3)
+
     one-more : (kind : Kind) → Passed S kind rec → enter S k kind rec ≡ stands T → Tally F (suc k) T
     one-more symbolKind a z = subst (Tally F (suc k)) (stands-same z) (record { total = let t = G .total in omega arith; aritiesRead = (refl, G .aritiesRead); rowsFit = G .rowsFit })
     one-more variableKind a z =
@@ -97,10 +103,8 @@ module _ (F : List ℕ) (k : ℕ) (S : State) (H : Standing F k S) (l : k < reco
         let c = both-true (leb (rec .count) 6) (zeros (drop (1 + rec .count) (rec .fields))) (a .ranged) in
         row-more (recordOfRow S k (newApplication S rec)) (newApplication S rec) (few-arguments (leb→le (rec .count) 6 (to-T (leb (rec .count) 6) (c .0)))) (stands-same z)
     one-more inputKind a z = clause-more (input (nextClause S) (newLiterals S rec)) (stands-same z)
-    one-more resolveKind a z =
-        let s = named-stands _ (leftOf S rec) (rightOf S rec) T z in
-        let c = clause-added S k (resolve (nextClause S) (s .0 .0) (fieldB rec) (s .1 .0) (fieldD rec)) (unifyResolve S (s .0) (s .1)) T (s .4) in
-        clause-more (resolve (nextClause S) (s .0 .0) (fieldB rec) (s .1 .0) (fieldD rec) (c .0)) (c .3)
+    one-more resolveKind a z = resolvent-more resolveKind z
+    one-more severalKind a z = resolvent-more severalKind z
     one-more factorKind a z =
         let s = named-stands _ (leftOf S rec) (deletedOf S rec) T z in
         let c = clause-added S k (factor (nextClause S) (s .0 .0) (fieldB rec) (fieldC rec)) (unifyFactor S (s .0) (s .1)) T (s .4) in

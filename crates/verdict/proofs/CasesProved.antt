@@ -17,7 +17,7 @@ use Rattle.unification.proofs.Tests.{true-not-false}
 use Rattle.unification.proofs.Trees as trees
 use Rattle.derivation.specs.Derivation.{input, inputLiterals}
 use Rattle.verdict.specs.Cases.{recordOf, inputClause, nines, holding, Case, works, caseOf, cases, CasesHold, refusedForLength, LengthsHold}
-use Rattle.verdict.specs.Edges.{answerTo, ranges, unusedFields, outlines, indexEdge, literalEdge, workEdge, eights, EdgesHold, ShortTablesHold, TextsHold}
+use Rattle.verdict.specs.Edges.{answerTo, ranges, unusedFields, outlines, severalLiterals, indexEdge, literalEdge, workEdge, eights, EdgesHold, ShortTablesHold, TextsHold}
 use Rattle.verdict.specs.Readout.{linesOf, joinedLines, readout, readoutLines}
 use Rattle.verdict.specs.Refusal.{unification, mostLiterals, mostIndex}
 use Rattle.verdict.specs.State.{State, held, emptyState, derivations}
@@ -209,8 +209,12 @@ outlines-hold : map (λ e. answerTo (e .0)) outlines ≡ map (λ e. e .1) outlin
 unfolding fileBytes recordBytes records check ending held require addClause clashWithin mostOutlinePairs run mostWork mostBindings mostLinks mostLiterals mostIndex
 outlines-hold = refl
 
+several-hold : map (λ e. answerTo (e .0)) severalLiterals ≡ map (λ e. e .1) severalLiterals
+unfolding fileBytes recordBytes records check ending held require addClause clashWithin mostOutlinePairs run mostWork mostBindings mostLinks mostLiterals mostIndex
+several-hold = refl
+
 pub edges-hold : EdgesHold
-edges-hold = λ i. ranges-hold i ++ (unused-hold i ++ (index-edge i ∷ literal-edge i ∷ (answered workEdge work-fits ∙ work-numbers) i ∷ outlines-hold i))
+edges-hold = λ i. ranges-hold i ++ (unused-hold i ++ (index-edge i ∷ literal-edge i ∷ (answered workEdge work-fits ∙ work-numbers) i ∷ (outlines-hold i ++ several-hold i)))
 
 -- ── Tables that are too short ──
 

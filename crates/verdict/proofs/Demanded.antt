@@ -22,16 +22,16 @@ use Rattle.derivation.proofs.Forms.{instances-formed}
 use Rattle.derivation.proofs.Known.{Under, known-uses}
 use Rattle.derivation.proofs.Literals.{uses-length, leb-false-lt}
 use Rattle.derivation.proofs.Values.{refutes, writes-out, writes-out-unique, values-exist, values-unique}
-use Rattle.verdict.specs.Conditions.{OneOf, LengthUnfit, lengthOver, notMultiple, TableShort, symbolsShort, rowsShort, clausesShort, bindingsShort, Condition, unknownKind, outsideRange, nothingThere, variableAsLiteral, unfitSigns, largeResult, clashingOutlines, clashing, occurring, overworking, overfull}
-use Rattle.verdict.specs.Demands.{Reached, ComesTo, Untouched, LeftBefore, Demand1, ConditionAt, ofLength, ofTables, ofRecord, Due, LowestEmpty, NoneEmpty, Demand2, Refutation, Demand3}
-use Rattle.verdict.specs.Refusal.{Reason, badLength, shortTable, reasonNumber}
+use Rattle.verdict.specs.Conditions.{OneOf, LengthUnfit, lengthOver, notMultiple, TableShort, symbolsShort, rowsShort, clausesShort, bindingsShort, Condition, unknownKind, outsideRange, nothingThere, fallingLiterals, variableAsLiteral, unfitSigns, largeResult, clashingOutlines, clashing, occurring, overworking, overfull}
+use Rattle.verdict.specs.Demands.{ResolventAdded, Reached, ComesTo, Untouched, LeftBefore, Demand1, ConditionAt, ofLength, ofTables, ofRecord, Due, LowestEmpty, NoneEmpty, Demand2, Refutation, Demand3}
+use Rattle.verdict.specs.Refusal.{Reason, badLength, shortTable, reasonNumber, precedence}
 use Rattle.verdict.specs.State.{State, emptyState, rowsOf, derivations, arityOf, clauseOf, rowOf, termOf, held}
 use Rattle.verdict.specs.Step.{refused, step, read, Ending, allStand, refusedAt, stateOf}
 use Rattle.verdict.specs.Tables.{Tables, lengthsOf, clauseCells, filledTables, tablesGiven, tablesAfter}
 use Rattle.verdict.specs.Verdict.{Verdict, refusal, check, accepted, open′, Answer, firstEmpty, everyClause, standing, verdictOf, answerOf, Lengths, longEnough, fittingLength, ending, Stands, Reading, verdictGiven, stateGiven}
 use Rattle.verdict.proofs.Acceptance.{none-empty, first-lowest, some-first, cells-length, index-cell}
 use Rattle.verdict.proofs.Added.{step-adds}
-use Rattle.verdict.proofs.RangeTests.{not-true, either-false, unequal, equal, at-most}
+use Rattle.verdict.proofs.RangeTests.{resolve-kind, not-true, either-false, unequal, equal, at-most}
 use Rattle.verdict.proofs.Inversions.{entry-below}
 use Rattle.verdict.proofs.Reading.{reading-length, reading-tables, reading-records, read-refused, reached-seven, reached-ok, reached-refused, comes-ok, stands-ok, term-of-row, one-arity}
 use Rattle.verdict.proofs.Refusals.{refused-condition, condition-refused, refused-lowest, refused-no-unifier, condition-number}
@@ -250,14 +250,14 @@ module _ (file : List ℕ) (tables : Tables) where
   condition-at q k (forTables a b f l) = rw (a, b) (ofTables (table-short l))
   condition-at q k (forRecord f l F) = ofRecord (F .reached) (found-condition q k F)
 
-  -- Where a condition holds, the file is refused with a number no higher.
+  -- Where a condition holds, the file is refused with its number or with one that is given before it.
   abbrev RefusedUpTo : ℕ → Type 0
-  RefusedUpTo n = (q : Reason) × (j : ℕ) × (check file (lengthsOf tables) .verdict ≡ refusal q j) × (reasonNumber q ≤ n)
+  RefusedUpTo n = (q : Reason) × (j : ℕ) × (check file (lengthsOf tables) .verdict ≡ refusal q j) × (precedence (reasonNumber q) ≤ precedence n)
 
-  for-length : (n : ℕ) → 1 ≤ n → fittingLength (length file) ≡ false → RefusedUpTo n
+  for-length : (n : ℕ) → 1 ≤ precedence n → fittingLength (length file) ≡ false → RefusedUpTo n
   for-length n l f = (badLength, 0, ap (λ (a : Answer). a .verdict) (check-length f), l)
 
-  for-tables : (n : ℕ) → 2 ≤ n → longEnough (lengthsOf tables) ≡ false → RefusedUpTo n
+  for-tables : (n : ℕ) → 2 ≤ precedence n → longEnough (lengthsOf tables) ≡ false → RefusedUpTo n
   for-tables n m l = try (fittingLength (length file)) refl
     where
       try : (b : Bool) → fittingLength (length file) ≡ b → RefusedUpTo n
@@ -270,7 +270,7 @@ module _ (file : List ℕ) (tables : Tables) where
   file-refused n j (ofRecord {number} {k} {S} {r} R C) = try (longEnough lengths) refl
     where
       try : (b : Bool) → longEnough (lengthsOf tables) ≡ b → RefusedUpTo number
-      try false l = let c = condition-number number C .0 in for-tables number (omega arith) l
+      try false l = let c = condition-number number C .1 in for-tables number (omega arith) l
       try true l =
           let w = condition-refused k S r file R number C in
           (w .0, k, ap (λ (a : Answer). a .verdict) (check-reads (R .fits) l) ∙ ap verdictOf (reached-refused file k S r R (w .0) (w .1)), w .2)
@@ -278,19 +278,20 @@ module _ (file : List ℕ) (tables : Tables) where
   due : (q : Reason) (k : ℕ) → check file (lengthsOf tables) .verdict ≡ refusal q k → Due file tables (reasonNumber q) k
   due q k z = record {
     holds = condition-at q k (refused-by q k z);
-    lowest = λ n j C.
+    first = λ n j C.
         let w = file-refused n j C in
-        subst (λ (p : Reason). reasonNumber p ≤ n) (refusal-injective (sym (w .2) ∙ z) .0) (w .3);
+        subst (λ (p : Reason). precedence (reasonNumber p) ≤ precedence n) (refusal-injective (sym (w .2) ∙ z) .0) (w .3);
   }
 
   -- The numbers stated.
   abbrev numbers : List ℕ
-  numbers = 1 ∷ 2 ∷ 3 ∷ 4 ∷ 5 ∷ 7 ∷ 8 ∷ 9 ∷ 10 ∷ 11 ∷ 12 ∷ 13 ∷ []
+  numbers = 1 ∷ 2 ∷ 3 ∷ 4 ∷ 5 ∷ 7 ∷ 8 ∷ 9 ∷ 10 ∷ 11 ∷ 12 ∷ 13 ∷ 14 ∷ []
 
   condition-stated : {S : State} {r : Record} (n : ℕ) → Condition S r n → OneOf n numbers
   condition-stated n (unknownKind h) = one-of 3 numbers refl
   condition-stated n (outsideRange h) = one-of 4 numbers refl
   condition-stated n (nothingThere h) = one-of 5 numbers refl
+  condition-stated n (fallingLiterals h) = one-of 14 numbers refl
   condition-stated n (variableAsLiteral h) = one-of 7 numbers refl
   condition-stated n (unfitSigns h) = one-of 8 numbers refl
   condition-stated n (largeResult h) = one-of 9 numbers refl
@@ -365,10 +366,10 @@ module _ (file : List ℕ) (tables : Tables) where
         let H = comes-ok file S C in
         let K = order-of 4096 S H n c q .valid in
         (writes-out (rowOf S) (termOf S) (term-of-row S H) c K, writes-out-unique (rowOf S) (termOf S) (term-of-row S H) c K);
-    resolvents = λ k S T r R e q. resolvent-added S (reached-ok file k S r R) k r Y T (ap kindNumbered e) q;
+    resolvents = λ k S T r ns R N q. let K = resolve-kind r N in subst (λ (ms : List ℕ). ResolventAdded Y S k r ms T) (K .3) (resolvent-added S (reached-ok file k S r R) k r Y T (K .0) (K .1) (K .2) q);
     factors = λ k S T r R e q. factor-added S (reached-ok file k S r R) k r Y T (ap kindNumbered e) q;
     noUnifier = λ k S r q R z m pairs A. refused-no-unifier k S r file R Y q z m pairs A;
-    nothingLost = λ k S r R range pairs A signs τ u. unifiable-stands S (reached-ok file k S r R) k r (reached-seven file k S r R) Y range pairs A signs τ u;
+    nothingLost = λ k S r R range pairs A rises signs τ u. unifiable-stands S (reached-ok file k S r R) k r (reached-seven file k S r R) Y range pairs A rises signs τ u;
     recordDue = λ k S r q R z. (refused-condition k S r file R q z, refused-lowest k S r file R q z);
     refusals = due;
     statedNumbers = λ q k z. stated (reasonNumber q) k (condition-at q k (refused-by q k z));

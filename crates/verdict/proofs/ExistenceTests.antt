@@ -9,16 +9,17 @@ use native.Mathlib.Omega.{arith}
 use lib.Dec.{eqb, leb, ltb}
 use lib.ListN.{length, getD, take, drop, length-take, length-drop, length-map, List·getD-map}
 use lib.Seq.{getD-take, getD-drop}
-use Rattle.record.specs.Record.{pick, Record, Kind, applicationKind, inputKind, resolveKind, factorKind, kindNumbered, fieldA, fieldB, fieldC, fieldD}
+use Rattle.record.specs.Record.{pick, Record, Kind, applicationKind, inputKind, factorKind, kindNumbered, fieldA, fieldB, fieldC}
 use Rattle.unification.specs.Row.{Row}
 use Rattle.unification.proofs.Lists.{map-map}
 use Rattle.unification.proofs.Tests.{both-true, true-not-false, some-not-none, some-injective}
-use Rattle.derivation.specs.Derivation.{literals, Literal, RowLiteral, literalOf, inputLiterals, Derivation, numbered}
-use Rattle.verdict.specs.Conditions.{fieldNumbered, Names, leftLiteral, rightLiteral, keptLiteral, deletedLiteral, NotThere, noSymbolThere, otherArity, noArgumentRow, noLiteralRow, noClause, noLiteral}
-use Rattle.verdict.specs.Refusal.{tests, kindOfRecord, argumentRows, literalIn, literalNamed, leftOf, rightOf, deletedOf, isThere, hasArity, allBelow, argumentsThere, literalRowsThere, bothThere}
+use Rattle.derivation.specs.Derivation.{literals, Literal, RowLiteral, literalOf, inputLiterals, Derivation, numbered, numberedAll}
+use Rattle.derivation.proofs.Literals.{numbered-cons}
+use Rattle.verdict.specs.Conditions.{OneOf, fieldNumbered, RightLiterals, NamesClause, leftClause, rightClause, factoredClause, Names, leftLiteral, rightLiteral, keptLiteral, deletedLiteral, NotThere, noSymbolThere, otherArity, noArgumentRow, noLiteralRow, noClause, noLiteral}
+use Rattle.verdict.specs.Refusal.{tests, resolveTests, kindOfRecord, argumentRows, literalIn, literalNamed, leftOf, rightNumbers, literalsIn, rightOf, deletedOf, isThere, hasArity, allBelow, argumentsThere, literalRowsThere, bothThere}
 use Rattle.verdict.specs.State.{arities, State, entry, rowsOf, derivations, arityOf, clauseOf}
-use Rattle.verdict.proofs.Inversions.{literal-named, is-there, has-arity, all-below, entry-below, testFor}
-use Rattle.verdict.proofs.RangeTests.{at-most, either-false, not-true, not-under, of-kind, unequal}
+use Rattle.verdict.proofs.Inversions.{literal-named, literals-named, is-there, has-arity, all-below, entry-below, testFor}
+use Rattle.verdict.proofs.RangeTests.{at-most, either-false, not-true, not-under, of-kind, unequal, IsResolve, on-one, on-several, right-literals, resolve-kind}
 
 -- 5: what exists.
 entry-there : {A : Type 0} (xs : List A) (n : ℕ) → entry xs n ≡ none → length xs ≤ n
@@ -108,29 +109,58 @@ module _ (S : State) (r : Record) (seven : length (r .fields) ≡ 7) where
       noLiteralRow (of-kind r inputKind e) (z .0) l (let a = literal-row-at (z .0) l in let b = z .2 in omega (arith, many-rows))
 
   -- Of a step.
-  literal-absent : (c n : ℕ) → Names r c n → isThere (literalNamed S c n) ≡ false → NotThere S r
-  literal-absent c n names q = clause (clauseOf S c) refl q
+  literal-absent : (c n : ℕ) → NamesClause r c → Names r c n → isThere (literalNamed S c n) ≡ false → NotThere S r
+  literal-absent c n names-clause names q = clause (clauseOf S c) refl q
     where
       literal : (d : Derivation) → clauseOf S c ≡ some d → (o : Option Literal) → numbered (literals d) n ≡ o → isThere {A = Derivation × Literal} (elim o [ some l ↦ some (d, l) | none ↦ none ]) ≡ false → NotThere S r
       literal d p none z y = noLiteral names p (numbered-there (literals d) n z)
       literal d p (some l) z y = absurd (true-not-false refl y)
 
       clause : (o : Option Derivation) → clauseOf S c ≡ o → isThere (literalIn n o) ≡ false → NotThere S r
-      clause none p z = noClause names (let l = entry-there (derivations S) c p in omega (arith, many-clauses))
+      clause none p z = noClause names-clause (let l = entry-there (derivations S) c p in omega (arith, many-clauses))
       clause (some d) p z = literal d p (numbered (literals d) n) refl z
 
-  both-absent : (c n d m : ℕ) → Names r c n → Names r d m → bothThere (literalNamed S c n) (literalNamed S d m) ≡ false → NotThere S r
-  both-absent c n d m x y q = try (either-false (isThere (literalNamed S c n)) (isThere (literalNamed S d m)) q)
+  -- Of right literals: the clause does not exist, or one of the literals.
+  numbers-absent : (d : Derivation) (ms : List ℕ) → numberedAll (literals d) ms ≡ none → (n : ℕ) × OneOf n ms × (numbered (literals d) n ≡ none)
+  numbers-absent d [] q = absurd (some-not-none q refl)
+  numbers-absent d (n ∷ ms) q = try (numbered (literals d) n) refl (numberedAll (literals d) ms) refl q (λ z. numbers-absent d ms z)
     where
-      try : (isThere (literalNamed S c n) ≡ false) ⊎ (isThere (literalNamed S d m) ≡ false) → NotThere S r
-      try (inl p) = literal-absent c n x p
-      try (inr p) = literal-absent d m y p
+      try : (o : Option Literal) → numbered (literals d) n ≡ o → (p : Option (List Literal)) → numberedAll (literals d) ms ≡ p → _≡_ {A = Option (List Literal)} (elim o [ none ↦ none | some l ↦ elim p [ none ↦ none | some ls ↦ some (l ∷ ls) ] ]) none
+          → (numberedAll (literals d) ms ≡ none → (m : ℕ) × OneOf m ms × (numbered (literals d) m ≡ none)) → (m : ℕ) × OneOf m (n ∷ ms) × (numbered (literals d) m ≡ none)
+      try none e p f z k = (n, inl refl, e)
+      try (some l) e none f z k = let w = k f in (w .0, inr (w .1), w .2)
+      try (some l) e (some ls) f z k = absurd (some-not-none z refl)
 
-  pub resolve-absent : kindOfRecord r ≡ resolveKind → bothThere (leftOf S r) (rightOf S r) ≡ false → NotThere S r
-  resolve-absent e q = both-absent (fieldA r) (fieldB r) (fieldC r) (fieldD r) (leftLiteral (of-kind r resolveKind e)) (rightLiteral (of-kind r resolveKind e)) q
+  rights-absent : (ns : List ℕ) → RightLiterals r ns → isThere (literalsIn ns (clauseOf S (fieldC r))) ≡ false → NotThere S r
+  rights-absent ns R q = clause (clauseOf S (fieldC r)) refl q
+    where
+      all : (d : Derivation) → clauseOf S (fieldC r) ≡ some d → (o : Option (List Literal)) → numberedAll (literals d) ns ≡ o → isThere {A = Derivation × List Literal} (elim o [ some ls ↦ some (d, ls) | none ↦ none ]) ≡ false → NotThere S r
+      all d p none z y = let w = numbers-absent d ns z in noLiteral (rightLiteral R (w .1)) p (numbered-there (literals d) (w .0) (w .2))
+      all d p (some ls) z y = absurd (true-not-false refl y)
+
+      clause : (o : Option Derivation) → clauseOf S (fieldC r) ≡ o → isThere (literalsIn ns o) ≡ false → NotThere S r
+      clause none p z = noClause (rightClause R) (let l = entry-there (derivations S) (fieldC r) p in omega (arith, many-clauses))
+      clause (some d) p z = all d p (numberedAll (literals d) ns) refl z
+
+  pub resolve-absent : (kind : Kind) → IsResolve kind → kindOfRecord r ≡ kind → bothThere (leftOf S r) (rightOf S kind r) ≡ false → NotThere S r
+  resolve-absent kind i e q = try (either-false (isThere (leftOf S r)) (isThere (rightOf S kind r)) q)
+    where
+      R : RightLiterals r (rightNumbers kind r)
+      R = right-literals r kind i e
+
+      try : (isThere (leftOf S r) ≡ false) ⊎ (isThere (rightOf S kind r) ≡ false) → NotThere S r
+      try (inl p) = literal-absent (fieldA r) (fieldB r) (leftClause R) (leftLiteral R) p
+      try (inr p) = rights-absent (rightNumbers kind r) R p
 
   pub factor-absent : kindOfRecord r ≡ factorKind → bothThere (leftOf S r) (deletedOf S r) ≡ false → NotThere S r
-  factor-absent e q = both-absent (fieldA r) (fieldB r) (fieldA r) (fieldC r) (keptLiteral (of-kind r factorKind e)) (deletedLiteral (of-kind r factorKind e)) q
+  factor-absent e q = try (either-false (isThere (leftOf S r)) (isThere (deletedOf S r)) q)
+    where
+      k : r .kind ≡ 6
+      k = of-kind r factorKind e
+
+      try : (isThere (leftOf S r) ≡ false) ⊎ (isThere (deletedOf S r) ≡ false) → NotThere S r
+      try (inl p) = literal-absent (fieldA r) (fieldB r) (factoredClause k) (keptLiteral k) p
+      try (inr p) = literal-absent (fieldA r) (fieldC r) (factoredClause k) (deletedLiteral k) p
 
   -- The test for a number fails, by the record's kind.
   abbrev TestFails : ℕ → Type 0
@@ -146,12 +176,65 @@ module _ (S : State) (r : Record) (seven : length (r .fields) ≡ 7) where
       let w = numbered-within (literals (x .0 .0)) n (x .0 .1) (l .1) in
       (x .0 .0, l .0, let z = entry-below (derivations S) c (x .0 .0) (l .0) in omega (arith, many-clauses), w .0, w .1)
 
-  -- A named literal that is absent makes the test of both fail.
-  absent-fails : (P : ℕ → ℕ → Type 0) → ((c n : ℕ) → P c n → ¬ (isThere (literalNamed S c n) ≡ true)) → (c n : ℕ) → Names r c n → P c n → TestFails 5
-  absent-fails P never c n (leftLiteral e) p = at-number 5 5 e (not-true (bothThere (leftOf S r) (rightOf S r)) (λ t. never (fieldA r) (fieldB r) p (both-true (isThere (leftOf S r)) (isThere (rightOf S r)) t .0)))
-  absent-fails P never c n (rightLiteral e) p = at-number 5 5 e (not-true (bothThere (leftOf S r) (rightOf S r)) (λ t. never (fieldC r) (fieldD r) p (both-true (isThere (leftOf S r)) (isThere (rightOf S r)) t .1)))
-  absent-fails P never c n (keptLiteral e) p = at-number 6 5 e (not-true (bothThere (leftOf S r) (deletedOf S r)) (λ t. never (fieldA r) (fieldB r) p (both-true (isThere (leftOf S r)) (isThere (deletedOf S r)) t .0)))
-  absent-fails P never c n (deletedLiteral e) p = at-number 6 5 e (not-true (bothThere (leftOf S r) (deletedOf S r)) (λ t. never (fieldA r) (fieldC r) p (both-true (isThere (leftOf S r)) (isThere (deletedOf S r)) t .1)))
+  pub resolve-test : (kind : Kind) → IsResolve kind → kindOfRecord r ≡ kind → (n : ℕ) → testFor (resolveTests S kind r) n ≡ false → TestFails n
+  resolve-test kind on-one e n q = subst (λ (k : Kind). testFor (tests S k r) n ≡ false) (sym e) q
+  resolve-test kind on-several e n q = subst (λ (k : Kind). testFor (tests S k r) n ≡ false) (sym e) q
+
+  -- What is absent on the left or on the right makes the test of both fail.
+  resolve-fails : {ns : List ℕ} → RightLiterals r ns → (isThere (leftOf S r) ≡ true → isThere (literalsIn ns (clauseOf S (fieldC r))) ≡ true → ⊥) → TestFails 5
+  resolve-fails {ns} R never =
+      let k = resolve-kind r R in
+      resolve-test (k .0) (k .1) (k .2) 5 (not-true (bothThere (leftOf S r) (rightOf S (k .0) r)) (λ t.
+      let b = both-true (isThere (leftOf S r)) (isThere (rightOf S (k .0) r)) t in
+      never (b .0) (subst (λ (ms : List ℕ). isThere (literalsIn ms (clauseOf S (fieldC r))) ≡ true) (k .3) (b .1))))
+
+  factor-fails : r .kind ≡ 6 → (isThere (leftOf S r) ≡ true → isThere (deletedOf S r) ≡ true → ⊥) → TestFails 5
+  factor-fails e never = at-number 6 5 e (not-true (bothThere (leftOf S r) (deletedOf S r)) (λ t. let b = both-true (isThere (leftOf S r)) (isThere (deletedOf S r)) t in never (b .0) (b .1)))
+
+  -- A clause that does not exist.
+  rights-within : (ns : List ℕ) → isThere (literalsIn ns (clauseOf S (fieldC r))) ≡ true → (d : Derivation) × (ls : List Literal) × (clauseOf S (fieldC r) ≡ some d) × (numberedAll (literals d) ns ≡ some ls) × (fieldC r < length (S .clauses))
+  rights-within ns q =
+      let x = is-there (literalsIn ns (clauseOf S (fieldC r))) q in
+      let l = literals-named S (fieldC r) ns (x .0) (x .1) in
+      (x .0 .0, x .0 .1, l .0, l .1, let z = entry-below (derivations S) (fieldC r) (x .0 .0) (l .0) in omega (arith, many-clauses))
+
+  no-clause-fails : {c : ℕ} → NamesClause r c → length (S .clauses) ≤ c → TestFails 5
+  no-clause-fails (leftClause R) l = resolve-fails R (λ p q. let z = named-within (fieldA r) (fieldB r) p .2 in omega arith)
+  no-clause-fails (rightClause {ns} R) l = resolve-fails R (λ p q. let z = rights-within ns q .4 in omega arith)
+  no-clause-fails (factoredClause e) l = factor-fails e (λ p q. let z = named-within (fieldA r) (fieldB r) p .2 in omega arith)
+
+  -- A literal that does not exist in a clause that does.
+  abbrev Outside : Derivation → ℕ → Type 0
+  Outside d n = (n ≡ 0) ⊎ (length (literals d) < n)
+
+  one-outside : (d : Derivation) (n : ℕ) → Outside d n → 1 ≤ n → n ≤ length (literals d) → ⊥
+  one-outside d n (inl z) a b = omega arith
+  one-outside d n (inr z) a b = omega arith
+
+  named-outside : (c n : ℕ) (d : Derivation) → clauseOf S c ≡ some d → Outside d n → isThere (literalNamed S c n) ≡ true → ⊥
+  named-outside c n d p h t =
+      let w = named-within c n t in
+      let e : w .0 ≡ d = some-injective (sym (w .1) ∙ p) in
+      one-outside d n h (w .3) (subst (λ (x : Derivation). n ≤ length (literals x)) e (w .4))
+
+  one-numbered : (d : Derivation) (ns : List ℕ) (ls : List Literal) → numberedAll (literals d) ns ≡ some ls → (n : ℕ) → OneOf n ns → (l : Literal) × (numbered (literals d) n ≡ some l)
+  one-numbered d [] ls q n m = absurd m
+  one-numbered d (k ∷ ns) ls q n (inl e) = let z = numbered-cons (literals d) k ns ls q in (z .0, ap (numbered (literals d)) e ∙ z .2)
+  one-numbered d (k ∷ ns) ls q n (inr m) = let z = numbered-cons (literals d) k ns ls q in one-numbered d ns (z .1) (z .3) n m
+
+  right-outside : (ns : List ℕ) (n : ℕ) (d : Derivation) → OneOf n ns → clauseOf S (fieldC r) ≡ some d → Outside d n → isThere (literalsIn ns (clauseOf S (fieldC r))) ≡ true → ⊥
+  right-outside ns n d m p h t =
+      let w = rights-within ns t in
+      let e : w .0 ≡ d = some-injective (sym (w .2) ∙ p) in
+      let o = one-numbered (w .0) ns (w .1) (w .3) n m in
+      let b = numbered-within (literals (w .0)) n (o .0) (o .1) in
+      one-outside d n h (b .0) (subst (λ (x : Derivation). n ≤ length (literals x)) e (b .1))
+
+  no-literal-fails : {c n : ℕ} (d : Derivation) → Names r c n → clauseOf S c ≡ some d → Outside d n → TestFails 5
+  no-literal-fails d (leftLiteral R) p h = resolve-fails R (λ t u. named-outside (fieldA r) (fieldB r) d p h t)
+  no-literal-fails {n = n} d (rightLiteral {ns} R m) p h = resolve-fails R (λ t u. right-outside ns n d m p h u)
+  no-literal-fails d (keptLiteral e) p h = factor-fails e (λ t u. named-outside (fieldA r) (fieldB r) d p h t)
+  no-literal-fails d (deletedLiteral e) p h = factor-fails e (λ t u. named-outside (fieldA r) (fieldC r) d p h u)
 
   arguments-fail : r .kind ≡ 3 → ((arityOf S (fieldA r) ≡ some (r .count)) × (allBelow (length (rowsOf S)) (argumentRows r) ≡ true) → ⊥) → TestFails 5
   arguments-fail e never = at-number 3 5 e (not-true (argumentsThere S r) (λ t.
@@ -188,18 +271,5 @@ module _ (S : State) (r : Record) (seven : length (r .fields) ≡ 7) where
       try : (b : Bool) → leb (r .count) 7 ≡ b → (TestFails 4) ⊎ (TestFails 5)
       try true q = inr (at-number 4 5 e (not-true (literalRowsThere S r) (λ t. let z = literal-row-there i a (at-most (r .count) 7 q) t in omega arith)))
       try false q = inl (at-number 4 4 e (rw q refl))
-  not-there (noClause {c} {n} names l) = inr (absent-fails (λ c n. length (S .clauses) ≤ c) (λ c n p t. let z = named-within c n t .2 in omega arith) c n names l)
-  not-there (noLiteral {c} {n} {d} names p h) = inr (absent-fails (λ c n. (clauseOf S c ≡ some d) × ((n ≡ 0) ⊎ (length (literals d) < n))) never c n names (p, h))
-    where
-      never : (c n : ℕ) → (clauseOf S c ≡ some d) × ((n ≡ 0) ⊎ (length (literals d) < n)) → ¬ (isThere (literalNamed S c n) ≡ true)
-      never c n (q) t = out (q .1)
-        where
-          w : (d : Derivation) × (clauseOf S c ≡ some d) × (c < length (S .clauses)) × (1 ≤ n) × (n ≤ length (literals d))
-          w = named-within c n t
-
-          one : w .0 ≡ d
-          one = some-injective (sym (w .1) ∙ q .0)
-
-          out : (n ≡ 0) ⊎ (length (literals d) < n) → ⊥
-          out (inl z) = let a = w .3 in omega arith
-          out (inr z) = let a = w .4 in let b : length (literals (w .0)) ≡ length (literals d) = ap (λ (x : Derivation). length (literals x)) one in omega arith
+  not-there (noClause names l) = inr (no-clause-fails names l)
+  not-there (noLiteral {d = d} names p h) = inr (no-literal-fails d names p h)

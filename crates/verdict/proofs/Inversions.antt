@@ -1,5 +1,5 @@
 -- What the tests of a record say once they have passed, or failed.
-use mathlib.Core.Path.{_≡_, refl, sym, ap, _∙_, subst}
+use mathlib.Core.Path.{_≡_, refl, sym, ap, ap₂, _∙_, subst}
 use mathlib.Core.Logic.{_⊎_, inl, inr}
 use mathlib.Core.Bool.{Bool, true, false, not}
 use mathlib.Core.Option.{Option, none, some}
@@ -8,15 +8,15 @@ use Prim.Native.Nat.{ℕ, suc, _≤_, _<_}
 use native.Mathlib.Omega.{arith}
 use lib.Dec.{eqb, leb, ltb, T, eqb→eq, eqb-refl, leb→le, ltb→lt, lt→ltb}
 use lib.ListN.{length}
-use Rattle.record.specs.Record.{pick, Record, otherKind, Kind, symbolKind, variableKind, applicationKind, inputKind, resolveKind, factorKind}
+use Rattle.record.specs.Record.{pick, Record, otherKind, Kind, symbolKind, variableKind, applicationKind, inputKind, resolveKind, factorKind, severalKind}
 use Rattle.unification.specs.Environment.{Binding}
 use Rattle.unification.specs.Unification.{Failure, Outcome, unified, failed}
 use Rattle.unification.proofs.Lists.{Each}
 use Rattle.unification.proofs.Rows.{Below, eqb-below}
 use Rattle.unification.proofs.Tests.{to-T, from-T, both-true, true-not-false, some-not-none, some-injective}
-use Rattle.derivation.specs.Derivation.{literals, Literal, RowLiteral, inputLiterals, Derivation, numbered}
+use Rattle.derivation.specs.Derivation.{literals, Literal, RowLiteral, inputLiterals, Derivation, numbered, numberedAll, StrictlyRising}
 use Rattle.derivation.proofs.Literals.{leb-false-lt}
-use Rattle.verdict.specs.Refusal.{tests, outlineTests, Reason, reasonNumber, unification, kindOfRecord, inRange, literalIn, literalNamed, leftOf, rightOf, deletedOf, isThere, hasArity, allBelow, argumentsThere, literalRowsThere, bothThere, allApplications, equalSigns, fittingSigns, resolventFits, factorFits}
+use Rattle.verdict.specs.Refusal.{tests, outlineTests, Reason, reasonNumber, unification, kindOfRecord, inRange, literalIn, literalNamed, leftOf, rightNumbers, literalsIn, rightOf, deletedOf, isThere, hasArity, allBelow, argumentsThere, literalRowsThere, bothThere, allApplications, equalSigns, allOpposite, oppositeSigns, factorSigns, resolventFits, factorFits, rising, resolveTests}
 use Rattle.verdict.specs.State.{State, withClause, entry, rowsOf, clauseOf, rowOf}
 use Rattle.verdict.specs.Step.{stands, refused, Result, require, requireAll, enter, step, addClause, onNamed}
 
@@ -76,8 +76,8 @@ step-stands S k r T q =
     (a .0, all-stand (outlineTests S (kindOfRecord r) r) (enter S k (kindOfRecord r) r) T (a .1) .1)
 
 -- A step that stands, or is refused, on the literals that it names.
-pub named-stands : (step : Derivation × Literal → Derivation × Literal → Result) (o p : Option (Derivation × Literal)) (S : State) → onNamed step o p ≡ stands S
-    → (x y : Derivation × Literal) × (o ≡ some x) × (p ≡ some y) × (step x y ≡ stands S)
+pub named-stands : {A B : Type 0} (step : A → B → Result) (o : Option A) (p : Option B) (S : State) → onNamed step o p ≡ stands S
+    → (x : A) × (y : B) × (o ≡ some x) × (p ≡ some y) × (step x y ≡ stands S)
 named-stands step none p S q = absurd (refused-not-stands q)
 named-stands step (some x) none S q = absurd (refused-not-stands q)
 named-stands step (some x) (some y) S q = (x, y, refl, refl, q)
@@ -98,6 +98,23 @@ literal-named S c n x q = clause (clauseOf S c) refl q
     clause (some d) p z =
         let r = literal d (numbered (literals d) n) refl z in
         (p ∙ ap some (r .0), subst (λ (e : Derivation). numbered (literals e) n ≡ some (x .1)) (r .0) (r .1))
+
+-- The named right literals are literals of a clause that exists.
+pub literals-named : (S : State) (c : ℕ) (ns : List ℕ) (x : Derivation × List Literal) → literalsIn ns (clauseOf S c) ≡ some x → (clauseOf S c ≡ some (x .0)) × (numberedAll (literals (x .0)) ns ≡ some (x .1))
+literals-named S c ns x q = clause (clauseOf S c) refl q
+  where
+    pair : {d : Derivation} {ls : List Literal} → _≡_ {A = Option (Derivation × List Literal)} (some (d, ls)) (some x) → (d ≡ x .0) × (ls ≡ x .1)
+    pair p = (ap (λ (y : Derivation × List Literal). y .0) (some-injective p), ap (λ (y : Derivation × List Literal). y .1) (some-injective p))
+
+    all : (d : Derivation) (o : Option (List Literal)) → numberedAll (literals d) ns ≡ o → elim o [ some ls ↦ some (d, ls) | none ↦ none ] ≡ some x → (d ≡ x .0) × (numberedAll (literals d) ns ≡ some (x .1))
+    all d none p z = absurd (some-not-none refl z)
+    all d (some ls) p z = (pair z .0, p ∙ ap some (pair z .1))
+
+    clause : (o : Option Derivation) → clauseOf S c ≡ o → literalsIn ns o ≡ some x → (clauseOf S c ≡ some (x .0)) × (numberedAll (literals (x .0)) ns ≡ some (x .1))
+    clause none p z = absurd (some-not-none refl z)
+    clause (some d) p z =
+        let r = all d (numberedAll (literals d) ns) refl z in
+        (p ∙ ap some (r .0), subst (λ (e : Derivation). numberedAll (literals e) ns ≡ some (x .1)) (r .0) (r .1))
 
 pub is-there : {A : Type 0} (o : Option A) → isThere o ≡ true → (a : A) × (o ≡ some a)
 is-there none q = absurd (true-not-false q refl)
@@ -124,6 +141,20 @@ opposite-signs true true q = absurd (true-not-false q refl)
 opposite-signs true false q = refl
 opposite-signs false true q = refl
 opposite-signs false false q = absurd (true-not-false q refl)
+
+-- Signs that are all opposite: the literals are atoms with the other sign.
+pub all-opposite : (s : Bool) (ls : List Literal) → allOpposite s ls ≡ true → ls ≡ map (λ d. (not s, d)) (map (λ (l : Literal). l .1) ls)
+all-opposite s [] q = refl
+all-opposite s (l ∷ ls) q =
+    let p = both-true (not (equalSigns s (l .0))) (allOpposite s ls) q in
+    ap₂ (λ (b : Bool) (ms : List Literal). (b, l .1) ∷ ms) (opposite-signs s (l .0) (p .0)) (all-opposite s ls (p .1))
+
+pub strictly-rising : (ns : List ℕ) → rising ns ≡ true → StrictlyRising ns
+strictly-rising [] q = tt
+strictly-rising (n ∷ []) q = tt
+strictly-rising (n ∷ m ∷ ns) q =
+    let p = both-true (ltb n m) (rising (m ∷ ns)) q in
+    (ltb→lt n m (to-T (ltb n m) (p .0)), strictly-rising (m ∷ ns) (p .1))
 
 pub equal-signs : (s t : Bool) → equalSigns s t ≡ true → t ≡ s
 equal-signs true true q = refl
@@ -200,16 +231,17 @@ pub record PassedInput (S : State) (r : Record) : Type 0 where
   pub there : literalRowsThere S r ≡ true
   pub applications : allApplications (rowOf S) (inputLiterals r) ≡ true
 
-pub record PassedResolve (S : State) (r : Record) : Type 0 where
-  pub ranged : inRange resolveKind r ≡ true
-  pub there : bothThere (leftOf S r) (rightOf S r) ≡ true
-  pub signs : fittingSigns S resolveKind r ≡ true
-  pub limits : resolventFits S r ≡ true
+pub record PassedResolve (S : State) (kind : Kind) (r : Record) : Type 0 where
+  pub ranged : inRange kind r ≡ true
+  pub there : bothThere (leftOf S r) (rightOf S kind r) ≡ true
+  pub rises : rising (rightNumbers kind r) ≡ true
+  pub signs : oppositeSigns S kind r ≡ true
+  pub limits : resolventFits S kind r ≡ true
 
 pub record PassedFactor (S : State) (r : Record) : Type 0 where
   pub ranged : inRange factorKind r ≡ true
   pub there : bothThere (leftOf S r) (deletedOf S r) ≡ true
-  pub signs : fittingSigns S factorKind r ≡ true
+  pub signs : factorSigns S r ≡ true
   pub limits : factorFits S r ≡ true
 
 abbrev pub Passed : State → Kind → Record → Type 0
@@ -217,7 +249,8 @@ Passed S symbolKind r = inRange symbolKind r ≡ true
 Passed S variableKind r = inRange variableKind r ≡ true
 Passed S applicationKind r = PassedApplication S r
 Passed S inputKind r = PassedInput S r
-Passed S resolveKind r = PassedResolve S r
+Passed S resolveKind r = PassedResolve S resolveKind r
+Passed S severalKind r = PassedResolve S severalKind r
 Passed S factorKind r = PassedFactor S r
 Passed S otherKind r = ⊥
 
@@ -234,6 +267,11 @@ passed-for (t ∷ ts) a n = try (eqb (reasonNumber (t .1)) n) (passed-for ts (a 
     try true k = a .0
     try false k = k
 
+resolve-passed : (S : State) (kind : Kind) (r : Record) → AllPass (resolveTests S kind r) → PassedResolve S kind r
+resolve-passed S kind r a =
+    let p = passed-for (resolveTests S kind r) a in
+    record { ranged = p 4; there = p 5; rises = p 14; signs = p 8; limits = p 9 }
+
 pub tests-passed : (S : State) (kind : Kind) (r : Record) → AllPass (tests S kind r) → Passed S kind r
 tests-passed S symbolKind r a = passed-for (tests S symbolKind r) a 4
 tests-passed S variableKind r a = passed-for (tests S variableKind r) a 4
@@ -243,9 +281,8 @@ tests-passed S applicationKind r a =
 tests-passed S inputKind r a =
     let p = passed-for (tests S inputKind r) a in
     record { ranged = p 4; there = p 5; applications = p 7 }
-tests-passed S resolveKind r a =
-    let p = passed-for (tests S resolveKind r) a in
-    record { ranged = p 4; there = p 5; signs = p 8; limits = p 9 }
+tests-passed S resolveKind r a = resolve-passed S resolveKind r a
+tests-passed S severalKind r a = resolve-passed S severalKind r a
 tests-passed S factorKind r a =
     let p = passed-for (tests S factorKind r) a in
     record { ranged = p 4; there = p 5; signs = p 8; limits = p 9 }

@@ -20,3 +20,4 @@ pub mod WrittenRows
 pub mod Unrepeated
 pub mod Replacing
 pub mod RepeatsShown
+pub mod SeveralShown

@@ -1,56 +1,80 @@
 -- Document 02, Q-1: outlines change no step that stood, and of those refused only 11, 12 and 13 with outlines that clash.
 use mathlib.Core.Path.{_≡_, refl, sym, ap, _∙_, subst}
 use mathlib.Core.Logic.{_⊎_, inl, inr}
-use mathlib.Core.Bool.{Bool, true, false}
+use mathlib.Core.Bool.{Bool, true, false, not}
 use mathlib.Core.Option.{Option, some}
 use mathlib.Core.List.{List, [], _∷_}
 use Prim.Native.Nat.{ℕ, _≤_, _<_}
 use native.Mathlib.Omega.{arith}
 use borrow.Author.Tests.{not-false}
-use Rattle.record.specs.Record.{Record, otherKind, Kind, symbolKind, variableKind, applicationKind, inputKind, resolveKind, factorKind, fieldB, fieldC, fieldD}
+use Rattle.record.specs.Record.{Record, otherKind, Kind, symbolKind, variableKind, applicationKind, inputKind, resolveKind, factorKind, severalKind, fieldB, fieldC}
 use Rattle.unification.specs.Environment.{Binding, Environment}
-use Rattle.unification.specs.Row.{Expression}
-use Rattle.unification.specs.Unification.{mostWork, mostLinks, endless, Failure, clash, occurs, overwork, full, failureNumber, unify, unified, noRoom}
+use Rattle.unification.specs.Outlines.{outlinesClash}
+use Rattle.unification.specs.Unification.{mostWork, mostLinks, endless, Failure, clash, occurs, overwork, full, failureNumber, unify, unified, Pair, noRoom}
 use Rattle.unification.proofs.Outlines.{whole-comparison}
-use Rattle.unification.proofs.UnifiedOutlines.{clash-not-unified}
-use Rattle.derivation.specs.Derivation.{Literal, Derivation, resolve, factor, raise, maximumIndex, joined, lookup}
+use Rattle.unification.proofs.UnifiedOutlines.{ClashAmong, clash-here, clash-later, clash-not-unified}
+use Rattle.unification.proofs.Tests.{true-not-false}
+use Rattle.derivation.specs.Derivation.{Literal, Derivation, resolve, factor, pairsWith, maximumIndex, joined, lookup}
 use Rattle.verdict.specs.Conditions.{OneOf, OutlinesClash}
 use Rattle.verdict.specs.Outlines.{OutlinesBeforeUnification}
-use Rattle.verdict.specs.Refusal.{tests, outlineTests, outlinesAgree, onBoth, Reason, unification, reasonNumber, kindOfRecord, leftOf, rightOf, deletedOf}
+use Rattle.verdict.specs.Refusal.{tests, outlineTests, outlinesOfResolve, outlinesAgree, onBoth, Reason, unification, reasonNumber, precedence, kindOfRecord, leftOf, rightNumbers, rightOf, deletedOf}
 use Rattle.verdict.specs.State.{State, rowOf, held, nextClause}
-use Rattle.verdict.specs.Step.{stands, refused, requireAll, step, stepWithoutOutlines, addClause, unifyResolve, unifyFactor, enter}
+use Rattle.verdict.specs.Step.{stands, refused, requireAll, step, stepWithoutOutlines, atoms, unifyResolve, unifyFactor, enterResolvent, enter}
 use Rattle.verdict.proofs.Inversions.{FirstFailing, AllPass, all-stand, all-refused, all-passed, named-stands, clause-added, refused-injective, tests-passed}
+use Rattle.verdict.proofs.RangeTests.{either-false}
 use Rattle.verdict.proofs.Refusals.{tests-rising, rising-first, first-refused, pass-or-fail, by-unification, by-outlines, outlines-clash, outlines-fail}
 
 -- ── What stood ──
 module _ (S : State) where
-  agreeing : (o p : Option (Derivation × Literal)) (x y : Derivation × Literal) → o ≡ some x → p ≡ some y → ¬ (outlinesAgree S x y ≡ false) → onBoth (outlinesAgree S) o p ≡ true
-  agreeing o p x y e f n = rw (e, f) (try (outlinesAgree S x y) refl)
+  agreeing : {A B : Type 0} (test : A → B → Bool) (o : Option A) (p : Option B) (x : A) (y : B) → o ≡ some x → p ≡ some y → ¬ (test x y ≡ false) → onBoth test o p ≡ true
+  agreeing test o p x y e f n = rw (e, f) (try (test x y) refl)
     where
-      try : (b : Bool) → outlinesAgree S x y ≡ b → b ≡ true
+      try : (b : Bool) → test x y ≡ b → b ≡ true
       try true q = refl
       try false q = absurd (n q)
 
-  unified-agree : (ρ : Environment) (x y : Derivation × Literal) (d : Expression) → d .0 ≡ y .1 .1 .0 → (bs : List Binding) × (m : ℕ) × (unify (rowOf S) (held S) ρ (x .1 .1) d ≡ unified bs m) → ¬ (outlinesAgree S x y ≡ false)
-  unified-agree ρ x y d e u q =
-      clash-not-unified (rowOf S) mostLinks (noRoom (held S)) ρ mostWork [] (x .1 .1, d) (not-false _ (subst (λ (w : ℕ). outlinesAgree S x (y .0, (y .1 .0, (w, y .1 .1 .1))) ≡ false) (sym e) q)) (u .0) (u .1) (u .2)
+  -- Outlines that do not agree: a pair among those that unification takes up clashes.
+  clash-among : (m : ℕ) (l : Literal) (ms : List Literal) → outlinesAgree (rowOf S) l ms ≡ false → ClashAmong (rowOf S) (pairsWith m (l .1) (atoms ms))
+  clash-among m l [] z = absurd (true-not-false refl z)
+  clash-among m l (n ∷ ms) z = try (either-false (not (outlinesClash (rowOf S) (l .1 .0) (n .1 .0))) (outlinesAgree (rowOf S) l ms) z) (λ w. clash-among m l ms w)
+    where
+      try : (not (outlinesClash (rowOf S) (l .1 .0) (n .1 .0)) ≡ false) ⊎ (outlinesAgree (rowOf S) l ms ≡ false) → (outlinesAgree (rowOf S) l ms ≡ false → ClashAmong (rowOf S) (pairsWith m (l .1) (atoms ms))) → ClashAmong (rowOf S) (pairsWith m (l .1) (atoms (n ∷ ms)))
+      try (inl w) h = clash-here (not-false _ w)
+      try (inr w) h = clash-later (h w)
+
+  unified-agree : (ρ : Environment) (ps : List Pair) → ClashAmong (rowOf S) ps → (bs : List Binding) (m : ℕ) → ¬ (unify (rowOf S) (held S) ρ ps ≡ unified bs m)
+  unified-agree ρ ps h bs m u = clash-not-unified (rowOf S) mostLinks (noRoom (held S)) ρ mostWork [] ps h bs m u
+
+  resolvent-agrees : (k : ℕ) (r : Record) (T : State) (kind : Kind) → enterResolvent S k kind r ≡ stands T → AllPass (outlinesOfResolve S kind r)
+  resolvent-agrees k r T kind q =
+      let s = named-stands _ (leftOf S r) (rightOf S kind r) T q in
+      let c = clause-added S k (resolve (nextClause S) (s .0 .0) (fieldB r) (s .1 .0) (rightNumbers kind r)) (unifyResolve S (s .0) (s .1)) T (s .4) in (
+        agreeing (λ x y. outlinesAgree (rowOf S) (x .1) (y .1)) (leftOf S r) (rightOf S kind r) (s .0) (s .1) (s .2) (s .3)
+            (λ z. unified-agree (joined (maximumIndex (s .0 .0)) (lookup (s .0 .0)) (lookup (s .1 .0))) (pairsWith (maximumIndex (s .0 .0)) (s .0 .1 .1) (atoms (s .1 .1))) (clash-among (maximumIndex (s .0 .0)) (s .0 .1) (s .1 .1) z) (c .0) (c .1) (c .2)),
+        tt,
+      )
+
+  one-clash : (l m : Literal) → outlinesAgree (rowOf S) l (m ∷ []) ≡ false → ClashAmong (rowOf S) ((l .1, m .1) ∷ [])
+  one-clash l m z = try (either-false (not (outlinesClash (rowOf S) (l .1 .0) (m .1 .0))) true z)
+    where
+      try : (not (outlinesClash (rowOf S) (l .1 .0) (m .1 .0)) ≡ false) ⊎ (true ≡ false) → ClashAmong (rowOf S) ((l .1, m .1) ∷ [])
+      try (inl w) = clash-here (not-false _ w)
+      try (inr w) = absurd (true-not-false refl w)
 
   entered-agrees : (k : ℕ) (r : Record) (T : State) (kind : Kind) → enter S k kind r ≡ stands T → AllPass (outlineTests S kind r)
   entered-agrees k r T symbolKind q = tt
   entered-agrees k r T variableKind q = tt
   entered-agrees k r T applicationKind q = tt
   entered-agrees k r T inputKind q = tt
-  entered-agrees k r T resolveKind q =
-      let s = named-stands _ (leftOf S r) (rightOf S r) T q in
-      let c = clause-added S k (resolve (nextClause S) (s .0 .0) (fieldB r) (s .1 .0) (fieldD r)) (unifyResolve S (s .0) (s .1)) T (s .4) in (
-        agreeing (leftOf S r) (rightOf S r) (s .0) (s .1) (s .2) (s .3)
-            (unified-agree (joined (maximumIndex (s .0 .0)) (lookup (s .0 .0)) (lookup (s .1 .0))) (s .0) (s .1) (raise (maximumIndex (s .0 .0)) (s .1 .1 .1)) refl (c .0, c .1, c .2)),
-        tt,
-      )
+  entered-agrees k r T resolveKind q = resolvent-agrees k r T resolveKind q
+  entered-agrees k r T severalKind q = resolvent-agrees k r T severalKind q
   entered-agrees k r T factorKind q =
       let s = named-stands _ (leftOf S r) (deletedOf S r) T q in
-      let c = clause-added S k (factor (nextClause S) (s .0 .0) (fieldB r) (fieldC r)) (unifyFactor S (s .0) (s .1)) T (s .4) in
-      (agreeing (leftOf S r) (deletedOf S r) (s .0) (s .1) (s .2) (s .3) (unified-agree (lookup (s .0 .0)) (s .0) (s .1) (s .1 .1 .1) refl (c .0, c .1, c .2)), tt)
+      let c = clause-added S k (factor (nextClause S) (s .0 .0) (fieldB r) (fieldC r)) (unifyFactor S (s .0) (s .1)) T (s .4) in (
+        agreeing (λ x y. outlinesAgree (rowOf S) (x .1) (y .1 ∷ [])) (leftOf S r) (deletedOf S r) (s .0) (s .1) (s .2) (s .3)
+            (λ z. unified-agree (lookup (s .0 .0)) ((s .0 .1 .1, s .1 .1 .1) ∷ []) (one-clash (s .0 .1) (s .1 .1) z) (c .0) (c .1) (c .2)),
+        tt,
+      )
   entered-agrees k r T otherKind q = tt
 
   stood-stands : (T : State) (k : ℕ) (r : Record) → stepWithoutOutlines S k r ≡ stands T → step S k r ≡ stands T
@@ -70,10 +94,10 @@ clash-or-late overwork n = inr (inr (inl refl))
 clash-or-late full n = inr (inr (inr (inl refl)))
 clash-or-late endless n = absurd (n refl)
 
-late-over : (n : ℕ) → OneOf n late → 11 ≤ n
-late-over n (inl e) = omega arith
-late-over n (inr (inl e)) = omega arith
-late-over n (inr (inr (inl e))) = omega arith
+late-over : (n : ℕ) → OneOf n late → 11 ≤ precedence n
+late-over n (inl e) = let w : precedence n ≡ 11 = ap precedence e in omega arith
+late-over n (inr (inl e)) = let w : precedence n ≡ 12 = ap precedence e in omega arith
+late-over n (inr (inr (inl e))) = let w : precedence n ≡ 13 = ap precedence e in omega arith
 late-over n (inr (inr (inr e))) = absurd e
 
 module _ (S : State) (k : ℕ) (r : Record) (reason : Reason) (q : stepWithoutOutlines S k r ≡ refused reason) where

@@ -8,11 +8,11 @@ use native.Mathlib.Omega.{arith}
 use lib.Dec.{eqb, leb, ltb, eqb→eq, eqb-refl, leb→le, nltb→le}
 use lib.ListN.{getD, drop}
 use lib.Seq.{getD-drop}
-use Rattle.record.specs.Record.{pick, Record, otherKind, Kind, symbolKind, variableKind, applicationKind, inputKind, resolveKind, factorKind, kindNumbered, fieldA}
+use Rattle.record.specs.Record.{pick, Record, otherKind, Kind, symbolKind, variableKind, applicationKind, inputKind, resolveKind, factorKind, severalKind, kindNumbered, fieldA, fieldD}
 use Rattle.unification.proofs.Tests.{to-T, from-T, both-true, true-not-false}
 use Rattle.derivation.proofs.Literals.{leb-false-lt}
-use Rattle.verdict.specs.Conditions.{fieldNumbered, Layout, ofSymbol, ofVariable, ofApplication, ofInput, ofResolve, ofFactor, OutOfRange, countOver, variableOver, unusedField}
-use Rattle.verdict.specs.Refusal.{kindOfRecord, zeros, inRange}
+use Rattle.verdict.specs.Conditions.{fieldNumbered, Layout, ofSymbol, ofVariable, ofApplication, ofInput, ofResolve, ofFactor, ofSeveral, OutOfRange, countOver, noRightLiteral, variableOver, unusedField, RightLiterals, ofOne, ofSome}
+use Rattle.verdict.specs.Refusal.{kindOfRecord, zeros, inRange, rightNumbers}
 
 -- Tests that fail.
 pub not-true : (b : Bool) → ¬ (b ≡ true) → b ≡ false
@@ -43,36 +43,47 @@ KindNumber applicationKind n = n ≡ 3
 KindNumber inputKind n = n ≡ 4
 KindNumber resolveKind n = n ≡ 5
 KindNumber factorKind n = n ≡ 6
-KindNumber otherKind n = (n < 1) ⊎ (6 < n)
+KindNumber severalKind n = n ≡ 7
+KindNumber otherKind n = (n < 1) ⊎ (7 < n)
+
+above-three : (n : ℕ) → 1 ≤ n → ¬ (n ≡ 1) → ¬ (n ≡ 2) → ¬ (n ≡ 3) → 3 < n
+above-three n l a b c = omega arith
+
+above-seven : (n : ℕ) → 3 < n → ¬ (n ≡ 4) → ¬ (n ≡ 5) → ¬ (n ≡ 6) → ¬ (n ≡ 7) → 7 < n
+above-seven n l d e f g = omega arith
 
 kind-number : (n : ℕ) → KindNumber (kindNumbered n) n
 kind-number n = one (eqb n 1) refl
   where
-    outside : ¬ (n ≡ 1) → ¬ (n ≡ 2) → ¬ (n ≡ 3) → ¬ (n ≡ 4) → ¬ (n ≡ 5) → ¬ (n ≡ 6) → (b : Bool) → leb 1 n ≡ b → (n < 1) ⊎ (6 < n)
-    outside a b c d e f true q = let l = at-most 1 n q in inr (omega arith)
-    outside a b c d e f false q = inl (leb-false-lt 1 n q)
+    outside : ¬ (n ≡ 1) → ¬ (n ≡ 2) → ¬ (n ≡ 3) → ¬ (n ≡ 4) → ¬ (n ≡ 5) → ¬ (n ≡ 6) → ¬ (n ≡ 7) → (b : Bool) → leb 1 n ≡ b → (n < 1) ⊎ (7 < n)
+    outside a b c d e f g true q = inr (above-seven n (above-three n (at-most 1 n q) a b c) d e f g)
+    outside a b c d e f g false q = inl (leb-false-lt 1 n q)
 
-    six : ¬ (n ≡ 1) → ¬ (n ≡ 2) → ¬ (n ≡ 3) → ¬ (n ≡ 4) → ¬ (n ≡ 5) → (b : Bool) → eqb n 6 ≡ b → KindNumber (pick b factorKind otherKind) n
+    seven : ¬ (n ≡ 1) → ¬ (n ≡ 2) → ¬ (n ≡ 3) → ¬ (n ≡ 4) → ¬ (n ≡ 5) → ¬ (n ≡ 6) → (b : Bool) → eqb n 7 ≡ b → KindNumber (pick b severalKind otherKind) n
+    seven a b c d e f true q = equal n 7 q
+    seven a b c d e f false q = outside a b c d e f (unequal n 7 q) (leb 1 n) refl
+
+    six : ¬ (n ≡ 1) → ¬ (n ≡ 2) → ¬ (n ≡ 3) → ¬ (n ≡ 4) → ¬ (n ≡ 5) → (b : Bool) → eqb n 6 ≡ b → KindNumber (pick b factorKind (pick (eqb n 7) severalKind otherKind)) n
     six a b c d e true q = equal n 6 q
-    six a b c d e false q = outside a b c d e (unequal n 6 q) (leb 1 n) refl
+    six a b c d e false q = seven a b c d e (unequal n 6 q) (eqb n 7) refl
 
-    five : ¬ (n ≡ 1) → ¬ (n ≡ 2) → ¬ (n ≡ 3) → ¬ (n ≡ 4) → (b : Bool) → eqb n 5 ≡ b → KindNumber (pick b resolveKind (pick (eqb n 6) factorKind otherKind)) n
+    five : ¬ (n ≡ 1) → ¬ (n ≡ 2) → ¬ (n ≡ 3) → ¬ (n ≡ 4) → (b : Bool) → eqb n 5 ≡ b → KindNumber (pick b resolveKind (pick (eqb n 6) factorKind (pick (eqb n 7) severalKind otherKind))) n
     five a b c d true q = equal n 5 q
     five a b c d false q = six a b c d (unequal n 5 q) (eqb n 6) refl
 
-    four : ¬ (n ≡ 1) → ¬ (n ≡ 2) → ¬ (n ≡ 3) → (b : Bool) → eqb n 4 ≡ b → KindNumber (pick b inputKind (pick (eqb n 5) resolveKind (pick (eqb n 6) factorKind otherKind))) n
+    four : ¬ (n ≡ 1) → ¬ (n ≡ 2) → ¬ (n ≡ 3) → (b : Bool) → eqb n 4 ≡ b → KindNumber (pick b inputKind (pick (eqb n 5) resolveKind (pick (eqb n 6) factorKind (pick (eqb n 7) severalKind otherKind)))) n
     four a b c true q = equal n 4 q
     four a b c false q = five a b c (unequal n 4 q) (eqb n 5) refl
 
-    three : ¬ (n ≡ 1) → ¬ (n ≡ 2) → (b : Bool) → eqb n 3 ≡ b → KindNumber (pick b applicationKind (pick (eqb n 4) inputKind (pick (eqb n 5) resolveKind (pick (eqb n 6) factorKind otherKind)))) n
+    three : ¬ (n ≡ 1) → ¬ (n ≡ 2) → (b : Bool) → eqb n 3 ≡ b → KindNumber (pick b applicationKind (pick (eqb n 4) inputKind (pick (eqb n 5) resolveKind (pick (eqb n 6) factorKind (pick (eqb n 7) severalKind otherKind))))) n
     three a b true q = equal n 3 q
     three a b false q = four a b (unequal n 3 q) (eqb n 4) refl
 
-    two : ¬ (n ≡ 1) → (b : Bool) → eqb n 2 ≡ b → KindNumber (pick b variableKind (pick (eqb n 3) applicationKind (pick (eqb n 4) inputKind (pick (eqb n 5) resolveKind (pick (eqb n 6) factorKind otherKind))))) n
+    two : ¬ (n ≡ 1) → (b : Bool) → eqb n 2 ≡ b → KindNumber (pick b variableKind (pick (eqb n 3) applicationKind (pick (eqb n 4) inputKind (pick (eqb n 5) resolveKind (pick (eqb n 6) factorKind (pick (eqb n 7) severalKind otherKind)))))) n
     two a true q = equal n 2 q
     two a false q = three a (unequal n 2 q) (eqb n 3) refl
 
-    one : (b : Bool) → eqb n 1 ≡ b → KindNumber (pick b symbolKind (pick (eqb n 2) variableKind (pick (eqb n 3) applicationKind (pick (eqb n 4) inputKind (pick (eqb n 5) resolveKind (pick (eqb n 6) factorKind otherKind)))))) n
+    one : (b : Bool) → eqb n 1 ≡ b → KindNumber (pick b symbolKind (pick (eqb n 2) variableKind (pick (eqb n 3) applicationKind (pick (eqb n 4) inputKind (pick (eqb n 5) resolveKind (pick (eqb n 6) factorKind (pick (eqb n 7) severalKind otherKind))))))) n
     one true q = equal n 1 q
     one false q = two (unequal n 1 q) (eqb n 2) refl
 
@@ -80,10 +91,10 @@ pub of-kind : (r : Record) (kind : Kind) → kindOfRecord r ≡ kind → KindNum
 of-kind r kind e = subst (λ (k : Kind). KindNumber k (r .kind)) e (kind-number (r .kind))
 
 -- A record whose kind has no number of the table.
-pub other-kind : (r : Record) → (r .kind < 1) ⊎ (6 < r .kind) → kindOfRecord r ≡ otherKind
+pub other-kind : (r : Record) → (r .kind < 1) ⊎ (7 < r .kind) → kindOfRecord r ≡ otherKind
 other-kind r h = try (kindOfRecord r) (kind-number (r .kind)) h
   where
-    try : (k : Kind) → KindNumber k (r .kind) → (r .kind < 1) ⊎ (6 < r .kind) → k ≡ otherKind
+    try : (k : Kind) → KindNumber k (r .kind) → (r .kind < 1) ⊎ (7 < r .kind) → k ≡ otherKind
     try symbolKind e (inl l) = absurd (omega arith)
     try symbolKind e (inr l) = absurd (omega arith)
     try variableKind e (inl l) = absurd (omega arith)
@@ -96,7 +107,22 @@ other-kind r h = try (kindOfRecord r) (kind-number (r .kind)) h
     try resolveKind e (inr l) = absurd (omega arith)
     try factorKind e (inl l) = absurd (omega arith)
     try factorKind e (inr l) = absurd (omega arith)
+    try severalKind e (inl l) = absurd (omega arith)
+    try severalKind e (inr l) = absurd (omega arith)
     try otherKind e l = refl
+
+-- The two kinds of a resolve, and their right literals.
+pub data IsResolve : Kind → Type 0 where
+  on-one : IsResolve resolveKind
+  on-several : IsResolve severalKind
+
+pub right-literals : (r : Record) (kind : Kind) → IsResolve kind → kindOfRecord r ≡ kind → RightLiterals r (rightNumbers kind r)
+right-literals r kind on-one e = ofOne (of-kind r resolveKind e)
+right-literals r kind on-several e = ofSome (of-kind r severalKind e)
+
+pub resolve-kind : (r : Record) {ns : List ℕ} → RightLiterals r ns → (kind : Kind) × IsResolve kind × (kindOfRecord r ≡ kind) × (rightNumbers kind r ≡ ns)
+resolve-kind r (ofOne e) = (resolveKind, on-one, ap kindNumbered e, refl)
+resolve-kind r (ofSome e) = (severalKind, on-several, ap kindNumbered e, refl)
 
 -- 4: fields that are zero.
 zeros-false : (xs : List ℕ) → zeros xs ≡ false → (i : ℕ) × ¬ (getD xs i 0 ≡ 0)
@@ -156,6 +182,17 @@ module _ (r : Record) where
       try (inl p) = first (either-false (eqb (r .count) 0) (leb (fieldA r) 63) p)
       try (inr p) = unused-over (ofVariable e) p
 
+  several-over : r .kind ≡ 7 → inRange severalKind r ≡ false → OutOfRange r
+  several-over e q = try (either-false (leb 1 (r .count) && leb (r .count) 4) (zeros (drop (3 + r .count) (r .fields))) q)
+    where
+      first : (leb 1 (r .count) ≡ false) ⊎ (leb (r .count) 4 ≡ false) → OutOfRange r
+      first (inl p) = let z = leb-false-lt 1 (r .count) p in noRightLiteral e (omega arith)
+      first (inr p) = countOver (ofSeveral e) (leb-false-lt (r .count) 4 p)
+
+      try : ((leb 1 (r .count) && leb (r .count) 4) ≡ false) ⊎ (zeros (drop (3 + r .count) (r .fields)) ≡ false) → OutOfRange r
+      try (inl p) = first (either-false (leb 1 (r .count)) (leb (r .count) 4) p)
+      try (inr p) = unused-over (ofSeveral e) p
+
   -- A range test that fails, kind by kind.
   pub range-over : (kind : Kind) → kindOfRecord r ≡ kind → inRange kind r ≡ false → OutOfRange r
   range-over symbolKind e q = up-to-over (ofSymbol (of-kind r symbolKind e)) q
@@ -164,10 +201,11 @@ module _ (r : Record) where
   range-over inputKind e q = up-to-over (ofInput (of-kind r inputKind e)) q
   range-over resolveKind e q = step-over (ofResolve (of-kind r resolveKind e)) q
   range-over factorKind e q = step-over (ofFactor (of-kind r factorKind e)) q
+  range-over severalKind e q = several-over (of-kind r severalKind e) q
   range-over otherKind e q = absurd (true-not-false refl q)
 
   -- And one that holds.
-  abbrev Fits : ℕ → ℕ → Type 0
+  abbrev pub Fits : ℕ → ℕ → Type 0
   Fits most used = (r .count ≤ most) × ((i : ℕ) → used ≤ i → fieldNumbered r i ≡ 0)
 
   up-to-fits : (most used : ℕ) → (leb (r .count) most && zeros (drop used (r .fields))) ≡ true → Fits most used
@@ -188,6 +226,12 @@ module _ (r : Record) where
       let z = equal (r .count) 0 (c .0) in
       ((omega arith, unused-true 1 (p .1)), at-most (fieldA r) 63 (c .1))
 
+  pub several-fits : inRange severalKind r ≡ true → Fits 4 (3 + r .count) × (1 ≤ r .count)
+  several-fits q =
+      let p = both-true (leb 1 (r .count) && leb (r .count) 4) (zeros (drop (3 + r .count) (r .fields))) q in
+      let c = both-true (leb 1 (r .count)) (leb (r .count) 4) (p .0) in
+      ((at-most (r .count) 4 (c .1), unused-true (3 + r .count) (p .1)), at-most 1 (r .count) (c .0))
+
   ranged-at : (n : ℕ) → r .kind ≡ n → inRange (kindOfRecord r) r ≡ true → inRange (kindNumbered n) r ≡ true
   ranged-at n e q = subst (λ (k : Kind). inRange k r ≡ true) (ap kindNumbered e) q
 
@@ -198,9 +242,11 @@ module _ (r : Record) where
   range-fits (ofInput e) q = up-to-fits 7 (r .count) (ranged-at 4 e q)
   range-fits (ofResolve e) q = step-fits 4 (ranged-at 5 e q)
   range-fits (ofFactor e) q = step-fits 3 (ranged-at 6 e q)
+  range-fits (ofSeveral e) q = several-fits (ranged-at 7 e q) .0
 
   not-in-range : OutOfRange r → ¬ (inRange (kindOfRecord r) r ≡ true)
   not-in-range (countOver a l) q = let z = range-fits a q .0 in omega arith
+  not-in-range (noRightLiteral e l) q = let z = several-fits (ranged-at 7 e q) .1 in omega arith
   not-in-range (variableOver e l) q = let z = variable-fits (ranged-at 2 e q) .1 in omega arith
   not-in-range (unusedField a i l n) q = n (range-fits a q .1 i l)
 

@@ -7,7 +7,7 @@ use native.Mathlib.Omega.{arith}
 use lib.Dec.{eqb, leb, ltb, ltb→lt, lt→ltb}
 use lib.ListN.{length, take, drop, length-drop}
 use lib.Seq.{drop-drop}
-use Rattle.record.specs.Record.{Record, records, otherKind, Kind, symbolKind, variableKind, applicationKind, inputKind, resolveKind, factorKind, fieldA}
+use Rattle.record.specs.Record.{Record, records, otherKind, Kind, symbolKind, variableKind, applicationKind, inputKind, resolveKind, factorKind, severalKind, fieldA}
 use Rattle.record.proofs.Bytes.{file-length, file-records}
 use Rattle.record.proofs.Records.{Shaped, records-length, records-shaped}
 use Rattle.unification.specs.Repeated.{earliestRow}
@@ -157,6 +157,7 @@ module _ (S : State) (k : ℕ) (r : Record) where
   kind-alike applicationKind = application-alike
   kind-alike inputKind = input-alike
   kind-alike resolveKind = refl
+  kind-alike severalKind = refl
   kind-alike factorKind = refl
   kind-alike otherKind = refl
 
@@ -172,6 +173,7 @@ module _ (S : State) (k : ℕ) (r : Record) where
       ∙ ap suc (first-length (earliestOf S) (r .count) (drop 1 (r .fields)) ∙ length-drop 1 (r .fields)) ∙ omega arith
   changed-seven e inputKind = first-length (replacedNumber ws) (r .count) (r .fields) ∙ e
   changed-seven e resolveKind = e
+  changed-seven e severalKind = e
   changed-seven e factorKind = e
   changed-seven e otherKind = e
 

@@ -7,7 +7,7 @@ use Prim.Native.Nat.{ℕ, suc, _<_}
 use native.Mathlib.Omega.{arith}
 use lib.Dec.{eqb}
 use lib.ListN.{length}
-use Rattle.record.specs.Record.{pick, Record, otherKind, Kind, symbolKind, variableKind, applicationKind, inputKind, resolveKind, factorKind, fieldA, fieldB, fieldC, fieldD}
+use Rattle.record.specs.Record.{pick, Record, otherKind, Kind, symbolKind, variableKind, applicationKind, inputKind, resolveKind, factorKind, severalKind, fieldA, fieldB, fieldC}
 use Rattle.unification.specs.Repeated.{IsEarliest}
 use Rattle.unification.specs.Row.{variable, Row, application, rowAt}
 use Rattle.unification.proofs.Lists.{Each, each-more}
@@ -15,10 +15,10 @@ use Rattle.unification.proofs.Repeats.{earliest-more, earliest-equal, all-earli
 use Rattle.unification.proofs.Tests.{both-true}
 use Rattle.derivation.specs.Derivation.{input, Literal, RowLiteral, inputLiterals, Derivation, resolve, factor}
 use Rattle.derivation.proofs.Known.{KnownRows, known-more}
-use Rattle.verdict.specs.Refusal.{kindOfRecord, argumentRows, hasArity, allBelow, leftOf, rightOf, deletedOf}
+use Rattle.verdict.specs.Refusal.{kindOfRecord, argumentRows, hasArity, allBelow, leftOf, rightNumbers, rightOf, deletedOf}
 use Rattle.verdict.specs.State.{State, emptyState, withRow, withClause, rowsOf, derivations, clauseOf, arityOf, earliestOf, recordOfRow, nextClause}
-use Rattle.verdict.specs.Step.{stands, step, unifyResolve, unifyFactor, newApplication, newLiterals, enter}
-use Rattle.verdict.proofs.Inversions.{tests-passed, stands-same, step-stands, named-stands, literal-named, all-below, rows-below, not-equal, entry-each, clause-added, Passed}
+use Rattle.verdict.specs.Step.{stands, step, unifyResolve, unifyFactor, newApplication, newLiterals, enterResolvent, enter}
+use Rattle.verdict.proofs.Inversions.{tests-passed, stands-same, step-stands, named-stands, literal-named, literals-named, all-below, rows-below, not-equal, entry-each, clause-added, Passed}
 
 -- The arguments of a row after the rows ws.
 abbrev pub ArgumentsEarliest : List Row → Row → Type 0
@@ -71,6 +71,13 @@ module _ (S : State) (k : ℕ) (r : Record) (T : State) (H : Shared S) where
   parent-shared : (c : ℕ) (d : Derivation) → clauseOf S c ≡ some d → KnownRows (IsEarliest (rowsOf S)) d
   parent-shared c d q = entry-each (KnownRows (IsEarliest ws)) (derivations S) (H .clausesShared) c d q
 
+  resolvent-shared : (kind : Kind) → enterResolvent S k kind r ≡ stands T → Shared T
+  resolvent-shared kind q =
+      let s = named-stands _ (leftOf S r) (rightOf S kind r) T q in
+      let c = clause-added S k (resolve (nextClause S) (s .0 .0) (fieldB r) (s .1 .0) (rightNumbers kind r)) (unifyResolve S (s .0) (s .1)) T (s .4) in
+      subst Shared (c .3) (clause-shared (resolve (nextClause S) (s .0 .0) (fieldB r) (s .1 .0) (rightNumbers kind r) (c .0))
+      (parent-shared (fieldA r) (s .0 .0) (literal-named S (fieldA r) (fieldB r) (s .0) (s .2) .0), parent-shared (fieldC r) (s .1 .0) (literals-named S (fieldC r) (rightNumbers kind r) (s .1) (s .3) .0)))
+
   entered-shared : (kind : Kind) → Passed S kind r → enter S k kind r ≡ stands T → Shared T
   entered-shared symbolKind a q = subst Shared (stands-same q) (record { rowsShared = H .rowsShared; clausesShared = H .clausesShared })
   entered-shared variableKind a q = subst Shared (stands-same q) (row-shared (recordOfRow S k (variable (fieldA r))) (variable (fieldA r)) tt)
@@ -78,11 +85,8 @@ module _ (S : State) (k : ℕ) (r : Record) (T : State) (H : Shared S) where
       let t = both-true (hasArity (r .count) (arityOf S (fieldA r))) (allBelow (length ws) (argumentRows r)) (a .there) in
       subst Shared (stands-same q) (row-shared (recordOfRow S k (newApplication S r)) (newApplication S r) (all-earliest ws (argumentRows r) (all-below (length ws) (argumentRows r) (t .1))))
   entered-shared inputKind a q = subst Shared (stands-same q) (clause-shared (input (nextClause S) (newLiterals S r)) (literals-earliest (inputLiterals r) (rows-below (length ws) (inputLiterals r) (a .there))))
-  entered-shared resolveKind a q =
-      let s = named-stands _ (leftOf S r) (rightOf S r) T q in
-      let c = clause-added S k (resolve (nextClause S) (s .0 .0) (fieldB r) (s .1 .0) (fieldD r)) (unifyResolve S (s .0) (s .1)) T (s .4) in
-      subst Shared (c .3) (clause-shared (resolve (nextClause S) (s .0 .0) (fieldB r) (s .1 .0) (fieldD r) (c .0))
-      (parent-shared (fieldA r) (s .0 .0) (literal-named S (fieldA r) (fieldB r) (s .0) (s .2) .0), parent-shared (fieldC r) (s .1 .0) (literal-named S (fieldC r) (fieldD r) (s .1) (s .3) .0)))
+  entered-shared resolveKind a q = resolvent-shared resolveKind q
+  entered-shared severalKind a q = resolvent-shared severalKind q
   entered-shared factorKind a q =
       let s = named-stands _ (leftOf S r) (deletedOf S r) T q in
       let c = clause-added S k (factor (nextClause S) (s .0 .0) (fieldB r) (fieldC r)) (unifyFactor S (s .0) (s .1)) T (s .4) in

@@ -7,19 +7,22 @@ use Prim.Native.Nat.{ℕ, _≤_}
 use native.Mathlib.Omega.{arith}
 use lib.Dec.{eqb, eqb→eq}
 use lib.ListN.{length, length-map, length-take}
-use Rattle.record.specs.Record.{pick, Record, otherKind, Kind, symbolKind, variableKind, applicationKind, inputKind, resolveKind, factorKind, fieldA, fieldB, fieldC, fieldD}
+use Rattle.record.specs.Record.{pick, Record, otherKind, Kind, symbolKind, variableKind, applicationKind, inputKind, resolveKind, factorKind, severalKind, fieldA, fieldB, fieldC}
 use Rattle.unification.proofs.Tests.{to-T, some-not-none, some-injective}
 use Rattle.derivation.specs.Derivation.{input, Derivation, resolve, factor, clauseNumber}
-use Rattle.verdict.specs.Refusal.{tests, kindOfRecord, leftOf, rightOf, deletedOf}
+use Rattle.verdict.specs.Refusal.{tests, kindOfRecord, leftOf, rightNumbers, rightOf, deletedOf}
 use Rattle.verdict.specs.State.{State, entry, derivations, nextClause}
-use Rattle.verdict.specs.Step.{stands, step, unifyResolve, unifyFactor, newLiterals, enter}
-use Rattle.verdict.proofs.Inversions.{tests-passed, stands-same, step-stands, named-stands, clause-added, Passed}
+use Rattle.verdict.specs.Step.{stands, step, unifyResolve, unifyFactor, newLiterals, enterResolvent, enter}
+use Rattle.verdict.proofs.Inversions.{tests-passed, stands-same, step-stands, named-stands, clause-added, PassedResolve, Passed}
+use Rattle.verdict.proofs.RangeTests.{IsResolve, on-one, on-several}
+use Rattle.verdict.proofs.StepTests.{few-rights}
 use Rattle.verdict.proofs.Steps.{named-resolve, named-factor}
 
 -- Clause d over the clauses before it.
 abbrev pub SourceOf : List Derivation → Derivation → Type 0
 SourceOf older (input number ls) = (number ≡ length older) × (length ls ≤ 7)
-SourceOf older (resolve number l a r b bs) = (number ≡ length older) × (entry older (clauseNumber l) ≡ some l) × (entry older (clauseNumber r) ≡ some r)
+SourceOf older (resolve number l a r ns bs) =
+    (number ≡ length older) × (entry older (clauseNumber l) ≡ some l) × (entry older (clauseNumber r) ≡ some r) × (1 ≤ length ns) × (length ns ≤ 4)
 SourceOf older (factor number d a b bs) = (number ≡ length older) × (entry older (clauseNumber d) ≡ some d)
 
 abbrev pub Sourced : List Derivation → Type 0
@@ -49,7 +52,7 @@ earlier-length {A} (k ∷ ks) n c q = try (eqb n (length ks)) refl q (λ p. earl
 
 own-number : (older : List Derivation) (c : Derivation) → SourceOf older c → clauseNumber c ≡ length older
 own-number older (input number ls) s = s .0
-own-number older (resolve number l a r b bs) s = s .0
+own-number older (resolve number l a r ns bs) s = s .0
 own-number older (factor number d a b bs) s = s .0
 
 -- A clause's number is the one at which it stands.
@@ -66,16 +69,21 @@ module _ (S : State) (k : ℕ) (rec : Record) (T : State) (seven : length (rec .
   few : length (newLiterals S rec) ≤ 7
   few = rw length-map (rw length-map (rw length-take (omega (arith, seven))))
 
+  resolvent-entered : (kind : Kind) → IsResolve kind → PassedResolve S kind rec → enterResolvent S k kind rec ≡ stands T → Sourced (derivations S) → Sourced (derivations T)
+  resolvent-entered kind i a q h =
+      let s = named-stands _ (leftOf S rec) (rightOf S kind rec) T q in
+      let N = named-resolve S kind rec (s .0) (s .1) (s .2) (s .3) a in
+      let c = clause-added S k (resolve (nextClause S) (s .0 .0) (fieldB rec) (s .1 .0) (rightNumbers kind rec)) (unifyResolve S (s .0) (s .1)) T (s .4) in
+      let f = few-rights S rec seven kind i (a .ranged) in
+      subst Kept (c .3) ((refl, at-own h (fieldA rec) (s .0 .0) (N .isLeft), at-own h (fieldC rec) (s .1 .0) (N .isRight), f .0, f .1), h)
+
   source-entered : (kind : Kind) → Passed S kind rec → enter S k kind rec ≡ stands T → Sourced (derivations S) → Sourced (derivations T)
   source-entered symbolKind a q h = subst Kept (stands-same q) h
   source-entered variableKind a q h = subst Kept (stands-same q) h
   source-entered applicationKind a q h = subst Kept (stands-same q) h
   source-entered inputKind a q h = subst Kept (stands-same q) ((refl, few), h)
-  source-entered resolveKind a q h =
-      let s = named-stands _ (leftOf S rec) (rightOf S rec) T q in
-      let N = named-resolve S rec (s .0) (s .1) (s .2) (s .3) a in
-      let c = clause-added S k (resolve (nextClause S) (s .0 .0) (fieldB rec) (s .1 .0) (fieldD rec)) (unifyResolve S (s .0) (s .1)) T (s .4) in
-      subst Kept (c .3) ((refl, at-own h (fieldA rec) (s .0 .0) (N .isLeft), at-own h (fieldC rec) (s .1 .0) (N .isRight)), h)
+  source-entered resolveKind a q h = resolvent-entered resolveKind on-one a q h
+  source-entered severalKind a q h = resolvent-entered severalKind on-several a q h
   source-entered factorKind a q h =
       let s = named-stands _ (leftOf S rec) (deletedOf S rec) T q in
       let N = named-factor S rec (s .0) (s .1) (s .2) (s .3) a in

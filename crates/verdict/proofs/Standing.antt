@@ -11,22 +11,23 @@ use lib.Dec.{eqb, eqb→eq, lit≤}
 use lib.ListN.{length}
 use Rattle.unification.specs.Environment.{follow, Binding, Environment, Ends, viewRow}
 use Rattle.unification.specs.Row.{variable, Row, application, Expression, Variable, rowAt}
-use Rattle.unification.specs.Unification.{unify, mostWork, mostBindings, mostLinks, Outcome, unifying, noRoom}
+use Rattle.unification.specs.Unification.{unify, mostWork, mostBindings, mostLinks, Outcome, Pair, unifying, noRoom}
 use Rattle.unification.proofs.Chains.{Short, short-le, ChainEnd, chain-run}
-use Rattle.unification.proofs.Lists.{Each, each-more}
+use Rattle.unification.proofs.Lists.{Each, each-map, each-more}
 use Rattle.unification.proofs.Meaning.{follow-unb, follow-appl}
+use Rattle.unification.proofs.Ranges.{KeptPairs}
 use Rattle.unification.proofs.Rows.{Below, RowOk, RowsOk, eqb-below, row-below}
 use Rattle.unification.proofs.Stability.{follow-agree}
 use Rattle.unification.proofs.Tests.{to-T}
-use Rattle.derivation.specs.Derivation.{literals, input, Literal, Derivation, numbered, raise, maximumIndex, ownBindings, joined, lookup, Use, uses}
+use Rattle.derivation.specs.Derivation.{literals, input, Literal, Derivation, numbered, numberedAll, pairsWith, maximumIndex, ownBindings, joined, lookup, Use, uses}
 use Rattle.derivation.proofs.Chains.{short-joined}
-use Rattle.derivation.proofs.Known.{Under, Known, KnownRows, KnownEnvironment, known-numbered, known-joined, known-variable, known-arguments, known-lookup, valid-stable, known-more}
-use Rattle.derivation.proofs.Literals.{leb-false-lt}
-use Rattle.derivation.proofs.Validity.{Valid, lookup-in}
+use Rattle.derivation.proofs.Known.{Under, Known, KnownLiteral, KnownRows, KnownEnvironment, known-literals, known-numbered, known-joined, known-variable, known-arguments, known-lookup, valid-stable, known-more}
+use Rattle.derivation.proofs.Literals.{each-numbered-all, leb-false-lt}
+use Rattle.derivation.proofs.Validity.{Valid, pairs-kept, lookup-in}
 use Rattle.verdict.specs.Demands.{InputsOf}
 use Rattle.verdict.specs.Refusal.{mostLiterals, mostIndex}
 use Rattle.verdict.specs.State.{arities, State, emptyState, withSymbol, withRow, withClause, entry, rowsOf, derivations, arityOf, clauseOf, rowOf, held}
-use Rattle.verdict.specs.Step.{unifyResolve, unifyFactor}
+use Rattle.verdict.specs.Step.{atoms, unifyResolve, unifyFactor}
 use Rattle.verdict.proofs.Inversions.{not-equal, entry-more, entry-each}
 
 abbrev pub ChainsEnd : List Row → ℕ → Environment → Type 0
@@ -191,20 +192,21 @@ module _ (n : ℕ) (S : State) (H : StateOk n S) where
   abbrev pub ChainsAfter : Environment → Outcome → Type 0
   ChainsAfter base o = ChainEnd (λ r. r < length (rowsOf S)) (Known (Under (length (rowsOf S)))) (rowOf S) (known-variable (Under (length (rowsOf S))) (rowOf S) (rowOf S) (λ r l. refl) below) (known-arguments (Under (length (rowsOf S))) (rowOf S) (rowOf S) (λ r l. refl) below) mostLinks (noRoom (held S)) base (held S) room o
 
-  unify-chains : (base : Environment) (e d : Expression) → ChainsEnd ws (held S) base → KnownEnvironment (Under (length ws)) base → Known (Under (length ws)) e → Known (Under (length ws)) d → ChainsAfter base (unify row (held S) base e d)
-  unify-chains base e d c κ a b =
-      chain-run (λ r. r < length ws) (Known (Under (length ws))) row (known-variable (Under (length ws)) row row (λ r l. refl) below) (known-arguments (Under (length ws)) row row (λ r l. refl) below) mostLinks (noRoom (held S)) base (held S) room mostWork (unifying [] ((e, d) ∷ [])) (κ, (a, b, tt))
+  unify-chains : (base : Environment) (ps : List Pair) → ChainsEnd ws (held S) base → KnownEnvironment (Under (length ws)) base → KeptPairs (Known (Under (length ws))) (Known (Under (length ws))) ps → ChainsAfter base (unify row (held S) base ps)
+  unify-chains base ps c κ a =
+      chain-run (λ r. r < length ws) (Known (Under (length ws))) row (known-variable (Under (length ws)) row row (λ r l. refl) below) (known-arguments (Under (length ws)) row row (λ r l. refl) below) mostLinks (noRoom (held S)) base (held S) room mostWork (unifying [] ps) (κ, a)
       (rw add-zero (c, omega (arith, H .heldOk, links-enough)))
 
-  pub resolve-chains : (x y : Derivation × Literal) → InOrder (rowsOf S) (held S) (x .0) → InOrder (rowsOf S) (held S) (y .0) → (a b : ℕ) → numbered (literals (x .0)) a ≡ some (x .1) → numbered (literals (y .0)) b ≡ some (y .1)
+  pub resolve-chains : (x : Derivation × Literal) (y : Derivation × List Literal) → InOrder (rowsOf S) (held S) (x .0) → InOrder (rowsOf S) (held S) (y .0) → (a : ℕ) (ns : List ℕ) → numbered (literals (x .0)) a ≡ some (x .1) → numberedAll (literals (y .0)) ns ≡ some (y .1)
       → ChainsAfter (joined (maximumIndex (x .0)) (lookup (x .0)) (lookup (y .0))) (unifyResolve S x y)
-  resolve-chains x y X Y a b p q =
-      unify-chains (joined (maximumIndex (x .0)) (lookup (x .0)) (lookup (y .0))) (x .1 .1) (raise (maximumIndex (x .0)) (y .1 .1))
+  resolve-chains x y X Y a ns p q =
+      unify-chains (joined (maximumIndex (x .0)) (lookup (x .0)) (lookup (y .0))) (pairsWith (maximumIndex (x .0)) (x .1 .1) (atoms (y .1)))
       (short-joined (λ r. r < length ws) row (maximumIndex (x .0)) (maximumIndex (y .0)) (lookup (x .0)) (lookup (y .0)) (lookup-in row (x .0) (X .valid)) (lookup-in row (y .0) (Y .valid)) (held S) (X .chains) (Y .chains))
       (known-joined (Under (length ws)) (maximumIndex (x .0)) (lookup (x .0)) (lookup (y .0)) (known-of (x .0) X) (known-of (y .0) Y))
-      (known-numbered (Under (length ws)) (x .0) (X .known) a (x .1) p) (known-numbered (Under (length ws)) (y .0) (Y .known) b (y .1) q)
+      (pairs-kept (Known (Under (length ws))) (Known (Under (length ws))) (maximumIndex (x .0)) (x .1 .1) (atoms (y .1)) (known-numbered (Under (length ws)) (x .0) (X .known) a (x .1) p)
+      (each-map (KnownLiteral (Under (length ws))) (λ (d : Expression). d .0 < length ws) (λ l. l .1) (λ l k. k) (y .1) (each-numbered-all (KnownLiteral (Under (length ws))) (literals (y .0)) ns (y .1) q (known-literals (Under (length ws)) (y .0) (Y .known)))))
 
   pub factor-chains : (x y : Derivation × Literal) → InOrder (rowsOf S) (held S) (x .0) → (a b : ℕ) → numbered (literals (x .0)) a ≡ some (x .1) → numbered (literals (x .0)) b ≡ some (y .1) → ChainsAfter (lookup (x .0)) (unifyFactor S x y)
   factor-chains x y X a b p q =
-      unify-chains (lookup (x .0)) (x .1 .1) (y .1 .1) (X .chains) (known-of (x .0) X)
-      (known-numbered (Under (length ws)) (x .0) (X .known) a (x .1) p) (known-numbered (Under (length ws)) (x .0) (X .known) b (y .1) q)
+      unify-chains (lookup (x .0)) ((x .1 .1, y .1 .1) ∷ []) (X .chains) (known-of (x .0) X)
+      (known-numbered (Under (length ws)) (x .0) (X .known) a (x .1) p, known-numbered (Under (length ws)) (x .0) (X .known) b (y .1) q, tt)

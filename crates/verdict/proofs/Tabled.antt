@@ -15,7 +15,7 @@ use Rattle.unification.specs.Environment.{Binding}
 use Rattle.unification.specs.Nodes.{part}
 use Rattle.unification.proofs.Tests.{to-T, some-not-none, some-injective}
 use Rattle.derivation.specs.Derivation.{input, RowLiteral, literalOf, Derivation, resolve, factor, ownBindings, clauseNumber}
-use Rattle.derivation.specs.Stored.{literalNumber, cellsOfOrigin, originList, originCode, originNumbers, literalsCell, Cells, Stored, storedInput, storedResolve, storedFactor}
+use Rattle.derivation.specs.Stored.{literalNumber, cellsOfOrigin, originList, originCode, rightCells, originNumbers, literalsCell, Cells, Stored, storedInput, storedResolve, storedFactor}
 use Rattle.verdict.specs.State.{entry, bindingsOf}
 use Rattle.verdict.specs.Tables.{cellsOfClause, clauseCells, cellsOfBindings, bindingCells}
 use Rattle.verdict.proofs.Acceptance.{cells-length}
@@ -153,12 +153,25 @@ seven-numbers xs l = ext-getD 0 (getD xs 0 0 ∷ getD xs 1 0 ∷ getD xs 2 0 ∷
     at (suc (suc (suc (suc (suc (suc zero)))))) h = refl
     at (suc (suc (suc (suc (suc (suc (suc i))))))) h = absurd (omega arith)
 
+four-numbers : (xs : List ℕ) → length xs ≡ 4 → getD xs 0 0 ∷ getD xs 1 0 ∷ getD xs 2 0 ∷ getD xs 3 0 ∷ [] ≡ xs
+four-numbers xs l = ext-getD 0 (getD xs 0 0 ∷ getD xs 1 0 ∷ getD xs 2 0 ∷ getD xs 3 0 ∷ []) xs (sym l) at
+  where
+    at : (i : ℕ) → i < 4 → getD (getD xs 0 0 ∷ getD xs 1 0 ∷ getD xs 2 0 ∷ getD xs 3 0 ∷ []) i 0 ≡ getD xs i 0
+    at zero h = refl
+    at (suc zero) h = refl
+    at (suc (suc zero)) h = refl
+    at (suc (suc (suc zero))) h = refl
+    at (suc (suc (suc (suc i)))) h = absurd (omega arith)
+
 -- Every clause has eight cells in the table of origins.
 pub eight-cells : (older : List Derivation) (d : Derivation) → SourceOf older d → length (cellsOfOrigin d) ≡ 8
 eight-cells older (input number ls) s =
     ap suc (length-append (map literalNumber ls) (replicate (7 - length ls) 0) ∙ omega (arith, length-map ls literalNumber, length-replicate {A = ℕ} (7 - length ls) 0, s .1))
 eight-cells older (factor number c a b bs) s = refl
-eight-cells older (resolve number l a r b bs) s = refl
+eight-cells older (resolve number l a r ns bs) s =
+    let f = s .4 in
+    let n : length (ns ++ replicate (4 - length ns) 0) ≡ 4 = length-append ns (replicate (4 - length ns) 0) ∙ omega (arith, length-replicate {A = ℕ} (4 - length ns) 0) in
+    ap (λ (m : ℕ). suc (suc (suc (suc m)))) n
 
 pub origin-length : (ks : List Derivation) → Sourced ks → length (originList ks) ≡ 8 * length ks
 origin-length [] G = refl
@@ -249,18 +262,21 @@ module _ (cs : List (ℕ × Derivation)) (H : Sourced (map (λ (c : ℕ × Deriv
       (storedInput (code-there n (input number ls) q)
       (ap₂ (λ (m : ℕ) (xs : List ℕ). map literalOf (take m xs)) count all ∙ ap (map literalOf) (take-append-seam (map literalNumber ls) (replicate (7 - length ls) 0)) ∙ literals-back ls)
       (subst (λ (m : ℕ). Cells tableC tableB n (input m ls)) e c))
-  stored-clause (resolve number l a r b bs) n q =
-      let s = source-of ds H n (resolve number l a r b bs) q in
-      let e : number ≡ n = number-of ds H n (resolve number l a r b bs) q in
-      let w = entry-numbered cs n (resolve number l a r b bs) q in
-      let x = before-entry ds n (clauseNumber l) (resolve number l a r b bs) l q (s .1) in
-      let y = before-entry ds n (clauseNumber r) (resolve number l a r b bs) r q (s .2) in
-      let at : (i : ℕ) → i < 7 → part tableO n i ≡ getD (clauseNumber l ∷ a ∷ clauseNumber r ∷ b ∷ 0 ∷ 0 ∷ 0 ∷ []) i 0 = λ i k. number-there n i (resolve number l a r b bs) k q in
-      subst (λ (m : ℕ). Stored tableO tableC tableB n (resolve m l a r b bs)) (sym e)
-      (storedResolve (code-there n (resolve number l a r b bs) q)
+  stored-clause (resolve number l a r ns bs) n q =
+      let s = source-of ds H n (resolve number l a r ns bs) q in
+      let e : number ≡ n = number-of ds H n (resolve number l a r ns bs) q in
+      let w = entry-numbered cs n (resolve number l a r ns bs) q in
+      let x = before-entry ds n (clauseNumber l) (resolve number l a r ns bs) l q (s .1) in
+      let y = before-entry ds n (clauseNumber r) (resolve number l a r ns bs) r q (s .2) in
+      let at : (i : ℕ) → i < 7 → part tableO n i ≡ getD (clauseNumber l ∷ a ∷ clauseNumber r ∷ (ns ++ replicate (4 - length ns) 0)) i 0 = λ i k. number-there n i (resolve number l a r ns bs) k q in
+      let numbers : List ℕ = ns ++ replicate (4 - length ns) 0 in
+      let four : length (ns ++ replicate (4 - length ns) 0) ≡ 4 = length-append ns (replicate (4 - length ns) 0) ∙ omega (arith, length-replicate {A = ℕ} (4 - length ns) 0, s .4) in
+      let rights : rightCells tableO n ≡ ns ++ replicate (4 - length ns) 0 = (λ i. at 3 (omega arith) i ∷ at 4 (omega arith) i ∷ at 5 (omega arith) i ∷ at 6 (omega arith) i ∷ []) ∙ four-numbers (ns ++ replicate (4 - length ns) 0) four in
+      subst (λ (m : ℕ). Stored tableO tableC tableB n (resolve m l a r ns bs)) (sym e)
+      (storedResolve (code-there n (resolve number l a r ns bs) q) (s .3) (s .4)
       (subst (λ (m : ℕ). m < n) (sym (at 0 (omega arith))) (x .1)) (subst (λ (m : ℕ). Stored tableO tableC tableB m l) (sym (at 0 (omega arith))) (stored-clause l (clauseNumber l) (x .0))) (at 1 (omega arith))
-      (subst (λ (m : ℕ). m < n) (sym (at 2 (omega arith))) (y .1)) (subst (λ (m : ℕ). Stored tableO tableC tableB m r) (sym (at 2 (omega arith))) (stored-clause r (clauseNumber r) (y .0))) (at 3 (omega arith))
-      (subst (λ (m : ℕ). Cells tableC tableB n (resolve m l a r b bs)) e (cells-there n (w .0, resolve number l a r b bs) (w .1))))
+      (subst (λ (m : ℕ). m < n) (sym (at 2 (omega arith))) (y .1)) (subst (λ (m : ℕ). Stored tableO tableC tableB m r) (sym (at 2 (omega arith))) (stored-clause r (clauseNumber r) (y .0))) rights
+      (subst (λ (m : ℕ). Cells tableC tableB n (resolve m l a r ns bs)) e (cells-there n (w .0, resolve number l a r ns bs) (w .1))))
   stored-clause (factor number d a b bs) n q =
       let s = source-of ds H n (factor number d a b bs) q in
       let e : number ≡ n = number-of ds H n (factor number d a b bs) q in

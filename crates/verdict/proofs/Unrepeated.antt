@@ -7,7 +7,7 @@ use Prim.Native.Nat.{ℕ, suc, _<_}
 use native.Mathlib.Omega.{arith}
 use lib.Dec.{ltb, ltb→lt}
 use lib.ListN.{length}
-use Rattle.record.specs.Record.{Record, otherKind, Kind, symbolKind, variableKind, applicationKind, inputKind, resolveKind, factorKind, fieldA}
+use Rattle.record.specs.Record.{Record, otherKind, Kind, symbolKind, variableKind, applicationKind, inputKind, resolveKind, factorKind, severalKind, fieldA}
 use Rattle.unification.specs.Repeated.{earliestEqual, orSame, earliestRow}
 use Rattle.unification.specs.Row.{variable, Row, application, rowAt}
 use Rattle.unification.proofs.Repeats.{row-old, row-new, earliest-found, earliest-itself, earliest-absent}
@@ -33,6 +33,7 @@ distinct-with ws r applicationKind d = distinct-fewer (application (fieldA r) (a
 distinct-with ws r symbolKind d = d
 distinct-with ws r inputKind d = d
 distinct-with ws r resolveKind d = d
+distinct-with ws r severalKind d = d
 distinct-with ws r factorKind d = d
 distinct-with ws r otherKind d = d
 
@@ -85,6 +86,7 @@ module _ (S : State) (k : ℕ) where
   entered-as-written r inputKind d = ap (λ (ls : List RowLiteral). stands (withClause S k (input (nextClause S) ls))) (own-literals (rowsOf S) d (inputLiterals r))
   entered-as-written r symbolKind d = refl
   entered-as-written r resolveKind d = refl
+  entered-as-written r severalKind d = refl
   entered-as-written r factorKind d = refl
   entered-as-written r otherKind d = refl
 
@@ -98,6 +100,7 @@ module _ (S : State) (k : ℕ) where
   rows-as-written r symbolKind d = refl
   rows-as-written r inputKind d = refl
   rows-as-written r resolveKind d = refl
+  rows-as-written r severalKind d = refl
   rows-as-written r factorKind d = refl
   rows-as-written r otherKind d = refl
 

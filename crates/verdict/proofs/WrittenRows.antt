@@ -6,7 +6,7 @@ use Prim.Native.Nat.{ℕ, suc, _<_}
 use native.Mathlib.Omega.{arith}
 use lib.Dec.{eqb, ltb, ltb→lt}
 use lib.ListN.{length}
-use Rattle.record.specs.Record.{pick, Record, otherKind, Kind, symbolKind, variableKind, applicationKind, inputKind, resolveKind, factorKind, fieldA, fieldB, fieldC, fieldD}
+use Rattle.record.specs.Record.{pick, Record, otherKind, Kind, symbolKind, variableKind, applicationKind, inputKind, resolveKind, factorKind, severalKind, fieldA, fieldB, fieldC}
 use Rattle.unification.specs.Repeated.{IsEarliest, earliestRow}
 use Rattle.unification.specs.Row.{variable, Row, application, rowAt, argumentTerms}
 use Rattle.unification.specs.Term.{Term, app, cons}
@@ -15,10 +15,10 @@ use Rattle.unification.proofs.Repeats.{earliest-equal, earliest-itself, earlies
 use Rattle.unification.proofs.Rows.{eqb-below, below-other}
 use Rattle.unification.proofs.Tests.{to-T}
 use Rattle.derivation.specs.Derivation.{resolve, factor}
-use Rattle.verdict.specs.Refusal.{Reason, kindOfRecord, argumentRows, leftOf, rightOf, deletedOf}
+use Rattle.verdict.specs.Refusal.{Reason, kindOfRecord, argumentRows, leftOf, rightNumbers, rightOf, deletedOf}
 use Rattle.verdict.specs.Repeats.{withWritten, writtenAfter, numberTerm, termByNumbers}
 use Rattle.verdict.specs.State.{State, rowsOf, nextClause}
-use Rattle.verdict.specs.Step.{stands, refused, Result, step, unifyResolve, unifyFactor, newApplication, enter, read, allStand, refusedAt}
+use Rattle.verdict.specs.Step.{stands, refused, Result, step, unifyResolve, unifyFactor, newApplication, enterResolvent, enter, read, allStand, refusedAt}
 use Rattle.verdict.proofs.Inversions.{stands-same, step-stands, named-stands, clause-added, not-below, never-both}
 use Rattle.verdict.proofs.Reading.{ending-stands}
 use Rattle.verdict.proofs.Shared.{ArgumentsEarliest, SharedRows, Shared, arguments-at, step-shared}
@@ -107,18 +107,23 @@ rowsEntered S applicationKind r = newApplication S r ∷ rowsOf S
 rowsEntered S symbolKind r = rowsOf S
 rowsEntered S inputKind r = rowsOf S
 rowsEntered S resolveKind r = rowsOf S
+rowsEntered S severalKind r = rowsOf S
 rowsEntered S factorKind r = rowsOf S
 rowsEntered S otherKind r = rowsOf S
+
+resolvent-rows : (S : State) (k : ℕ) (r : Record) (T : State) (kind : Kind) → enterResolvent S k kind r ≡ stands T → rowsOf T ≡ rowsOf S
+resolvent-rows S k r T kind q =
+    let s = named-stands _ (leftOf S r) (rightOf S kind r) T q in
+    let c = clause-added S k (resolve (nextClause S) (s .0 .0) (fieldB r) (s .1 .0) (rightNumbers kind r)) (unifyResolve S (s .0) (s .1)) T (s .4) in
+    sym (ap rowsOf (c .3))
 
 pub entered-rows : (S : State) (k : ℕ) (r : Record) (T : State) (kind : Kind) → enter S k kind r ≡ stands T → rowsOf T ≡ rowsEntered S kind r
 entered-rows S k r T symbolKind q = sym (ap rowsOf (stands-same q))
 entered-rows S k r T variableKind q = sym (ap rowsOf (stands-same q))
 entered-rows S k r T applicationKind q = sym (ap rowsOf (stands-same q))
 entered-rows S k r T inputKind q = sym (ap rowsOf (stands-same q))
-entered-rows S k r T resolveKind q =
-    let s = named-stands _ (leftOf S r) (rightOf S r) T q in
-    let c = clause-added S k (resolve (nextClause S) (s .0 .0) (fieldB r) (s .1 .0) (fieldD r)) (unifyResolve S (s .0) (s .1)) T (s .4) in
-    sym (ap rowsOf (c .3))
+entered-rows S k r T resolveKind q = resolvent-rows S k r T resolveKind q
+entered-rows S k r T severalKind q = resolvent-rows S k r T severalKind q
 entered-rows S k r T factorKind q =
     let s = named-stands _ (leftOf S r) (deletedOf S r) T q in
     let c = clause-added S k (factor (nextClause S) (s .0 .0) (fieldB r) (fieldC r)) (unifyFactor S (s .0) (s .1)) T (s .4) in
@@ -146,6 +151,7 @@ after-same S us r h A applicationKind = one-more (rowsOf S) us A (newApplication
 after-same S us r h A symbolKind = A
 after-same S us r h A inputKind = A
 after-same S us r h A resolveKind = A
+after-same S us r h A severalKind = A
 after-same S us r h A factorKind = A
 after-same S us r h A otherKind = A
 

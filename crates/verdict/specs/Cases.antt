@@ -11,7 +11,7 @@ use Prim.Native.String.{String}
 use lib.Dec.{eqb}
 use lib.ListN.{length, replicate}
 use Rattle.record.specs.Bytes.{fileBytes}
-use Rattle.record.specs.Record.{pick, Record, records}
+use Rattle.record.specs.Record.{pick, Record, records, resolveKind, severalKind}
 use Rattle.unification.specs.Unification.{mostWork, Outcome, unified, failed}
 use Rattle.derivation.specs.Derivation.{Literal, Derivation}
 use Rattle.verdict.specs.Readout.{readout}
@@ -90,15 +90,16 @@ abbrev pub workOf : Outcome → List ℕ
 workOf (unified bs left) = (mostWork - left) ∷ []
 workOf (failed f) = []
 
-abbrev pub workOn : (Derivation × Literal → Derivation × Literal → Outcome) → Option (Derivation × Literal) → Option (Derivation × Literal) → List ℕ
+abbrev pub workOn : {A B : Type 0} → (A → B → Outcome) → Option A → Option B → List ℕ
 workOn unify none y = []
 workOn unify (some x) none = []
 workOn unify (some x) (some y) = workOf (unify x y)
 
 abbrev pub stepWork : State → Record → List ℕ
 stepWork S r =
-    pick (eqb (r .kind) 5) (workOn (unifyResolve S) (leftOf S r) (rightOf S r))
-    (pick (eqb (r .kind) 6) (workOn (unifyFactor S) (leftOf S r) (deletedOf S r)) [])
+    pick (eqb (r .kind) 5) (workOn (unifyResolve S) (leftOf S r) (rightOf S resolveKind r))
+    (pick (eqb (r .kind) 6) (workOn (unifyFactor S) (leftOf S r) (deletedOf S r))
+    (pick (eqb (r .kind) 7) (workOn (unifyResolve S) (leftOf S r) (rightOf S severalKind r)) []))
 
 abbrev pub works : State → ℕ → List Record → List ℕ
 works S k [] = []
@@ -233,7 +234,7 @@ caseG = record {
 
 abbrev pub caseGBad : Case
 caseGBad = record {
-  file = fileBytes (inputClause [] ∷ recordOf 7 0 [] ∷ []);
+  file = fileBytes (inputClause [] ∷ recordOf 0 0 [] ∷ []);
   answer = 2 ∷ 3 ∷ 1 ∷ 0 ∷ 0 ∷ 1 ∷ 0 ∷ [];
   tables = holding [] [] (0 ∷ 0 ∷ 1 ∷ 0 ∷ 0 ∷ []) [];
   work = [];
@@ -282,6 +283,18 @@ caseRepeats = record {
   readout = lines ("accepted 2" ∷ "0 1 +s0(s1(v0.1))" ∷ "1 1 -s0(v0.1)" ∷ "2 2" ∷ []);
 }
 
+-- Document 02, Q-3: the rule RIF. -s0(s1) resolved with the first two literals of +s0(v0) +s0(v1) +s2(v0) in one step leaves +s2(s1). Each pair takes
+-- work 3, and both variables are bound to s1.
+abbrev pub caseSeveral : Case
+caseSeveral = record {
+  file = fileBytes (symbolOf 1 ∷ symbolOf 0 ∷ symbolOf 1 ∷ variableRow 0 ∷ variableRow 1 ∷ applicationRow 1 [] ∷ applicationRow 0 (0 ∷ []) ∷ applicationRow 0 (1 ∷ [])
+      ∷ applicationRow 0 (2 ∷ []) ∷ applicationRow 2 (0 ∷ []) ∷ inputClause (10 ∷ []) ∷ inputClause (7 ∷ 9 ∷ 13 ∷ []) ∷ recordOf 7 2 (0 ∷ 1 ∷ 1 ∷ 1 ∷ 2 ∷ []) ∷ []);
+  answer = 0 ∷ 0 ∷ 0 ∷ 3 ∷ 7 ∷ 3 ∷ 2 ∷ [];
+  tables = holding (0 ∷ 1 ∷ 2 ∷ []) (3 ∷ 4 ∷ 5 ∷ 6 ∷ 7 ∷ 8 ∷ 9 ∷ []) (10 ∷ 1 ∷ 1 ∷ 0 ∷ 0 ∷ 11 ∷ 3 ∷ 1 ∷ 0 ∷ 0 ∷ 12 ∷ 1 ∷ 2 ∷ 0 ∷ 2 ∷ []) (0 ∷ 2 ∷ 2 ∷ 1 ∷ 1 ∷ 2 ∷ 2 ∷ 1 ∷ []);
+  work = 6 ∷ [];
+  readout = lines ("open" ∷ "0 1 -s0(s1)" ∷ "1 1 +s0(v0.1) +s0(v1.1) +s2(v0.1)" ∷ "2 2 +s2(s1)" ∷ []);
+}
+
 -- K: -s0 +s0, 2 resolved with 1 on itself, and so on: twelve steps reach index 4,096, the thirteenth gives 9.
 abbrev pub caseK : Case
 caseK = record {
@@ -304,7 +317,7 @@ caseK = record {
 
 abbrev pub cases : List Case
 cases =
-    caseA ∷ caseB ∷ caseC ∷ caseLongest ∷ caseTooLong ∷ caseD ∷ caseE ∷ caseF ∷ caseG ∷ caseGBad ∷ caseH ∷ caseI ∷ caseJ ∷ caseRepeats ∷ caseK ∷ []
+    caseA ∷ caseB ∷ caseC ∷ caseLongest ∷ caseTooLong ∷ caseD ∷ caseE ∷ caseF ∷ caseG ∷ caseGBad ∷ caseH ∷ caseI ∷ caseJ ∷ caseRepeats ∷ caseSeveral ∷ caseK ∷ []
 
 -- The definitions give what is written.
 abbrev pub CasesHold : Type 0

@@ -3,17 +3,17 @@
 use mathlib.Core.Path.{_≡_}
 use mathlib.Core.Logic.{_⊎_}
 use mathlib.Core.Option.{some}
-use mathlib.Core.List.{List, [], _∷_}
+use mathlib.Core.List.{List, [], _∷_, map}
 use Prim.Native.Nat.{ℕ, _+_, _/_, _%_, _≤_, _<_}
 use lib.Dec.{leb}
-use lib.ListN.{length, getD}
+use lib.ListN.{length, getD, take, drop}
 use Rattle.record.specs.Record.{Record, fieldA, fieldB, fieldC, fieldD}
 use Rattle.unification.specs.Environment.{Environment}
 use Rattle.unification.specs.Failing.{Failing}
 use Rattle.unification.specs.Outlines.{ClashFound}
 use Rattle.unification.specs.Row.{variable}
 use Rattle.unification.specs.Unification.{mostLinks, Failure, clash, occurs, overwork, full, Pair, unifying}
-use Rattle.derivation.specs.Derivation.{literals, Literal, Derivation, numbered, without, raise, maximumIndex, joined, lookup}
+use Rattle.derivation.specs.Derivation.{literals, Literal, Derivation, numbered, without, numberedAll, withoutAll, pairsWith, maximumIndex, joined, lookup}
 use Rattle.verdict.specs.State.{State, arityOf, clauseOf, rowOf, held}
 use Rattle.verdict.specs.Tables.{Tables}
 
@@ -46,17 +46,30 @@ pub data Layout (r : Record) : (most used : ℕ) → Type 0 where
   ofInput : r .kind ≡ 4 → Layout r 7 (r .count)
   ofResolve : r .kind ≡ 5 → Layout r 0 4
   ofFactor : r .kind ≡ 6 → Layout r 0 3
+  ofSeveral : r .kind ≡ 7 → Layout r 4 (3 + r .count)
 
 -- 4: byte 1 or variable number out of its range, or an unused field not zero.
 pub data OutOfRange (r : Record) : Type 0 where
   countOver : {most used : ℕ} → Layout r most used → most < r .count → OutOfRange r
+  noRightLiteral : r .kind ≡ 7 → r .count ≡ 0 → OutOfRange r
   variableOver : r .kind ≡ 2 → 63 < fieldA r → OutOfRange r
   unusedField : {most used : ℕ} → Layout r most used → (i : ℕ) → used ≤ i → ¬ (fieldNumbered r i ≡ 0) → OutOfRange r
 
--- The clauses and literals that a step names: in a resolve those of a, b and of c, d; in a factor those of a, b and of a, c.
+-- The right literals of a resolve: field d in kind 5; in kind 7 (document 02, Q-3) as many as byte 1 says, from field d on.
+pub data RightLiterals (r : Record) : List ℕ → Type 0 where
+  ofOne : r .kind ≡ 5 → RightLiterals r (fieldD r ∷ [])
+  ofSome : r .kind ≡ 7 → RightLiterals r (take (r .count) (drop 3 (r .fields)))
+
+-- The clauses that a step names: in a resolve a and c, in a factor a. And its literals in them: in a resolve those of a, b and of c with each
+-- right literal; in a factor those of a, b and of a, c.
+pub data NamesClause (r : Record) : ℕ → Type 0 where
+  leftClause : {ns : List ℕ} → RightLiterals r ns → NamesClause r (fieldA r)
+  rightClause : {ns : List ℕ} → RightLiterals r ns → NamesClause r (fieldC r)
+  factoredClause : r .kind ≡ 6 → NamesClause r (fieldA r)
+
 pub data Names (r : Record) : (clause literal : ℕ) → Type 0 where
-  leftLiteral : r .kind ≡ 5 → Names r (fieldA r) (fieldB r)
-  rightLiteral : r .kind ≡ 5 → Names r (fieldC r) (fieldD r)
+  leftLiteral : {ns : List ℕ} → RightLiterals r ns → Names r (fieldA r) (fieldB r)
+  rightLiteral : {ns : List ℕ} {n : ℕ} → RightLiterals r ns → OneOf n ns → Names r (fieldC r) n
   keptLiteral : r .kind ≡ 6 → Names r (fieldA r) (fieldB r)
   deletedLiteral : r .kind ≡ 6 → Names r (fieldA r) (fieldC r)
 
@@ -67,7 +80,7 @@ pub data NotThere (S : State) (r : Record) : Type 0 where
   otherArity : {n : ℕ} → r .kind ≡ 3 → arityOf S (fieldA r) ≡ some n → ¬ (r .count ≡ n) → NotThere S r
   noArgumentRow : r .kind ≡ 3 → (i : ℕ) → 1 ≤ i → i ≤ r .count → length (S .rows) ≤ fieldNumbered r i → NotThere S r
   noLiteralRow : r .kind ≡ 4 → (i : ℕ) → i < r .count → length (S .rows) ≤ fieldNumbered r i / 2 → NotThere S r
-  noClause : {c n : ℕ} → Names r c n → length (S .clauses) ≤ c → NotThere S r
+  noClause : {c : ℕ} → NamesClause r c → length (S .clauses) ≤ c → NotThere S r
   noLiteral : {c n : ℕ} {d : Derivation} → Names r c n → clauseOf S c ≡ some d → (n ≡ 0) ⊎ (length (literals d) < n) → NotThere S r
 
 -- 7: a literal whose row is a variable.
@@ -78,13 +91,20 @@ pub record LiteralOnVariable (S : State) (r : Record) : Type 0 where
   pub number : ℕ
   pub onVariable : rowOf S (fieldNumbered r literal / 2) ≡ variable number
 
+-- 14, document 02, Q-3: the right literals do not strictly rise.
+pub record NotRising (r : Record) : Type 0 where
+  pub isSeveral : r .kind ≡ 7
+  pub place : ℕ
+  pub isPlace : 1 + place < r .count
+  pub falls : fieldNumbered r (4 + place) ≤ fieldNumbered r (3 + place)
+
 -- A resolve on literals that exist, and a factor on such.
-pub record Resolves (S : State) (r : Record) (left right : Derivation) (l m : Literal) : Type 0 where
-  pub isResolve : r .kind ≡ 5
+pub record Resolves (S : State) (r : Record) (left right : Derivation) (l : Literal) (ns : List ℕ) (ms : List Literal) : Type 0 where
+  pub isResolve : RightLiterals r ns
   pub isLeft : clauseOf S (fieldA r) ≡ some left
   pub isLeftLiteral : numbered (literals left) (fieldB r) ≡ some l
   pub isRight : clauseOf S (fieldC r) ≡ some right
-  pub isRightLiteral : numbered (literals right) (fieldD r) ≡ some m
+  pub areRightLiterals : numberedAll (literals right) ns ≡ some ms
 
 pub record Factors (S : State) (r : Record) (parent : Derivation) (l m : Literal) : Type 0 where
   pub isFactor : r .kind ≡ 6
@@ -92,41 +112,43 @@ pub record Factors (S : State) (r : Record) (parent : Derivation) (l m : Literal
   pub isKept : numbered (literals parent) (fieldB r) ≡ some l
   pub isDeleted : numbered (literals parent) (fieldC r) ≡ some m
 
--- 8: resolve on equal signs; factor on opposite signs or on one literal twice.
+-- 8: resolve on equal signs, that of the left literal and of some right one; factor on opposite signs or on one literal twice.
 pub data SignsUnfit (S : State) (r : Record) : Type 0 where
-  equalInResolve : {left right : Derivation} {l m : Literal} → Resolves S r left right l m → l .0 ≡ m .0 → SignsUnfit S r
+  equalInResolve : {left right : Derivation} {l : Literal} {ns : List ℕ} {ms : List Literal} → Resolves S r left right l ns ms → (m : Literal) → OneOf m ms → l .0 ≡ m .0 → SignsUnfit S r
   oppositeInFactor : {parent : Derivation} {l m : Literal} → Factors S r parent l m → ¬ (l .0 ≡ m .0) → SignsUnfit S r
   oneLiteralTwice : r .kind ≡ 6 → fieldB r ≡ fieldC r → SignsUnfit S r
 
 -- 9: result of over 128 literals or maximum index over 4,096.
 pub data ResultOver (S : State) (r : Record) : Type 0 where
-  resolventLiterals : {left right : Derivation} {l m : Literal} → Resolves S r left right l m
-      → 128 < length (without (literals left) (fieldB r)) + length (without (literals right) (fieldD r)) → ResultOver S r
-  resolventIndex : {left right : Derivation} {l m : Literal} → Resolves S r left right l m → 4096 < maximumIndex left + maximumIndex right → ResultOver S r
+  resolventLiterals : {left right : Derivation} {l : Literal} {ns : List ℕ} {ms : List Literal} → Resolves S r left right l ns ms
+      → 128 < length (without (literals left) (fieldB r)) + length (withoutAll (literals right) ns) → ResultOver S r
+  resolventIndex : {left right : Derivation} {l : Literal} {ns : List ℕ} {ms : List Literal} → Resolves S r left right l ns ms → 4096 < maximumIndex left + maximumIndex right → ResultOver S r
   factorLiterals : {parent : Derivation} {l m : Literal} → Factors S r parent l m → 128 < length (without (literals parent) (fieldC r)) → ResultOver S r
   factorIndex : {parent : Derivation} {l m : Literal} → Factors S r parent l m → 4096 < maximumIndex parent → ResultOver S r
 
--- 10, document 02, Q-1: the outlines of the two atoms clash, at a position that is found within 4,096 pairs.
+-- 10, document 02, Q-1: the outlines of two atoms clash, those of the left literal and of some right one in a resolve, at a position that is found
+-- within 4,096 pairs.
 pub data OutlinesClash (S : State) (r : Record) : Type 0 where
-  resolveOutlines : {left right : Derivation} {l m : Literal} → Resolves S r left right l m → ClashFound (rowOf S) (l .1 .0) (m .1 .0) → OutlinesClash S r
+  resolveOutlines : {left right : Derivation} {l : Literal} {ns : List ℕ} {ms : List Literal} → Resolves S r left right l ns ms → (m : Literal) → OneOf m ms → ClashFound (rowOf S) (l .1 .0) (m .1 .0) → OutlinesClash S r
   factorOutlines : {parent : Derivation} {l m : Literal} → Factors S r parent l m → ClashFound (rowOf S) (l .1 .0) (m .1 .0) → OutlinesClash S r
 
--- 10 to 13: unification of the two literals, in the parents' environments as one, fails as `Failing` states it: with 16,384 units of work,
+-- 10 to 13: unification of the literals, in the parents' environments as one, fails as `Failing` states it: with 16,384 units of work,
 -- and room for bindings while fewer than 8,192 are held, those of earlier clauses included.
 abbrev pub Fails : State → Environment → List Pair → Failure → Type 0
 Fails S ρ pairs f = Failing (rowOf S) mostLinks (λ bs. leb 8192 (held S + length bs)) ρ 16384 (unifying [] pairs) f
 
 pub data StepFails (S : State) (r : Record) (f : Failure) : Type 0 where
-  resolveFails : {left right : Derivation} {l m : Literal} → Resolves S r left right l m
-      → Fails S (joined (maximumIndex left) (lookup left) (lookup right)) ((l .1, raise (maximumIndex left) (m .1)) ∷ []) f → StepFails S r f
+  resolveFails : {left right : Derivation} {l : Literal} {ns : List ℕ} {ms : List Literal} → Resolves S r left right l ns ms
+      → Fails S (joined (maximumIndex left) (lookup left) (lookup right)) (pairsWith (maximumIndex left) (l .1) (map (λ m. m .1) ms)) f → StepFails S r f
   factorFails : {parent : Derivation} {l m : Literal} → Factors S r parent l m → Fails S (lookup parent) ((l .1, m .1) ∷ []) f → StepFails S r f
 
 -- The conditions of a record, by their numbers; S is the state that the records before it leave. There is none for 6 (document 02, Q-2).
 pub data Condition (S : State) (r : Record) : ℕ → Type 0 where
-  -- kind not 1 to 6
-  unknownKind : (r .kind < 1) ⊎ (6 < r .kind) → Condition S r 3
+  -- kind not 1 to 7
+  unknownKind : (r .kind < 1) ⊎ (7 < r .kind) → Condition S r 3
   outsideRange : OutOfRange r → Condition S r 4
   nothingThere : NotThere S r → Condition S r 5
+  fallingLiterals : NotRising r → Condition S r 14
   variableAsLiteral : LiteralOnVariable S r → Condition S r 7
   unfitSigns : SignsUnfit S r → Condition S r 8
   largeResult : ResultOver S r → Condition S r 9

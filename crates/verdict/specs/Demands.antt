@@ -6,7 +6,7 @@ use mathlib.Core.Option.{some}
 use mathlib.Core.List.{List, [], _∷_, map}
 use Prim.Native.Nat.{ℕ, _+_, _*_, _≤_, _<_}
 use lib.ListN.{length, getD, take, drop}
-use Rattle.record.specs.Record.{pick, Record, records, fieldA, fieldB, fieldC, fieldD}
+use Rattle.record.specs.Record.{pick, Record, records, fieldA, fieldB, fieldC}
 use Rattle.unification.specs.Environment.{follow, Binding, Ends}
 use Rattle.unification.specs.Repeated.{IsEarliest}
 use Rattle.unification.specs.Row.{variable, Row, application, Expression, Variable, writtenOut}
@@ -17,8 +17,8 @@ use Rattle.derivation.specs.Derivation.{literals, input, Literal, RowLiteral, D
 use Rattle.derivation.specs.Ground.{instances, Ground, Values, valueIn, WellFormedInstances, Assignment, AllTrue}
 use Rattle.derivation.specs.Textbook.{Resolvent, Factor}
 use Rattle.derivation.specs.Written.{written, substitution, renamed, WritesOut}
-use Rattle.verdict.specs.Conditions.{OneOf, fieldNumbered, LengthUnfit, TableShort, OutOfRange, Resolves, Factors, SignsUnfit, Condition}
-use Rattle.verdict.specs.Refusal.{Reason, reasonNumber}
+use Rattle.verdict.specs.Conditions.{OneOf, fieldNumbered, LengthUnfit, TableShort, OutOfRange, RightLiterals, NotRising, Resolves, Factors, SignsUnfit, Condition}
+use Rattle.verdict.specs.Refusal.{Reason, reasonNumber, precedence}
 use Rattle.verdict.specs.State.{State, emptyState, withSymbol, withRow, withClause, entry, rowsOf, derivations, nextClause, arityOf, clauseOf, rowOf, termOf}
 use Rattle.verdict.specs.Step.{stands, refused, step, read, allStand, stateOf}
 use Rattle.verdict.specs.Tables.{Tables, lengthsOf, filledTables, tablesAfter}
@@ -89,8 +89,8 @@ pub data Adds (S : State) (k : ℕ) (r : Record) (T : State) : Type 0 where
   addsInput : {ls : List RowLiteral} → r .kind ≡ 4 → length ls ≡ r .count
       → ((i : ℕ) (l : RowLiteral) → numbered ls (1 + i) ≡ some l → (row : ℕ) × (2 * row + pick (l .0) 1 0 ≡ fieldNumbered r i) × EarliestEqual S row (l .1))
       → T ≡ withClause S k (input (nextClause S) ls) → Adds S k r T
-  addsResolvent : {left right : Derivation} {l m : Literal} {bs : List Binding} → Resolves S r left right l m
-      → T ≡ withClause S k (resolve (nextClause S) left (fieldB r) right (fieldD r) bs) → Adds S k r T
+  addsResolvent : {left right : Derivation} {l : Literal} {ns : List ℕ} {ms : List Literal} {bs : List Binding} → Resolves S r left right l ns ms
+      → T ≡ withClause S k (resolve (nextClause S) left (fieldB r) right ns bs) → Adds S k r T
   addsFactor : {parent : Derivation} {l m : Literal} {bs : List Binding} → Factors S r parent l m
       → T ≡ withClause S k (factor (nextClause S) parent (fieldB r) (fieldC r) bs) → Adds S k r T
 
@@ -98,22 +98,22 @@ pub data Adds (S : State) (k : ℕ) (r : Record) (T : State) : Type 0 where
 abbrev pub atomOf : State → Derivation → Literal → Term Variable
 atomOf S c l = writtenOut (termOf S) (substitution (termOf S) c) (l .1)
 
--- The atoms that a step unifies, as a list of pairs: a resolve and a factor have one pair. In a resolve the right atom is standardized
--- apart: its indices are raised by the left clause's maximum index.
+-- The atoms that a step unifies, as a list of pairs: in a resolve the left one with each right one, in a factor one pair. In a resolve right atoms
+-- are standardized apart: their indices are raised by the left clause's maximum index.
 pub data StepAtoms (S : State) (r : Record) : List TermPair → Type 0 where
-  resolveAtoms : {left right : Derivation} {l m : Literal} → Resolves S r left right l m
-      → StepAtoms S r ((atomOf S left l, apply (renamed (maximumIndex left)) (atomOf S right m)) ∷ [])
+  resolveAtoms : {left right : Derivation} {l : Literal} {ns : List ℕ} {ms : List Literal} → Resolves S r left right l ns ms
+      → StepAtoms S r (map (λ m. (atomOf S left l, apply (renamed (maximumIndex left)) (atomOf S right m))) ms)
   factorAtoms : {parent : Derivation} {l m : Literal} → Factors S r parent l m → StepAtoms S r ((atomOf S parent l, atomOf S parent m) ∷ [])
 
--- (a) A resolve that stands adds one clause: the resolvent of the clauses that it names.
-pub record ResolventAdded (Y : Type 0) (S : State) (k : ℕ) (r : Record) (T : State) : Type 0 where
+-- (a) A resolve that stands adds one clause: the resolvent of the clauses that it names, on the literals that it names.
+pub record ResolventAdded (Y : Type 0) (S : State) (k : ℕ) (r : Record) (ns : List ℕ) (T : State) : Type 0 where
   pub left : Derivation
   pub right : Derivation
   pub isLeft : clauseOf S (fieldA r) ≡ some left
   pub isRight : clauseOf S (fieldC r) ≡ some right
   pub clause : Derivation
   pub added : T ≡ withClause S k clause
-  pub resolvent : Resolvent Y (renamed (maximumIndex left)) (written (termOf S) left) (fieldB r) (written (termOf S) right) (fieldD r) (written (termOf S) clause)
+  pub resolvent : Resolvent Y (renamed (maximumIndex left)) (written (termOf S) left) (fieldB r) (written (termOf S) right) ns (written (termOf S) clause)
 
 -- A factor that stands adds one clause: the factor of the clause that it names.
 pub record FactorAdded (Y : Type 0) (S : State) (k : ℕ) (r : Record) (T : State) : Type 0 where
@@ -134,10 +134,10 @@ pub data ConditionAt (file : List ℕ) (tables : Tables) : (number k : ℕ) → 
   ofTables : TableShort tables → ConditionAt file tables 2 0
   ofRecord : {number k : ℕ} {S : State} {r : Record} → Reached file k S r → Condition S r number → ConditionAt file tables number k
 
--- It does, and that of no lower number holds, of whatever it may be.
+-- It does, and that of no number that is given before it holds, of whatever it may be.
 pub record Due (file : List ℕ) (tables : Tables) (number k : ℕ) : Type 0 where
   pub holds : ConditionAt file tables number k
-  pub lowest : (other j : ℕ) → ConditionAt file tables other j → number ≤ other
+  pub first : (other j : ℕ) → ConditionAt file tables other j → precedence number ≤ precedence other
 
 -- (e) Clause n is empty, and no clause with a lower number is. Only clauses whose derivation passes the test count.
 pub record LowestEmpty (test : Derivation → Bool) (S : State) (n : ℕ) : Type 0 where
@@ -163,24 +163,25 @@ pub record Demand2 (Y : Type 0) (file : List ℕ) (tables : Tables) : Type 0 whe
       → WritesOut (termOf S) (lookup c) (substitution (termOf S) c)
       × ((τ : Variable → Term Variable) → WritesOut (termOf S) (lookup c) τ → (x : Variable) → substitution (termOf S) c x ≡ τ x)
   -- (a) Every derived clause is the resolvent or factor of the textbook.
-  pub resolvents : (k : ℕ) (S T : State) (r : Record) → Reached file k S r → r .kind ≡ 5 → step S k r ≡ stands T → ResolventAdded Y S k r T
+  pub resolvents : (k : ℕ) (S T : State) (r : Record) (ns : List ℕ) → Reached file k S r → RightLiterals r ns → step S k r ≡ stands T → ResolventAdded Y S k r ns T
   pub factors : (k : ℕ) (S T : State) (r : Record) → Reached file k S r → r .kind ≡ 6 → step S k r ≡ stands T → FactorAdded Y S k r T
   -- (b) A step is refused for a symbol clash or a variable inside its own value only if no unifier exists.
   pub noUnifier : (k : ℕ) (S : State) (r : Record) (reason : Reason) → Reached file k S r → step S k r ≡ refused reason → OneOf (reasonNumber reason) (10 ∷ 11 ∷ [])
       → (pairs : List TermPair) → StepAtoms S r pairs → NoUnifier Y pairs
-  -- (c) A well-formed step on existing literals of fitting signs, two different ones in a factor, that has a unifier is refused only by a limit.
-  pub nothingLost : (k : ℕ) (S : State) (r : Record) → Reached file k S r → ¬ OutOfRange r → (pairs : List TermPair) → StepAtoms S r pairs → ¬ SignsUnfit S r
+  -- (c) A well-formed step on existing literals of fitting signs, two different ones in a factor, rising ones on the right of a resolve, that has a
+  -- unifier is refused only by a limit.
+  pub nothingLost : (k : ℕ) (S : State) (r : Record) → Reached file k S r → ¬ OutOfRange r → (pairs : List TermPair) → StepAtoms S r pairs → ¬ NotRising r → ¬ SignsUnfit S r
       → (τ : Variable → Term Y) → Unifies τ pairs → StandsOrLimit S k r
-  -- (d) No record and no file is refused unless the condition stated for the number given holds of it, and none with a lower number.
+  -- (d) No record and no file is refused unless the condition stated for the number given holds of it, and none that is given before it.
   pub recordDue : (k : ℕ) (S : State) (r : Record) (reason : Reason) → Reached file k S r → step S k r ≡ refused reason
-      → Condition S r (reasonNumber reason) × ((other : ℕ) → Condition S r other → reasonNumber reason ≤ other)
+      → Condition S r (reasonNumber reason) × ((other : ℕ) → Condition S r other → precedence (reasonNumber reason) ≤ precedence other)
   pub refusals : (reason : Reason) (k : ℕ) → check file (lengthsOf tables) .verdict ≡ refusal reason k → Due file tables (reasonNumber reason) k
   pub statedNumbers : (reason : Reason) (k : ℕ) → check file (lengthsOf tables) .verdict ≡ refusal reason k
-      → OneOf (reasonNumber reason) (1 ∷ 2 ∷ 3 ∷ 4 ∷ 5 ∷ 7 ∷ 8 ∷ 9 ∷ 10 ∷ 11 ∷ 12 ∷ 13 ∷ [])
-  -- Where a condition holds, the record is refused, and the file too, with a number no higher.
+      → OneOf (reasonNumber reason) (1 ∷ 2 ∷ 3 ∷ 4 ∷ 5 ∷ 7 ∷ 8 ∷ 9 ∷ 10 ∷ 11 ∷ 12 ∷ 13 ∷ 14 ∷ [])
+  -- Where a condition holds, the record is refused, and the file too, with its number or one that is given before it.
   pub recordRefused : (k : ℕ) (S : State) (r : Record) → Reached file k S r → (number : ℕ) → Condition S r number
-      → (reason : Reason) × (step S k r ≡ refused reason) × (reasonNumber reason ≤ number)
-  pub fileRefused : (number k : ℕ) → ConditionAt file tables number k → (reason : Reason) × (j : ℕ) × (check file (lengthsOf tables) .verdict ≡ refusal reason j) × (reasonNumber reason ≤ number)
+      → (reason : Reason) × (step S k r ≡ refused reason) × (precedence (reasonNumber reason) ≤ precedence number)
+  pub fileRefused : (number k : ℕ) → ConditionAt file tables number k → (reason : Reason) × (j : ℕ) × (check file (lengthsOf tables) .verdict ≡ refusal reason j) × (precedence (reasonNumber reason) ≤ precedence number)
   -- (e) With length and tables as stated, a file is accepted exactly if every record stands and some clause is empty; it is open exactly if
   -- every record stands and none is.
   pub acceptedOnly : (n : ℕ) → check file (lengthsOf tables) .verdict ≡ accepted n → (S : State) × Stands file S × LowestEmpty everyClause S n

@@ -101,8 +101,31 @@ outlines =
     ∷ (beforeOccurrence 2 (inputClause (9 ∷ 11 ∷ []) ∷ recordOf 6 0 (0 ∷ 1 ∷ 2 ∷ []) ∷ []), 2 ∷ 11 ∷ 11 ∷ 4 ∷ 6 ∷ 1 ∷ 0 ∷ [])
     ∷ []
 
+-- Document 02, Q-3: clause 0 is -s0(s1), clause 1 is +s0(v0) -s0(v1) +s0(v1). A step of kind 7 with byte 1 0 or 5, or with an unused field (4); on a
+-- literal that does not exist (5, also where the numbers fall); on numbers that fall or are equal (14, also where a sign is equal); with the second sign
+-- equal (8); and on one literal and on two, which stand.
+abbrev pub severalStep : ℕ → List ℕ → List Record
+severalStep n fields =
+    symbolOf 1 ∷ symbolOf 0 ∷ variableRow 0 ∷ variableRow 1 ∷ applicationRow 1 [] ∷ applicationRow 0 (0 ∷ []) ∷ applicationRow 0 (1 ∷ []) ∷ applicationRow 0 (2 ∷ [])
+    ∷ inputClause (10 ∷ []) ∷ inputClause (7 ∷ 8 ∷ 9 ∷ []) ∷ recordOf 7 n fields ∷ []
+
+abbrev pub severalLiterals : List Answered
+severalLiterals =
+    (severalStep 0 (0 ∷ 1 ∷ 1 ∷ []), 2 ∷ 4 ∷ 10 ∷ 2 ∷ 6 ∷ 2 ∷ 0 ∷ [])
+    ∷ (severalStep 5 (0 ∷ 1 ∷ 1 ∷ 1 ∷ 3 ∷ 4 ∷ 5 ∷ []), 2 ∷ 4 ∷ 10 ∷ 2 ∷ 6 ∷ 2 ∷ 0 ∷ [])
+    ∷ (severalStep 1 (0 ∷ 1 ∷ 1 ∷ 1 ∷ 3 ∷ []), 2 ∷ 4 ∷ 10 ∷ 2 ∷ 6 ∷ 2 ∷ 0 ∷ [])
+    ∷ (severalStep 2 (0 ∷ 1 ∷ 1 ∷ 1 ∷ 4 ∷ []), 2 ∷ 5 ∷ 10 ∷ 2 ∷ 6 ∷ 2 ∷ 0 ∷ [])
+    ∷ (severalStep 2 (0 ∷ 1 ∷ 1 ∷ 4 ∷ 1 ∷ []), 2 ∷ 5 ∷ 10 ∷ 2 ∷ 6 ∷ 2 ∷ 0 ∷ [])
+    ∷ (severalStep 2 (0 ∷ 1 ∷ 1 ∷ 3 ∷ 1 ∷ []), 2 ∷ 14 ∷ 10 ∷ 2 ∷ 6 ∷ 2 ∷ 0 ∷ [])
+    ∷ (severalStep 2 (0 ∷ 1 ∷ 1 ∷ 1 ∷ 1 ∷ []), 2 ∷ 14 ∷ 10 ∷ 2 ∷ 6 ∷ 2 ∷ 0 ∷ [])
+    ∷ (severalStep 2 (0 ∷ 1 ∷ 1 ∷ 2 ∷ 1 ∷ []), 2 ∷ 14 ∷ 10 ∷ 2 ∷ 6 ∷ 2 ∷ 0 ∷ [])
+    ∷ (severalStep 2 (0 ∷ 1 ∷ 1 ∷ 1 ∷ 2 ∷ []), 2 ∷ 8 ∷ 10 ∷ 2 ∷ 6 ∷ 2 ∷ 0 ∷ [])
+    ∷ (severalStep 1 (0 ∷ 1 ∷ 1 ∷ 1 ∷ []), 0 ∷ 0 ∷ 0 ∷ 2 ∷ 6 ∷ 3 ∷ 1 ∷ [])
+    ∷ (severalStep 2 (0 ∷ 1 ∷ 1 ∷ 1 ∷ 3 ∷ []), 0 ∷ 0 ∷ 0 ∷ 2 ∷ 6 ∷ 3 ∷ 2 ∷ [])
+    ∷ []
+
 abbrev pub edges : List Answered
-edges = ranges ++ (unusedFields ++ (limits ++ outlines))
+edges = ranges ++ (unusedFields ++ (limits ++ (outlines ++ severalLiterals)))
 
 abbrev pub EdgesHold : Type 0
 EdgesHold = map (λ e. answerTo (e .0)) edges ≡ map (λ e. e .1) edges

@@ -9,5 +9,6 @@ pub mod Conditions
 pub mod Demands
 pub mod Outlines
 pub mod Repeats
+pub mod Several
 pub mod Cases
 pub mod Edges

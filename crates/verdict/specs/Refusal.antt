@@ -1,21 +1,21 @@
 -- Document 01, "Verdict, tables and refusals": the reasons with their numbers, and the tests of a record that give 3 to 9; document 02, Q-1: the
--- outlines of a step.
+-- outlines of a step; Q-3: reason 14, and several right literals.
 use mathlib.Core.Bool.{Bool, true, false, _&&_, not}
 use mathlib.Core.Option.{Option, none, some}
 use mathlib.Core.List.{List, [], _∷_, map}
 use Prim.Native.Nat.{ℕ, _+_}
 use lib.Dec.{eqb, leb, ltb}
 use lib.ListN.{length, take, drop}
-use Rattle.record.specs.Record.{Record, otherKind, Kind, symbolKind, variableKind, applicationKind, inputKind, resolveKind, factorKind, kindNumbered, fieldA, fieldB, fieldC, fieldD}
+use Rattle.record.specs.Record.{pick, Record, otherKind, Kind, symbolKind, variableKind, applicationKind, inputKind, resolveKind, factorKind, severalKind, kindNumbered, fieldA, fieldB, fieldC, fieldD}
 use Rattle.unification.specs.Outlines.{outlinesClash}
 use Rattle.unification.specs.Row.{variable, Row, application}
 use Rattle.unification.specs.Unification.{Failure, failureNumber, clash}
-use Rattle.derivation.specs.Derivation.{literals, Literal, RowLiteral, inputLiterals, Derivation, resolve, factor, numbered, maximumIndex}
+use Rattle.derivation.specs.Derivation.{literals, Literal, RowLiteral, inputLiterals, Derivation, resolve, factor, numbered, numberedAll, maximumIndex}
 use Rattle.verdict.specs.State.{State, rowsOf, arityOf, clauseOf, rowOf, nextClause}
 
--- Reasons 1 to 9; 6, a repeated row, is not given any more (document 02, Q-2). What unification gives is in the crate unification.
+-- Reasons 1 to 9 and 14; 6, a repeated row, is not given any more (document 02, Q-2). What unification gives is in the crate unification.
 pub data Reason : Type 0 where
-  badLength shortTable badKind outOfRange notThere variableLiteral wrongSigns tooLarge : Reason
+  badLength shortTable badKind outOfRange notThere notRising variableLiteral wrongSigns tooLarge : Reason
   unification : Failure → Reason
 
 abbrev pub reasonNumber : Reason → ℕ
@@ -24,10 +24,15 @@ reasonNumber shortTable = 2
 reasonNumber badKind = 3
 reasonNumber outOfRange = 4
 reasonNumber notThere = 5
+reasonNumber notRising = 14
 reasonNumber variableLiteral = 7
 reasonNumber wrongSigns = 8
 reasonNumber tooLarge = 9
 reasonNumber (unification f) = failureNumber f
+
+-- The order in which reasons are given is that of their numbers; but 14 comes after 5 and before 7 (document 02, Q-3), where 6 was.
+abbrev pub precedence : ℕ → ℕ
+precedence n = pick (eqb n 14) 6 n
 
 -- The limits of document 01 on a clause.
 unfoldable pub mostLiterals : ℕ
@@ -51,6 +56,7 @@ inRange applicationKind r = leb (r .count) 6 && zeros (drop (1 + r .count) (r .f
 inRange inputKind r = leb (r .count) 7 && zeros (drop (r .count) (r .fields))
 inRange resolveKind r = eqb (r .count) 0 && zeros (drop 4 (r .fields))
 inRange factorKind r = eqb (r .count) 0 && zeros (drop 3 (r .fields))
+inRange severalKind r = leb 1 (r .count) && leb (r .count) 4 && zeros (drop (3 + r .count) (r .fields))
 -- Any other kind is refused with 3, before its range matters.
 inRange otherKind r = true
 
@@ -69,8 +75,23 @@ literalNamed S c n = literalIn n (clauseOf S c)
 abbrev pub leftOf : State → Record → Option (Derivation × Literal)
 leftOf S r = literalNamed S (fieldA r) (fieldB r)
 
-abbrev pub rightOf : State → Record → Option (Derivation × Literal)
-rightOf S r = literalNamed S (fieldC r) (fieldD r)
+-- The right literals that a resolve names: one, or in kind 7 as many as byte 1 says; and the right clause with them, if all exist.
+abbrev pub rightNumbers : Kind → Record → List ℕ
+rightNumbers resolveKind r = fieldD r ∷ []
+rightNumbers severalKind r = take (r .count) (drop 3 (r .fields))
+rightNumbers symbolKind r = []
+rightNumbers variableKind r = []
+rightNumbers applicationKind r = []
+rightNumbers inputKind r = []
+rightNumbers factorKind r = []
+rightNumbers otherKind r = []
+
+abbrev pub literalsIn : List ℕ → Option Derivation → Option (Derivation × List Literal)
+literalsIn ns none = none
+literalsIn ns (some c) = elim (numberedAll (literals c) ns) [ some ls ↦ some (c, ls) | none ↦ none ]
+
+abbrev pub rightOf : State → Kind → Record → Option (Derivation × List Literal)
+rightOf S kind r = literalsIn (rightNumbers kind r) (clauseOf S (fieldC r))
 
 -- In a factor the clause of the literal deleted is that of the literal kept.
 abbrev pub deletedOf : State → Record → Option (Derivation × Literal)
@@ -96,8 +117,14 @@ argumentsThere S r = hasArity (r .count) (arityOf S (fieldA r)) && allBelow (len
 abbrev pub literalRowsThere : State → Record → Bool
 literalRowsThere S r = allBelow (length (rowsOf S)) (map (λ l. l .1) (inputLiterals r))
 
-abbrev pub bothThere : Option (Derivation × Literal) → Option (Derivation × Literal) → Bool
+abbrev pub bothThere : {A B : Type 0} → Option A → Option B → Bool
 bothThere x y = isThere x && isThere y
+
+-- 14: the right literals strictly rise.
+abbrev pub rising : List ℕ → Bool
+rising [] = true
+rising (n ∷ []) = true
+rising (n ∷ m ∷ ns) = ltb n m && rising (m ∷ ns)
 
 -- 7: no literal's row is a variable.
 abbrev pub isApplication : Row → Bool
@@ -113,32 +140,42 @@ abbrev pub equalSigns : Bool → Bool → Bool
 equalSigns true b = b
 equalSigns false b = not b
 
--- A test of both literals that a step names; where one does not exist, an earlier test has failed.
-abbrev pub onBoth : (Derivation × Literal → Derivation × Literal → Bool) → Option (Derivation × Literal) → Option (Derivation × Literal) → Bool
+abbrev pub allOpposite : Bool → List Literal → Bool
+allOpposite s [] = true
+allOpposite s (l ∷ ls) = not (equalSigns s (l .0)) && allOpposite s ls
+
+-- A test of what a step names on both sides; where something does not exist, an earlier test has failed.
+abbrev pub onBoth : {A B : Type 0} → (A → B → Bool) → Option A → Option B → Bool
 onBoth test none y = true
 onBoth test (some x) none = true
 onBoth test (some x) (some y) = test x y
 
-abbrev pub fittingSigns : State → Kind → Record → Bool
-fittingSigns S resolveKind r = onBoth (λ x y. not (equalSigns (x .1 .0) (y .1 .0))) (leftOf S r) (rightOf S r)
-fittingSigns S factorKind r = onBoth (λ x y. equalSigns (x .1 .0) (y .1 .0)) (leftOf S r) (deletedOf S r) && not (eqb (fieldB r) (fieldC r))
-fittingSigns S symbolKind r = true
-fittingSigns S variableKind r = true
-fittingSigns S applicationKind r = true
-fittingSigns S inputKind r = true
-fittingSigns S otherKind r = true
+abbrev pub oppositeSigns : State → Kind → Record → Bool
+oppositeSigns S kind r = onBoth (λ x y. allOpposite (x .1 .0) (y .1)) (leftOf S r) (rightOf S kind r)
+
+abbrev pub factorSigns : State → Record → Bool
+factorSigns S r = onBoth (λ x y. equalSigns (x .1 .0) (y .1 .0)) (leftOf S r) (deletedOf S r) && not (eqb (fieldB r) (fieldC r))
 
 -- 9: the result has at most 128 literals and a maximum index of at most 4,096. Neither depends on its bindings.
 abbrev pub resultFits : Derivation → Bool
 resultFits c = leb (length (literals c)) mostLiterals && leb (maximumIndex c) mostIndex
 
-abbrev pub resolventFits : State → Record → Bool
-resolventFits S r = onBoth (λ x y. resultFits (resolve (nextClause S) (x .0) (fieldB r) (y .0) (fieldD r) [])) (leftOf S r) (rightOf S r)
+abbrev pub resolventFits : State → Kind → Record → Bool
+resolventFits S kind r = onBoth (λ x y. resultFits (resolve (nextClause S) (x .0) (fieldB r) (y .0) (rightNumbers kind r) [])) (leftOf S r) (rightOf S kind r)
 
 abbrev pub factorFits : State → Record → Bool
 factorFits S r = onBoth (λ x y. resultFits (factor (nextClause S) (x .0) (fieldB r) (fieldC r) [])) (leftOf S r) (deletedOf S r)
 
--- The tests that a record of each kind has, in the order of their numbers.
+-- The tests of a resolve, on one right literal or on several: a single number always rises.
+abbrev pub resolveTests : State → Kind → Record → List (Bool × Reason)
+resolveTests S kind r =
+    (inRange kind r, outOfRange)
+    ∷ (bothThere (leftOf S r) (rightOf S kind r), notThere)
+    ∷ (rising (rightNumbers kind r), notRising)
+    ∷ (oppositeSigns S kind r, wrongSigns)
+    ∷ (resolventFits S kind r, tooLarge) ∷ []
+
+-- The tests that a record of each kind has, in the order in which reasons are given.
 abbrev pub tests : State → Kind → Record → List (Bool × Reason)
 tests S symbolKind r = (inRange symbolKind r, outOfRange) ∷ []
 tests S variableKind r =
@@ -150,27 +187,29 @@ tests S inputKind r =
     (inRange inputKind r, outOfRange)
     ∷ (literalRowsThere S r, notThere)
     ∷ (allApplications (rowOf S) (inputLiterals r), variableLiteral) ∷ []
-tests S resolveKind r =
-    (inRange resolveKind r, outOfRange)
-    ∷ (bothThere (leftOf S r) (rightOf S r), notThere)
-    ∷ (fittingSigns S resolveKind r, wrongSigns)
-    ∷ (resolventFits S r, tooLarge) ∷ []
+tests S resolveKind r = resolveTests S resolveKind r
+tests S severalKind r = resolveTests S severalKind r
 tests S factorKind r =
     (inRange factorKind r, outOfRange)
     ∷ (bothThere (leftOf S r) (deletedOf S r), notThere)
-    ∷ (fittingSigns S factorKind r, wrongSigns)
+    ∷ (factorSigns S r, wrongSigns)
     ∷ (factorFits S r, tooLarge) ∷ []
 -- 3: the kind is none of these.
 tests S otherKind r = (false, badKind) ∷ []
 
--- Document 02, Q-1: the outlines of the two input atoms that the named literals come from, which are their rows, do not clash. This comes after
--- every test above and before the first pair of unification, and gives 10.
-abbrev pub outlinesAgree : State → Derivation × Literal → Derivation × Literal → Bool
-outlinesAgree S x y = not (outlinesClash (rowOf S) (x .1 .1 .0) (y .1 .1 .0))
+-- Document 02, Q-1: the outlines of the input atoms that the named literals come from, which are their rows, do not clash, the left one's with
+-- each right one's in turn. This comes after every test above and before the first pair of unification, and gives 10.
+abbrev pub outlinesAgree : (ℕ → Row) → Literal → List Literal → Bool
+outlinesAgree row l [] = true
+outlinesAgree row l (m ∷ ms) = not (outlinesClash row (l .1 .0) (m .1 .0)) && outlinesAgree row l ms
+
+abbrev pub outlinesOfResolve : State → Kind → Record → List (Bool × Reason)
+outlinesOfResolve S kind r = (onBoth (λ x y. outlinesAgree (rowOf S) (x .1) (y .1)) (leftOf S r) (rightOf S kind r), unification clash) ∷ []
 
 abbrev pub outlineTests : State → Kind → Record → List (Bool × Reason)
-outlineTests S resolveKind r = (onBoth (outlinesAgree S) (leftOf S r) (rightOf S r), unification clash) ∷ []
-outlineTests S factorKind r = (onBoth (outlinesAgree S) (leftOf S r) (deletedOf S r), unification clash) ∷ []
+outlineTests S resolveKind r = outlinesOfResolve S resolveKind r
+outlineTests S severalKind r = outlinesOfResolve S severalKind r
+outlineTests S factorKind r = (onBoth (λ x y. outlinesAgree (rowOf S) (x .1) (y .1 ∷ [])) (leftOf S r) (deletedOf S r), unification clash) ∷ []
 outlineTests S symbolKind r = []
 outlineTests S variableKind r = []
 outlineTests S applicationKind r = []

@@ -6,7 +6,7 @@ use Prim.Native.Nat.{ℕ, suc, _+_, _*_, _/_, _%_, _<_}
 use lib.Dec.{eqb}
 use lib.ListN.{length, take, drop}
 use Rattle.record.specs.Bytes.{fileBytes}
-use Rattle.record.specs.Record.{pick, Record, records, otherKind, Kind, symbolKind, variableKind, applicationKind, inputKind, resolveKind, factorKind, fieldA}
+use Rattle.record.specs.Record.{pick, Record, records, otherKind, Kind, symbolKind, variableKind, applicationKind, inputKind, resolveKind, factorKind, severalKind, fieldA}
 use Rattle.unification.specs.Row.{variable, Row, application, noSymbol, rowAt, argumentTerms}
 use Rattle.unification.specs.Term.{Term, var, app, nil}
 use Rattle.derivation.specs.Derivation.{input, inputLiterals}
@@ -25,6 +25,7 @@ withWritten ws applicationKind r = application (fieldA r) (argumentRows r) ∷ w
 withWritten ws symbolKind r = ws
 withWritten ws inputKind r = ws
 withWritten ws resolveKind r = ws
+withWritten ws severalKind r = ws
 withWritten ws factorKind r = ws
 withWritten ws otherKind r = ws
 
@@ -53,6 +54,7 @@ enterAsWritten S k applicationKind r = stands (withRow S k (application (fieldA 
 enterAsWritten S k inputKind r = stands (withClause S k (input (nextClause S) (inputLiterals r)))
 enterAsWritten S k symbolKind r = enter S k symbolKind r
 enterAsWritten S k resolveKind r = enter S k resolveKind r
+enterAsWritten S k severalKind r = enter S k severalKind r
 enterAsWritten S k factorKind r = enter S k factorKind r
 enterAsWritten S k otherKind r = enter S k otherKind r
 
@@ -82,6 +84,7 @@ replacedFields S inputKind r = map (λ n. 2 * earliestOf S (n / 2) + n % 2) (tak
 replacedFields S symbolKind r = r .fields
 replacedFields S variableKind r = r .fields
 replacedFields S resolveKind r = r .fields
+replacedFields S severalKind r = r .fields
 replacedFields S factorKind r = r .fields
 replacedFields S otherKind r = r .fields
 

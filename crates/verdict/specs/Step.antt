@@ -3,12 +3,12 @@ use mathlib.Core.Bool.{Bool, true, false}
 use mathlib.Core.Option.{Option, none, some}
 use mathlib.Core.List.{List, [], _∷_, map}
 use Prim.Native.Nat.{ℕ, suc}
-use Rattle.record.specs.Record.{Record, otherKind, Kind, symbolKind, variableKind, applicationKind, inputKind, resolveKind, factorKind, fieldA, fieldB, fieldC, fieldD}
+use Rattle.record.specs.Record.{Record, otherKind, Kind, symbolKind, variableKind, applicationKind, inputKind, resolveKind, factorKind, severalKind, fieldA, fieldB, fieldC}
 use Rattle.unification.specs.Environment.{Binding}
-use Rattle.unification.specs.Row.{variable, Row, application}
+use Rattle.unification.specs.Row.{variable, Row, application, Expression}
 use Rattle.unification.specs.Unification.{unify, Outcome, unified, failed}
-use Rattle.derivation.specs.Derivation.{input, Literal, RowLiteral, inputLiterals, Derivation, resolve, factor, raise, maximumIndex, joined, lookup}
-use Rattle.verdict.specs.Refusal.{tests, outlineTests, Reason, unification, badKind, notThere, kindOfRecord, leftOf, rightOf, deletedOf, argumentRows}
+use Rattle.derivation.specs.Derivation.{input, Literal, RowLiteral, inputLiterals, Derivation, resolve, factor, pairsWith, maximumIndex, joined, lookup}
+use Rattle.verdict.specs.Refusal.{tests, outlineTests, Reason, unification, badKind, notThere, kindOfRecord, leftOf, rightNumbers, rightOf, deletedOf, argumentRows}
 use Rattle.verdict.specs.State.{State, withSymbol, withRow, withClause, rowOf, earliestOf, recordOfRow, held, nextClause}
 
 -- A record that stands gives the next state; a refused one its reason.
@@ -30,16 +30,20 @@ unfoldable pub addClause : State → ℕ → (List Binding → Derivation) → O
 addClause S k clause (unified bs n) = stands (withClause S k (clause bs))
 addClause S k clause (failed f) = refused (unification f)
 
--- Resolve puts the left literal on the left, factor the one kept. The right literal is raised by the left maximum index.
-abbrev pub unifyResolve : State → Derivation × Literal → Derivation × Literal → Outcome
+-- Resolve puts the left literal on the left, factor the one kept. Right literals are raised by the left maximum index; they are taken up one
+-- after another, with one allowance of work and one count of bindings for all.
+abbrev pub atoms : List Literal → List Expression
+atoms ls = map (λ l. l .1) ls
+
+abbrev pub unifyResolve : State → Derivation × Literal → Derivation × List Literal → Outcome
 unifyResolve S x y =
-    unify (rowOf S) (held S) (joined (maximumIndex (x .0)) (lookup (x .0)) (lookup (y .0))) (x .1 .1) (raise (maximumIndex (x .0)) (y .1 .1))
+    unify (rowOf S) (held S) (joined (maximumIndex (x .0)) (lookup (x .0)) (lookup (y .0))) (pairsWith (maximumIndex (x .0)) (x .1 .1) (atoms (y .1)))
 
 abbrev pub unifyFactor : State → Derivation × Literal → Derivation × Literal → Outcome
-unifyFactor S x y = unify (rowOf S) (held S) (lookup (x .0)) (x .1 .1) (y .1 .1)
+unifyFactor S x y = unify (rowOf S) (held S) (lookup (x .0)) ((x .1 .1, y .1 .1) ∷ [])
 
--- A step on the literals that it names; the tests before have shown that they exist.
-abbrev pub onNamed : (Derivation × Literal → Derivation × Literal → Result) → Option (Derivation × Literal) → Option (Derivation × Literal) → Result
+-- A step on what it names; the tests before have shown that it exists.
+abbrev pub onNamed : {A B : Type 0} → (A → B → Result) → Option A → Option B → Result
 onNamed step none y = refused notThere
 onNamed step (some x) none = refused notThere
 onNamed step (some x) (some y) = step x y
@@ -56,14 +60,19 @@ newLiterals S r = map (λ l. (l .0, earliestOf S (l .1))) (inputLiterals r)
 abbrev pub enterRow : State → ℕ → Row → Result
 enterRow S k w = stands (withRow S (recordOfRow S k w) w)
 
+-- A resolve, on one right literal or on several.
+abbrev pub enterResolvent : State → ℕ → Kind → Record → Result
+enterResolvent S k kind r =
+    onNamed (λ x y. addClause S k (resolve (nextClause S) (x .0) (fieldB r) (y .0) (rightNumbers kind r)) (unifyResolve S x y)) (leftOf S r) (rightOf S kind r)
+
 -- What a record that has passed all tests adds.
 abbrev pub enter : State → ℕ → Kind → Record → Result
 enter S k symbolKind r = stands (withSymbol S k (r .count))
 enter S k variableKind r = enterRow S k (variable (fieldA r))
 enter S k applicationKind r = enterRow S k (newApplication S r)
 enter S k inputKind r = stands (withClause S k (input (nextClause S) (newLiterals S r)))
-enter S k resolveKind r =
-    onNamed (λ x y. addClause S k (resolve (nextClause S) (x .0) (fieldB r) (y .0) (fieldD r)) (unifyResolve S x y)) (leftOf S r) (rightOf S r)
+enter S k resolveKind r = enterResolvent S k resolveKind r
+enter S k severalKind r = enterResolvent S k severalKind r
 enter S k factorKind r =
     onNamed (λ x y. addClause S k (factor (nextClause S) (x .0) (fieldB r) (fieldC r)) (unifyFactor S x y)) (leftOf S r) (deletedOf S r)
 enter S k otherKind r = refused badKind

@@ -3,7 +3,7 @@
 use std::error::Error;
 use std::fmt;
 
-use yestrwyn_types::limits::{ARITY, INPUT_LITERALS, RECORDS, VARIABLES};
+use yestrwyn_types::limits::{ARITY, INPUT_LITERALS, RECORDS, RIGHT_LITERALS, VARIABLES};
 use yestrwyn_types::Reason;
 
 /// Why a record is not written. The file stays as it was.
@@ -36,7 +36,9 @@ pub enum BuildError {
         /// How many literals the clause has.
         literals: u16,
     },
-    /// A factor of literals of two clauses.
+    /// A step cannot resolve a literal with so many right ones, or with none.
+    RightLiterals(usize),
+    /// Literals of two clauses: in a factor, or as the right ones of a step.
     TwoClauses,
     /// The step does not stand.
     Refused(Reason),
@@ -57,7 +59,10 @@ impl fmt::Display for BuildError {
             BuildError::NoLiteral { number, literals } => {
                 write!(out, "literal {number} of a clause that has {literals}, numbered from 1")
             }
-            BuildError::TwoClauses => write!(out, "a factor of literals of two clauses"),
+            BuildError::RightLiterals(count) => {
+                write!(out, "{count} right literals, not 1 to {RIGHT_LITERALS}")
+            }
+            BuildError::TwoClauses => write!(out, "literals of two clauses, where a step takes those of one"),
             BuildError::Refused(reason) => write!(out, "refused with {}: {reason}", reason.number()),
         }
     }

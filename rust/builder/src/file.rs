@@ -2,7 +2,7 @@
 
 use std::collections::HashMap;
 
-use yestrwyn_types::limits::{ARITY, FILE_BYTES, INPUT_LITERALS, VARIABLES};
+use yestrwyn_types::limits::{ARITY, FILE_BYTES, INPUT_LITERALS, RIGHT_LITERALS, VARIABLES};
 use yestrwyn_types::record::{kind, Record};
 
 use crate::error::BuildError;
@@ -97,6 +97,33 @@ impl FileBuilder {
         Ok(Clause(next(&mut self.literals, literals)))
     }
 
+    /// A resolution step on a literal of the left clause and one to four of the right, which are all unified with it
+    /// and none of which stays. Their numbers must rise, or the check refuses the step.
+    ///
+    /// ```
+    /// # use yestrwyn_builder::{neg, pos, BuildError, FileBuilder};
+    /// # let mut file = FileBuilder::new();
+    /// # let p = file.symbol(1)?;
+    /// # let (x, y) = (file.variable(0)?, file.variable(1)?);
+    /// # let (px, py) = (file.apply(p, &[x])?, file.apply(p, &[y])?);
+    /// let either = file.clause(&[pos(px), pos(py)])?;
+    /// let neither = file.clause(&[neg(px), neg(py)])?;
+    /// let half = file.resolve_several(either.literal(1), &[neither.literal(1), neither.literal(2)])?;
+    /// let empty = file.resolve_several(half.literal(1), &[neither.literal(1), neither.literal(2)])?;
+    /// # Ok::<(), BuildError>(())
+    /// ```
+    pub fn resolve_several(&mut self, left: Literal, rights: &[Literal]) -> Result<Clause, BuildError> {
+        let (right, count) = right_clause(rights)?;
+        let left_rest = self.count(left)? - 1;
+        // All are literals of one clause, so that the last count is as good as any.
+        let right_literals = rights.iter().try_fold(0, |_, &right| self.count(right))?;
+        let literals = left_rest.saturating_add(right_literals.saturating_sub(count.into()));
+        let mut fields = vec![left.clause.0, left.number, right.0];
+        fields.extend(rights.iter().map(|right| right.number));
+        self.write(Record::new(kind::RESOLVE_SEVERAL, count, &fields))?;
+        Ok(Clause(next(&mut self.literals, literals)))
+    }
+
     /// A factoring step that keeps one literal of a clause and deletes another.
     pub fn factor(&mut self, kept: Literal, deleted: Literal) -> Result<Clause, BuildError> {
         if kept.clause != deleted.clause {
@@ -160,6 +187,16 @@ impl FileBuilder {
         self.bytes.extend_from_slice(&record.to_bytes());
         Ok(())
     }
+}
+
+/// The one clause of a step's right literals, and how many these are.
+pub(crate) fn right_clause(rights: &[Literal]) -> Result<(Clause, u8), BuildError> {
+    let count = u8::try_from(rights.len()).ok().filter(|&count| count <= RIGHT_LITERALS);
+    let (Some(count), Some(first)) = (count, rights.first()) else {
+        return Err(BuildError::RightLiterals(rights.len()));
+    };
+    let one = rights.iter().all(|right| right.clause == first.clause);
+    one.then_some((first.clause, count)).ok_or(BuildError::TwoClauses)
 }
 
 /// Adds to a list and returns the place; no list has more entries than a file has records.

@@ -8,7 +8,7 @@ use yestrwyn_types::Reason;
 use crate::derivation::{At, Derivation, Occurrence, Origin};
 use crate::environment::Environment;
 use crate::error::BuildError;
-use crate::file::FileBuilder;
+use crate::file::{right_clause, FileBuilder};
 use crate::handles::{Clause, Literal, Row, Signed, Symbol};
 use crate::outline::outlines_clash;
 use crate::reading::Reading;
@@ -91,19 +91,13 @@ impl RunningBuilder {
 
     /// A resolution step; refused, it leaves the file as it was.
     pub fn resolve(&mut self, left: Literal, right: Literal) -> Result<Derived, BuildError> {
-        let (first, second) = (self.occurrence(left)?, self.occurrence(right)?);
-        require(first.positive != second.positive, Reason::Signs)?;
-        let (l, r) = (self.derivation(left.clause)?, self.derivation(right.clause)?);
-        let raise = |at: At| At { row: at.row, index: at.index + l.maximum };
-        let raised = |occurrence: Occurrence| Occurrence { atom: raise(occurrence.atom), ..occurrence };
-        let mut literals = without(&l.literals, left.number);
-        literals.extend(without(&r.literals, right.number).into_iter().map(raised));
-        let maximum = l.maximum + r.maximum;
-        require(literals.len() <= usize::from(LITERALS) && maximum <= INDEX, Reason::TooLarge)?;
-        let (atom, other) = (first.atom, raise(second.atom));
-        let origin = Origin::Resolve { left: left.clause.0, right: right.clause.0 };
-        let candidate = Derivation { origin, literals, maximum, own: HashMap::new() };
-        self.step(candidate, atom, other, |file| file.resolve(left, right))
+        self.resolvent(left, &[right], |file| file.resolve(left, right))
+    }
+
+    /// A resolution step on a literal of the left clause and one to four of the right, whose numbers rise; refused, it
+    /// leaves the file as it was.
+    pub fn resolve_several(&mut self, left: Literal, rights: &[Literal]) -> Result<Derived, BuildError> {
+        self.resolvent(left, rights, |file| file.resolve_several(left, rights))
     }
 
     /// A factoring step that keeps one literal of a clause and deletes another; refused, it leaves the
@@ -115,10 +109,10 @@ impl RunningBuilder {
         let (first, second) = (self.occurrence(kept)?, self.occurrence(deleted)?);
         require(kept != deleted && first.positive == second.positive, Reason::Signs)?;
         let parent = self.derivation(kept.clause)?;
-        let literals = without(&parent.literals, deleted.number);
+        let literals = without(&parent.literals, &[deleted]);
         let origin = Origin::Factor { parent: kept.clause.0 };
         let candidate = Derivation { origin, literals, maximum: parent.maximum, own: HashMap::new() };
-        self.step(candidate, first.atom, second.atom, |file| file.factor(kept, deleted))
+        self.step(candidate, first.atom, &[second.atom], |file| file.factor(kept, deleted))
     }
 
     /// The literals of a clause, in order.
@@ -164,17 +158,42 @@ impl RunningBuilder {
         found.ok_or(BuildError::NoLiteral { number, literals: count })
     }
 
+    /// Runs a resolution step on a literal of the left clause and some of the right, of which none stays.
+    fn resolvent(
+        &mut self,
+        left: Literal,
+        rights: &[Literal],
+        write: impl FnOnce(&mut FileBuilder) -> Result<Clause, BuildError>,
+    ) -> Result<Derived, BuildError> {
+        let (right, _) = right_clause(rights)?;
+        let first = self.occurrence(left)?;
+        let others = rights.iter().map(|&right| self.occurrence(right)).collect::<Result<Vec<_>, _>>()?;
+        require(rights.windows(2).all(|pair| pair[0].number < pair[1].number), Reason::Order)?;
+        require(others.iter().all(|other| other.positive != first.positive), Reason::Signs)?;
+        let (l, r) = (self.derivation(left.clause)?, self.derivation(right)?);
+        let raise = |at: At| At { row: at.row, index: at.index + l.maximum };
+        let raised = |occurrence: Occurrence| Occurrence { atom: raise(occurrence.atom), ..occurrence };
+        let mut literals = without(&l.literals, &[left]);
+        literals.extend(without(&r.literals, rights).into_iter().map(raised));
+        let maximum = l.maximum + r.maximum;
+        require(literals.len() <= usize::from(LITERALS) && maximum <= INDEX, Reason::TooLarge)?;
+        let atoms: Vec<At> = others.iter().map(|other| raise(other.atom)).collect();
+        let origin = Origin::Resolve { left: left.clause.0, right: right.0 };
+        let candidate = Derivation { origin, literals, maximum, own: HashMap::new() };
+        self.step(candidate, first.atom, &atoms, write)
+    }
+
     /// Runs a step: the candidate clause is put up, unified in, and written; or taken away again.
     fn step(
         &mut self,
         candidate: Derivation,
         left: At,
-        right: At,
+        rights: &[At],
         write: impl FnOnce(&mut FileBuilder) -> Result<Clause, BuildError>,
     ) -> Result<Derived, BuildError> {
         let number = u16::try_from(self.clauses.len()).map_err(|_| BuildError::Full)?;
         self.clauses.push(candidate);
-        let outcome = self.unified(Clause(number), left, right, write);
+        let outcome = self.unified(Clause(number), left, rights, write);
         if outcome.is_err() {
             self.clauses.truncate(usize::from(number));
         }
@@ -182,17 +201,19 @@ impl RunningBuilder {
         Ok(Derived { clause, literals: self.literals(clause)? })
     }
 
-    /// Compares the outlines of both atoms, unifies in the last clause and writes its record.
+    /// Compares the outlines of all atoms, unifies them in turn in the last clause and writes its record.
     fn unified(
         &mut self,
         candidate: Clause,
         left: At,
-        right: At,
+        rights: &[At],
         write: impl FnOnce(&mut FileBuilder) -> Result<Clause, BuildError>,
     ) -> Result<Clause, BuildError> {
-        require(!outlines_clash(self.file.rows(), left.row, right.row), Reason::Clash)?;
+        for right in rights {
+            require(!outlines_clash(self.file.rows(), left.row, right.row), Reason::Clash)?;
+        }
         let mut environment = Environment::new(self.file.rows(), &self.clauses, candidate.0);
-        let bound = unify(&mut environment, self.bindings, left, right).map_err(BuildError::Refused)?;
+        let bound = unify(&mut environment, self.bindings, left, rights).map_err(BuildError::Refused)?;
         let clause = write(&mut self.file)?;
         self.bindings += bound.len();
         if let Some(last) = self.clauses.last_mut() {
@@ -207,7 +228,8 @@ fn require(holds: bool, otherwise: Reason) -> Result<(), BuildError> {
     holds.then_some(()).ok_or(BuildError::Refused(otherwise))
 }
 
-/// A list of literals without the one of a number.
-fn without(literals: &[Occurrence], number: u16) -> Vec<Occurrence> {
-    literals.iter().zip(1..).filter(|&(_, place)| place != number).map(|(literal, _)| *literal).collect()
+/// A clause's literals without those named.
+fn without(literals: &[Occurrence], named: &[Literal]) -> Vec<Occurrence> {
+    let stays = |number: u16| named.iter().all(|literal| literal.number != number);
+    literals.iter().zip(1..).filter(|&(_, number)| stays(number)).map(|(literal, _)| *literal).collect()
 }

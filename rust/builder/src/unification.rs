@@ -1,4 +1,4 @@
-//! Unification of two expressions with its work counted, by the rules of the format.
+//! Unification of an expression with one or more others, its work counted, by the rules of the format.
 
 use yestrwyn_types::limits::{BINDINGS, WORK};
 use yestrwyn_types::Reason;
@@ -15,15 +15,17 @@ pub(crate) struct Unification<'a, 'b> {
     bound: Vec<(Variable, At)>,
 }
 
-/// The bindings that make two expressions equal, if the step stands; `held` bindings are in the file.
+/// The bindings that make all expressions equal to the left one, if the step stands; `held` bindings are in the file.
 pub(crate) fn unify(
     environment: &mut Environment<'_>,
     held: usize,
     left: At,
-    right: At,
+    rights: &[At],
 ) -> Result<Vec<(Variable, At)>, Reason> {
     let mut unification = Unification { environment, held, work: 0, bound: Vec::new() };
-    unification.pairs(left, right)?;
+    for &right in rights {
+        unification.pairs(left, right)?;
+    }
     Ok(unification.bound)
 }
 

@@ -40,6 +40,28 @@ fn numbers_are_those_of_the_check() -> Result<(), BuildError> {
 }
 
 #[test]
+fn several_right_literals_are_written_as_they_are_given() -> Result<(), BuildError> {
+    let mut file = FileBuilder::new();
+    let p = file.symbol(1)?;
+    let atoms: Vec<Row> = (0..4).map(|number| file.variable(number)).collect::<Result<_, _>>()?;
+    let atoms: Vec<Row> = atoms.iter().map(|&x| file.apply(p, &[x])).collect::<Result<_, _>>()?;
+    let left = file.clause(&[pos(atoms[0]), neg(atoms[1])])?;
+    let right = file.clause(&atoms.iter().map(|&atom| neg(atom)).collect::<Vec<_>>())?;
+    let rights = [1, 2, 4].map(|number| right.literal(number));
+    let derived = file.resolve_several(left.literal(1), &rights)?;
+    let last = &file.bytes()[file.bytes().len() - 16..];
+    assert_eq!(last, [7, 3, 0, 0, 1, 0, 1, 0, 1, 0, 2, 0, 4, 0, 0, 0]);
+    // Two literals are left: one of the left clause, one of the right.
+    let missing = Err(BuildError::NoLiteral { number: 3, literals: 2 });
+    assert_eq!(file.factor(derived.literal(1), derived.literal(3)), missing);
+    assert_eq!(check(file.bytes()).numbers()[..3], [0, 0, 0]);
+    // A list that does not rise is written all the same: the check refuses it.
+    file.resolve_several(left.literal(1), &[rights[1], rights[0]])?;
+    assert_eq!(check(file.bytes()).numbers()[..2], [2, 14]);
+    Ok(())
+}
+
+#[test]
 fn what_cannot_be_written_is_an_error_and_leaves_the_file() -> Result<(), BuildError> {
     let mut file = FileBuilder::new();
     let (p, q) = (file.symbol(1)?, file.symbol(0)?);
@@ -61,6 +83,16 @@ fn what_cannot_be_written_is_an_error_and_leaves_the_file() -> Result<(), BuildE
     assert_eq!(file.resolve(other.literal(1), clause.literal(3)), missing(3));
     assert_eq!(file.factor(clause.literal(1), clause.literal(9)), missing(9));
     assert_eq!(file.factor(clause.literal(1), other.literal(1)), Err(BuildError::TwoClauses));
+    let several = |count: usize| vec![other.literal(1); count];
+    for count in [0, 5, 300] {
+        let refused = file.resolve_several(clause.literal(1), &several(count));
+        assert_eq!(refused, Err(BuildError::RightLiterals(count)));
+    }
+    let two = [other.literal(1), clause.literal(1)];
+    assert_eq!(file.resolve_several(clause.literal(1), &two), Err(BuildError::TwoClauses));
+    let rights = [1, 3].map(|number| clause.literal(number));
+    assert_eq!(file.resolve_several(other.literal(1), &rights), missing(3));
+    assert_eq!(file.resolve_several(clause.literal(0), &several(1)), missing(0));
     assert_eq!(file.bytes(), written);
     Ok(())
 }
@@ -115,6 +147,7 @@ fn errors_say_what_is_wrong() {
     let texts = [
         (BuildError::Arguments { arity: 2, given: 3 }, "3 arguments to a symbol of arity 2"),
         (BuildError::Variable(64), "variable 64, over 63"),
+        (BuildError::RightLiterals(5), "5 right literals, not 1 to 4"),
         (BuildError::Refused(yestrwyn_builder::Reason::Clash), "refused with 10: two different symbols meet"),
     ];
     for (error, text) in texts {

@@ -5,7 +5,7 @@ mod pages;
 use pages::{cells, hexadecimal, indented, section, stored, text};
 use yestrwyn_types::limits::{
     ARITY, BINDINGS, BINDING_CELLS, CLAUSE_CELLS, FILE_BYTES, INDEX, INPUT_LITERALS, LITERALS, OUTLINE_PAIRS,
-    READOUT_OCCURRENCES, RECORDS, ROW_CELLS, SYMBOL_CELLS, VARIABLES, WORK,
+    READOUT_OCCURRENCES, RECORDS, RIGHT_LITERALS, ROW_CELLS, SYMBOL_CELLS, VARIABLES, WORK,
 };
 
 /// A number with a comma before its last three digits, if it has more.
@@ -22,11 +22,12 @@ fn the_worked_example_is_the_stored_file() {
     let told: Vec<(&str, &str)> =
         cells(section(&guide, "A worked example")).filter(|row| row.1.starts_with('`')).collect();
     let permit = hexadecimal(&stored("examples/permit.proof"));
-    let duty = hexadecimal(&stored("examples/duty.proof"));
+    let [duty, sheets] =
+        ["duty", "sheets"].map(|name| hexadecimal(&stored(&format!("examples/{name}.proof"))));
     let numbers: Vec<String> = (0..permit.len()).map(|number| number.to_string()).collect();
     let mut right: Vec<(&str, &str)> =
         numbers.iter().zip(&permit).map(|(number, bytes)| (number.as_str(), bytes.as_str())).collect();
-    right.push(("25", &duty[25]));
+    right.extend([("25", duty[25].as_str()), ("8", &sheets[8])]);
     assert_eq!(told, right);
 }
 
@@ -40,7 +41,7 @@ fn the_readout_of_the_worked_example_is_quoted() {
 fn every_refusal_has_its_line() {
     let guide = text("docs/FORMAT.md");
     let numbers: Vec<&str> = cells(section(&guide, "Refusals")).map(|row| row.0).skip(1).collect();
-    let right: Vec<String> = (1..=13).map(|number: u8| number.to_string()).collect();
+    let right: Vec<String> = (1..=14).map(|number: u8| number.to_string()).collect();
     assert_eq!(numbers, right);
 }
 
@@ -53,6 +54,7 @@ fn the_limits_are_those_of_the_check() {
         usize::from(ARITY),
         VARIABLES - 1,
         usize::from(INPUT_LITERALS),
+        usize::from(RIGHT_LITERALS),
         usize::from(LITERALS),
         usize::from(INDEX),
         OUTLINE_PAIRS,

@@ -8,7 +8,8 @@ use yestrwyn_second::readout;
 use yestrwyn_types::limits::RECORD_BYTES;
 use yestrwyn_types::record::{kind, read, Record};
 use yestrwyn_vectors::examples::{cases, deep, edges, published, refusals, Example};
-use yestrwyn_vectors::{clashing_file, damage, random_file, random_file_of, repeating_file};
+use yestrwyn_vectors::{clashing_file, clashing_several_file, damage, random_file, random_file_of};
+use yestrwyn_vectors::{repeating_file, several_file};
 
 /// A file's records given to the running builder one by one, as far as its types can say them.
 #[derive(Default)]
@@ -26,7 +27,7 @@ impl Replay {
     /// Gives it a record; false at one that does not stand.
     fn record(&mut self, record: &Record) -> bool {
         let theirs = self.checker.record(&record.to_bytes());
-        if !matches!(record.kind, kind::RESOLVE | kind::FACTOR) {
+        if !matches!(record.kind, kind::RESOLVE | kind::FACTOR | kind::RESOLVE_SEVERAL) {
             return theirs.is_ok() && self.put(record).is_ok();
         }
         if theirs.is_err_and(|reason| reason.number() <= 5) {
@@ -71,6 +72,11 @@ impl Replay {
         let clause = |number: u16| self.clauses[usize::from(number)];
         match record.kind {
             kind::RESOLVE => self.running.resolve(clause(a).literal(b), clause(c).literal(d)),
+            kind::RESOLVE_SEVERAL => {
+                let numbers = &record.fields[3..3 + usize::from(record.count)];
+                let rights: Vec<_> = numbers.iter().map(|&number| clause(c).literal(number)).collect();
+                self.running.resolve_several(clause(a).literal(b), &rights)
+            }
             _ => self.running.factor(clause(a).literal(b), clause(a).literal(c)),
         }
     }
@@ -165,6 +171,19 @@ fn files_with_repeated_rows() {
 }
 
 #[test]
+fn files_with_steps_on_several_literals() {
+    let mut refused = 0;
+    for seed in 0..2000 {
+        refused += same(&format!("several {seed}"), &several_file(seed)).1;
+        same(&format!("several {seed}, damaged"), &damage(&several_file(seed), seed));
+    }
+    assert!(refused > 300, "{refused} refused");
+    for seed in 0..1000 {
+        same(&format!("clashing several {seed}"), &clashing_several_file(seed));
+    }
+}
+
+#[test]
 fn a_refused_step_leaves_the_file() -> Result<(), BuildError> {
     let mut file = RunningBuilder::new();
     let p = file.symbol(1)?;
@@ -176,6 +195,9 @@ fn a_refused_step_leaves_the_file() -> Result<(), BuildError> {
         file.resolve(clause.literal(1), clause.literal(2)),
         file.factor(clause.literal(1), clause.literal(1)),
         file.factor(clause.literal(1), clause.literal(3)),
+        file.resolve_several(clause.literal(1), &[clause.literal(2)]),
+        file.resolve_several(clause.literal(1), &[clause.literal(2), clause.literal(1)]),
+        file.resolve_several(clause.literal(1), &[]),
     ] {
         assert!(refused.is_err());
     }

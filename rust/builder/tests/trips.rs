@@ -13,6 +13,8 @@ mod duty;
 mod files;
 #[path = "../examples/trips/permit.rs"]
 mod permit;
+#[path = "../examples/trips/sheets.rs"]
+mod sheets;
 #[path = "../examples/trips/two_steps.rs"]
 mod two_steps;
 
@@ -37,7 +39,10 @@ fn verdicts() {
         .iter()
         .map(|(name, _)| text(&format!("examples/{name}.txt")).lines().next().unwrap_or("").to_string())
         .collect();
-    assert_eq!(lines, ["accepted 11", "accepted 15", "accepted 9", "refused 8 at 22", "accepted 4"]);
+    assert_eq!(
+        lines,
+        ["accepted 11", "accepted 15", "accepted 9", "accepted 3", "refused 8 at 22", "accepted 4"]
+    );
 }
 
 #[test]
@@ -69,6 +74,18 @@ fn duty_cannot_do_without_its_factor() {
         assert!(record.kind != kind::INPUT || record.count >= 2);
     }
     assert_eq!((inputs, factors), (4, 1));
+}
+
+#[test]
+fn sheets_cannot_do_without_a_factor_or_several_literals() {
+    let file = sheets::file().expect("the file is built");
+    let records: Vec<_> = (0..).map_while(|number| read(&file, number)).collect();
+    let of_kind = |wanted: u8| records.iter().filter(move |record| record.kind == wanted);
+    assert!(of_kind(kind::INPUT).all(|record| record.count == 2));
+    assert!(of_kind(kind::RESOLVE_SEVERAL).all(|record| record.count == 2));
+    let counts =
+        [kind::INPUT, kind::RESOLVE, kind::FACTOR, kind::RESOLVE_SEVERAL].map(|kind| of_kind(kind).count());
+    assert_eq!(counts, [2, 0, 0, 2]);
 }
 
 #[test]

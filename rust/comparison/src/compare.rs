@@ -6,7 +6,9 @@ use std::fmt;
 use yestrwyn::exported::check_numbers;
 use yestrwyn_types::{Tables, ANSWER_CELLS, LENGTHS};
 use yestrwyn_vectors::random::SplitMix64;
-use yestrwyn_vectors::{clashing_file, damage, random_file, random_file_of, repeating_file};
+use yestrwyn_vectors::repeating::rows_at_random;
+use yestrwyn_vectors::{clashing_file, clashing_several_file, damage, random_file, random_file_of};
+use yestrwyn_vectors::{repeating_file, several_file, several_file_of};
 
 use crate::services::Services;
 
@@ -129,11 +131,11 @@ pub(crate) fn differ(part: &'static str, proved: &[u16], second: &[u16]) -> Resu
 }
 
 /// The file of a number within a run: random files, damaged ones, longer ones, clashing ones, ones with repeated
-/// rows, and any bytes.
+/// rows, any bytes, and the same with steps on several right literals.
 pub fn file_of(seed: u64) -> Vec<u8> {
     let mut random = SplitMix64::new(seed);
     let own = random.next_u64();
-    match random.below(20) {
+    match random.below(28) {
         0..=6 => random_file(own),
         7..=10 => damage(&random_file(own), random.next_u64()),
         11 | 12 => damage(&damage(&random_file(own), random.next_u64()), random.next_u64()),
@@ -143,7 +145,13 @@ pub fn file_of(seed: u64) -> Vec<u8> {
         16 => damage(&clashing_file(own), random.next_u64()),
         17 => repeating_file(own),
         18 => damage(&repeating_file(own), random.next_u64()),
-        _ => any_bytes(&mut random),
+        19 => any_bytes(&mut random),
+        20..=22 => several_file(own),
+        23 => damage(&several_file(own), random.next_u64()),
+        24 => several_file_of(own, random.between(60, 300)),
+        25 => rows_at_random(&several_file(own), random.next_u64()).file,
+        26 => clashing_several_file(own),
+        _ => damage(&clashing_several_file(own), random.next_u64()),
     }
 }
 
@@ -153,7 +161,7 @@ fn any_bytes(random: &mut SplitMix64) -> Vec<u8> {
     if random.one_in(2) {
         return (0..length).map(|_| random.below(256) as u8).collect();
     }
-    (0..length / 16 * 16).map(|place| if place % 2 == 1 { 0 } else { random.below(7) as u8 }).collect()
+    (0..length / 16 * 16).map(|place| if place % 2 == 1 { 0 } else { random.below(8) as u8 }).collect()
 }
 
 /// The lengths that go with a seed: mostly just long enough or longer, at times one part too short.

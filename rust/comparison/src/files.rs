@@ -15,6 +15,8 @@ pub fn measured() -> Vec<Example> {
         Example::new("2,000 links whose oldest variable stands at 4,096 leaves, 2,000 uses", links()),
         Example::new("3,900 steps that unify two terms of 4,096 leaves", leaves(12)),
         Example::new("3,900 steps that compare 4,096 pairs of outlines", leaves(11)),
+        Example::new("a count to 4,000 by steps on two right literals", count_by_two()),
+        Example::new("3,900 steps on four right literals, each a term of 1,024 leaves", four_trees()),
         Example::new("4,095 rows", edges::many_rows(4095).finish()),
         Example::new("one row written 4,093 times", repeats::one_row(4093)),
         Example::new("4,094 rows, of which 3,794 have one hash", one_hash()),
@@ -41,6 +43,19 @@ fn count_right() -> Vec<u8> {
     let rule = file.clause(&[neg(app(q, [var(0)])), pos(app(q, [app(f, [var(0)])]))]);
     for _ in 0..4000 {
         known = file.resolve(rule, 1, known, 1);
+    }
+    file.finish()
+}
+
+/// A count upward in which each step resolves the last result with both literals of the rule -q(x) -q(y) +q(f(x)).
+fn count_by_two() -> Vec<u8> {
+    let mut file = Sketch::new();
+    let [q, f, a] = [1, 1, 0].map(|arity| file.symbol(arity));
+    let mut known = file.clause(&[pos(app(q, [app(a, [])]))]);
+    let [x, y] = [0, 1].map(|number| neg(app(q, [var(number)])));
+    let rule = file.clause(&[x, y, pos(app(q, [app(f, [var(0)])]))]);
+    for _ in 0..4000 {
+        known = file.resolve_several(known, 1, rule, &[1, 2]);
     }
     file.finish()
 }
@@ -120,6 +135,22 @@ fn leaves(depth: usize) -> Vec<u8> {
     let right = file.clause_of_rows(&[(false, full)]);
     for _ in 0..3900 {
         file.resolve(left, 1, right, 1);
+    }
+    file.finish()
+}
+
+/// 3,900 steps that each unify a full tree over a variable with four over a constant, in which all rows differ from its
+/// own, so that four outlines are compared too.
+fn four_trees() -> Vec<u8> {
+    let mut file = Sketch::new();
+    let [r, g, a] = [1, 2, 0].map(|arity| file.symbol(arity));
+    let (x, a) = (file.variable(0), file.application(a, &[]));
+    let (open, full) = (tree(&mut file, g, x, 10), tree(&mut file, g, a, 10));
+    let [open, full] = [open, full].map(|row| file.application(r, &[row]));
+    let left = file.clause_of_rows(&[(true, open)]);
+    let right = file.clause_of_rows(&[(false, full); 4]);
+    for _ in 0..3900 {
+        file.resolve_several(left, 1, right, &[1, 2, 3, 4]);
     }
     file.finish()
 }

@@ -124,10 +124,11 @@ fn cells_of(file: &[u8], record: usize, earliest: &[u16]) -> [u16; PART] {
         // A variable; an application, by its arguments.
         2 => 1,
         3 => 2 + u16::from(bytes[1]),
-        // An input clause; a resolution step; a factoring step.
+        // An input clause; a factoring step; a resolution step, by its right literals.
         4 => 1,
+        6 => 2,
         5 => 3,
-        _ => 2,
+        _ => 2 + u16::from(bytes[1]),
     };
     cells
 }

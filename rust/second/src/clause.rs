@@ -1,5 +1,7 @@
 //! Clauses as derivations: an input clause, or a step on earlier clauses whose structure it shares.
 
+use yestrwyn_types::limits::RIGHT_LITERALS;
+
 use crate::environment::Environment;
 use crate::expression::{Binding, Expression};
 
@@ -8,10 +10,42 @@ use crate::expression::{Binding, Expression};
 pub enum Origin {
     /// The literals of an input clause: 2 × row, plus 1 if positive, where the row is the earliest of its equals.
     Input([u16; 7]),
-    /// The resolvent on two literals.
-    Resolve { left: u16, left_literal: u16, right: u16, right_literal: u16 },
+    /// The resolvent on a literal of the left clause and one or more of the right.
+    Resolve { left: u16, left_literal: u16, right: u16, right_literals: Holes },
     /// The factor on two literals, of which the second is deleted.
     Factor { parent: u16, kept: u16, deleted: u16 },
+}
+
+/// The numbers of literals that a step leaves out of a clause, strictly rising. Places that are not used hold a
+/// number past every literal, so that they leave out none.
+#[derive(Clone, Copy, PartialEq, Eq, Debug)]
+pub struct Holes([u16; RIGHT_LITERALS as usize]);
+
+impl Holes {
+    /// The holes at these numbers; those past the fourth are dropped.
+    pub fn new(numbers: &[u16]) -> Holes {
+        let mut holes = [u16::MAX; RIGHT_LITERALS as usize];
+        for (hole, &number) in holes.iter_mut().zip(numbers) {
+            *hole = number;
+        }
+        Holes(holes)
+    }
+
+    /// The number in the whole clause of a literal that has `number` once the holes are left out.
+    fn past(&self, number: u16) -> u16 {
+        let [first, ref others @ ..] = self.0;
+        used(others).fold(past_hole(number, first), past_hole)
+    }
+
+    /// The same for a list of numbers, with `before` taken off each: one hole after another, so that each is a pass
+    /// without branches.
+    fn past_all(&self, numbers: &mut [u16], before: u16) {
+        let [first, ref others @ ..] = self.0;
+        numbers.iter_mut().for_each(|number| *number = past_hole(*number - before, first));
+        for hole in used(others) {
+            numbers.iter_mut().for_each(|number| *number = past_hole(*number, hole));
+        }
+    }
 }
 
 /// A clause that stands. Its literals are found through its parents and are not stored.
@@ -54,13 +88,13 @@ pub fn literal(clauses: &[Clause], clause: u16, number: u16) -> Option<Literal> 
                 number = past_hole(number, deleted);
                 at = clauses.get(usize::from(parent))?;
             }
-            Origin::Resolve { left, left_literal, right, right_literal } => {
+            Origin::Resolve { left, left_literal, right, right_literals } => {
                 let left = clauses.get(usize::from(left))?;
                 if number < left.literals {
                     number = past_hole(number, left_literal);
                     at = left;
                 } else {
-                    number = past_hole(number - left.literals.saturating_sub(1), right_literal);
+                    number = right_literals.past(number - left.literals.saturating_sub(1));
                     offset = offset.checked_add(left.max_index)?;
                     at = clauses.get(usize::from(right))?;
                 }
@@ -93,13 +127,13 @@ pub fn all_literals(clauses: &[Clause], clause: u16) -> Vec<Literal> {
                 part.iter_mut().for_each(|number| *number = past_hole(*number, deleted));
                 stack.push(Run { clause: parent, ..run });
             }
-            Origin::Resolve { left, left_literal, right, right_literal } => {
+            Origin::Resolve { left, left_literal, right, right_literals } => {
                 let Some(first) = clauses.get(usize::from(left)) else { continue };
                 let kept = first.literals.saturating_sub(1);
                 let split = part.partition_point(|&number| number <= kept);
                 let (ours, theirs) = part.split_at_mut(split);
                 ours.iter_mut().for_each(|number| *number = past_hole(*number, left_literal));
-                theirs.iter_mut().for_each(|number| *number = past_hole(*number - kept, right_literal));
+                right_literals.past_all(theirs, kept);
                 let middle = run.start + split;
                 let raised = run.offset.saturating_add(first.max_index);
                 stack.push(Run { clause: left, end: middle, ..run });
@@ -122,6 +156,11 @@ struct Run {
 /// A literal as an input clause's field codes it, at an index.
 fn input_literal(code: u16, index: u16) -> Literal {
     Literal { positive: code % 2 == 1, atom: Expression { row: code / 2, index } }
+}
+
+/// The holes of a list that are used.
+fn used(holes: &[u16]) -> impl Iterator<Item = u16> + '_ {
+    holes.iter().copied().take_while(|&hole| hole != u16::MAX)
 }
 
 /// The number in a parent of a literal that has `number` once literal `hole` is left out.

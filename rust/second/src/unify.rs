@@ -1,4 +1,4 @@
-//! Unification of two expressions, with its work counted. Nested terms are kept on a heap stack.
+//! Unification of an expression with one or more others, with its work counted. Nested terms are kept on a heap stack.
 
 use yestrwyn_types::limits::{BINDINGS, WORK};
 use yestrwyn_types::Reason;
@@ -20,19 +20,20 @@ impl Unifier {
         self.work
     }
 
-    /// Unifies two expressions. New bindings go into the environment and to the end of `bindings`,
-    /// which holds those of all earlier steps; after a failure the caller takes them off again.
+    /// Unifies an expression with each of the others, in turn, under one allowance of work. New bindings go into the
+    /// environment and to the end of `bindings`, which holds those of all earlier steps; after a failure the caller
+    /// takes them off again.
     pub fn unify(
         &mut self,
         nodes: &[Node],
         environment: &mut Environment,
         bindings: &mut Vec<Binding>,
-        left: Expression,
-        right: Expression,
+        one: Expression,
+        others: impl DoubleEndedIterator<Item = Expression>,
     ) -> Result<(), Reason> {
         self.work = 0;
         self.pairs.clear();
-        self.pairs.push((left, right));
+        self.pairs.extend(others.rev().map(|other| (one, other)));
         while let Some((left, right)) = self.pairs.pop() {
             self.count()?;
             let left = environment.follow(nodes, left);

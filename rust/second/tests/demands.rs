@@ -8,7 +8,7 @@ use reference::{Clause as Shared, Expr, From, Reference, Row};
 use textbook::{canonical, factor, resolvent, size, unsatisfiable, Clause, Term};
 use yestrwyn_vectors::examples::{cases, published};
 use yestrwyn_vectors::outcome::outcome;
-use yestrwyn_vectors::{clashing_file, random_file, repeating_file};
+use yestrwyn_vectors::{clashing_file, clashing_several_file, random_file, repeating_file, several_file};
 
 /// Terms larger than this are not written out.
 const LARGEST: usize = 3000;
@@ -41,13 +41,13 @@ fn clauses_are_textbook(name: &str, state: &Reference) -> usize {
     let mut compared = 0;
     let mut book: Vec<Option<Clause>> = Vec::new();
     for (number, clause) in state.clauses.iter().enumerate() {
-        let expected = match clause.from {
+        let expected = match &clause.from {
             From::Input(_) => shared(state, number),
-            From::Resolve(a, b, c, d) => match (&book[a], &book[c]) {
-                (Some(left), Some(right)) => Some(resolvent(left, b, right, d).expect(name)),
+            From::Resolve(a, b, c, numbers) => match (&book[*a], &book[*c]) {
+                (Some(left), Some(right)) => Some(resolvent(left, *b, right, numbers).expect(name)),
                 _ => None,
             },
-            From::Factor(a, b, c) => book[a].as_ref().map(|parent| factor(parent, b, c).expect(name)),
+            From::Factor(a, b, c) => book[*a].as_ref().map(|parent| factor(parent, *b, *c).expect(name)),
         };
         let expected =
             expected.filter(|literals| literals.iter().map(|(_, atom)| size(atom)).sum::<usize>() < LARGEST);
@@ -67,13 +67,14 @@ fn refusal_is_textbook(name: &str, state: &Reference, file: &[u8]) -> bool {
     let bytes = &file[16 * usize::from(record)..];
     let field = |number: usize| usize::from(bytes[2 + 2 * number]) + 256 * usize::from(bytes[3 + 2 * number]);
     let (Some(left), Some(right)) =
-        (shared(state, field(0)), shared(state, if bytes[0] == 5 { field(2) } else { field(0) }))
+        (shared(state, field(0)), shared(state, if bytes[0] == 6 { field(0) } else { field(2) }))
     else {
         return false;
     };
+    let numbers: Vec<usize> = (3..3 + usize::from(bytes[1].max(1))).map(field).collect();
     let result = match bytes[0] {
-        5 => resolvent(&canonical(&left), field(1), &canonical(&right), field(3)),
-        _ => factor(&left, field(1), field(2)),
+        6 => factor(&left, field(1), field(2)),
+        _ => resolvent(&canonical(&left), field(1), &canonical(&right), &numbers),
     };
     assert_eq!(result, None, "refused step of {name}");
     true
@@ -147,6 +148,24 @@ fn files_with_repeated_rows() {
         compared += hold(&format!("repeating {seed}"), &repeating_file(seed)).0;
     }
     assert!(compared > 6000, "{compared} clauses compared");
+}
+
+#[test]
+fn files_with_steps_on_several_literals() {
+    let (mut compared, mut refused, mut refuted) = (0, 0, 0);
+    for seed in 0..1500 {
+        let (clauses, refusal, model) = hold(&format!("several {seed}"), &several_file(seed));
+        compared += clauses;
+        refused += usize::from(refusal);
+        refuted += usize::from(model);
+    }
+    for seed in 0..600 {
+        let (_, refusal, _) = hold(&format!("clashing several {seed}"), &clashing_several_file(seed));
+        refused += usize::from(refusal);
+    }
+    assert!(compared > 15_000, "{compared} clauses compared");
+    assert!(refused > 250, "{refused} refusals compared");
+    assert!(refuted > 250, "{refuted} refutations tested");
 }
 
 #[test]

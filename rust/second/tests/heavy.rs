@@ -6,7 +6,7 @@ use yestrwyn_vectors::examples::heavy;
 
 /// Of every heavy file the largest work of a step, the most literals of a clause and the largest maximum
 /// index.
-const BUILT: [(&str, u32, u16, u16); 11] = [
+const BUILT: [(&str, u32, u16, u16); 12] = [
     ("heavy-count", 4086, 2, 4085),
     ("heavy-chains", 151, 2, 4096),
     ("heavy-chains-resolve", 151, 2, 4095),
@@ -18,6 +18,7 @@ const BUILT: [(&str, u32, u16, u16); 11] = [
     ("heavy-readout", 1, 127, 4071),
     ("heavy-exponential", 2049, 2, 4001),
     ("heavy-slowest", 16_384, 127, 4096),
+    ("heavy-several", 16_384, 4, 2),
 ];
 
 #[test]

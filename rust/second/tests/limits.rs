@@ -214,6 +214,9 @@ fn unused_bytes() {
     assert_eq!(places("clause-of-two"), from(6));
     assert_eq!(places("resolve"), and_byte_1(10));
     assert_eq!(places("factor"), and_byte_1(8));
+    assert_eq!(places("several-of-one"), from(10));
+    assert_eq!(places("several-of-two"), from(12));
+    assert_eq!(places("several-of-three"), from(14));
 }
 
 #[test]

@@ -9,7 +9,10 @@ use yestrwyn_second::expression::Node;
 use yestrwyn_second::outline::Outlines;
 use yestrwyn_vectors::examples::{cases, edges, outlines, published, refusals};
 use yestrwyn_vectors::outcome::outcome;
-use yestrwyn_vectors::{clashing_file, damage, random_file, random_file_of, repeating_file};
+use yestrwyn_vectors::several_file;
+use yestrwyn_vectors::{
+    clashing_file, clashing_several_file, damage, random_file, random_file_of, repeating_file,
+};
 
 /// Rows of a test, numbered as they are added.
 #[derive(Default)]
@@ -168,7 +171,7 @@ fn altered(name: &str, file: &[u8]) -> Option<(u16, u16)> {
     let [mut now, mut before] = [with.answer(), without.answer()];
     assert_eq!(outcome(file).answer.numbers(), now, "answer of {name}");
     let clash =
-        with.refused_atoms(file).is_some_and(|(left, right)| with.outline(left, right) == Outline::Clash);
+        with.refused_atoms(file).iter().any(|&(left, right)| with.outline(left, right) == Outline::Clash);
     let steps = with.works.len() - usize::from(clash);
     assert_eq!(with.works[..steps], without.works[..steps], "works of {name}");
     if clash {
@@ -186,6 +189,8 @@ fn only_11_12_and_13_become_10_in_random_files() {
         altered(&format!("random {seed}"), &random_file(seed));
         altered(&format!("damaged {seed}"), &damage(&random_file(seed), seed));
         altered(&format!("repeating {seed}"), &repeating_file(seed));
+        altered(&format!("several {seed}"), &several_file(seed));
+        altered(&format!("clashing several {seed}"), &clashing_several_file(seed));
     }
     for seed in 0..100 {
         altered(&format!("long {seed}"), &random_file_of(seed, 150));
@@ -204,9 +209,10 @@ fn the_clashing_files_have_everything_underneath() {
         let Some(reasons) = altered(&format!("clashing {seed}"), &file) else { continue };
         *counts.entry(reasons).or_default() += 1;
         let state = Reference::check(&file);
-        let past_the_last =
-            |(left, right)| state.outline(left, right) == Outline::Spent && state.clashing_place(left, right);
-        hidden += usize::from(reasons.1 != 10 && state.refused_atoms(&file).is_some_and(past_the_last));
+        let past_the_last = |&(left, right): &(u16, u16)| {
+            state.outline(left, right) == Outline::Spent && state.clashing_place(left, right)
+        };
+        hidden += usize::from(reasons.1 != 10 && state.refused_atoms(&file).iter().any(past_the_last));
     }
     // Enough of each that the comparison means something.
     for (reasons, least) in
@@ -253,7 +259,7 @@ fn named_edges_of_4096_pairs() {
         };
         let now = if rest.starts_with('6') { 10 } else { before };
         assert_eq!(altered(name, &example.file), Some((before, now)), "{name}");
-        let (left, right) = state.refused_atoms(&example.file).expect("a refused step");
+        let [(left, right)] = state.refused_atoms(&example.file)[..] else { panic!("a refused step") };
         let ended = if rest.starts_with('6') { Outline::Clash } else { Outline::Spent };
         assert_eq!(state.outline(left, right), ended, "{name}");
         assert!(state.clashing_place(left, right), "{name}");

@@ -2,6 +2,8 @@
 
 mod lisp;
 
+use std::iter::once;
+
 use lisp::Rows;
 use yestrwyn_second::checker::Checker;
 use yestrwyn_second::expression::{Expression, Node};
@@ -71,7 +73,7 @@ fn boyer_moore_section_4_unification_case_l() {
     assert_eq!(rows.value(&mut environment, right), "(P (g x7) (f x7 (g y5)))");
     let mut unifier = Unifier::default();
     let mut added = Vec::new();
-    let result = unifier.unify(&rows.nodes, &mut environment, &mut added, left, right);
+    let result = unifier.unify(&rows.nodes, &mut environment, &mut added, left, once(right));
     assert_eq!(result, Ok(()));
     assert_eq!(rows.value(&mut environment, left), "(P (g y5) (f y5 (g y5)))");
     assert_eq!(rows.value(&mut environment, right), "(P (g y5) (f y5 (g y5)))");
@@ -123,7 +125,7 @@ fn boyer_moore_section_6_in_the_printed_environment() {
         ["(Q (f x4 x3) (f x4 x3))", "(P x3 (f x4 x3))", "(P x4 (f x3 (f x3 (f x4 x3))))"]
     );
     assert_eq!(values(&rows, c2), ["(Q x5 y5)", "(P (g x7) (f x7 (g y5)))", "(R x7 (f x7 (g y5)))"]);
-    let result = Unifier::default().unify(&rows.nodes, &mut environment, &mut Vec::new(), c1[1], c2[1]);
+    let result = Unifier::default().unify(&rows.nodes, &mut environment, &mut Vec::new(), c1[1], once(c2[1]));
     assert_eq!(result, Ok(()));
     let resolvent = [c1[0], c1[2], c2[0], c2[2]].map(|at| rows.value(&mut environment, at));
     assert_eq!(

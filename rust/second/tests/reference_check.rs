@@ -6,7 +6,9 @@ use reference::Reference;
 use yestrwyn_vectors::examples::{cases, deep, edges, published, refusals, Example};
 use yestrwyn_vectors::outcome::outcome;
 use yestrwyn_vectors::random::random_file_of;
-use yestrwyn_vectors::{clashing_file, damage, random_file, repeating_file};
+use yestrwyn_vectors::repeating::rows_at_random;
+use yestrwyn_vectors::{clashing_file, clashing_several_file, damage, random_file, repeating_file};
+use yestrwyn_vectors::{several_file, several_file_of};
 
 /// Answer, all table cells, works and readout agree.
 fn agree(name: &str, file: &[u8]) {
@@ -91,5 +93,21 @@ fn files_with_repeated_rows() {
     for seed in 0..2000 {
         agree(&format!("repeating {seed}"), &repeating_file(seed));
         agree(&format!("repeating {seed}, damaged"), &damage(&repeating_file(seed), seed));
+    }
+}
+
+#[test]
+fn files_with_steps_on_several_literals() {
+    for seed in 0..3000 {
+        let file = several_file(seed);
+        agree(&format!("several {seed}"), &file);
+        agree(&format!("several {seed}, damaged"), &damage(&file, seed));
+        agree(&format!("several {seed}, rows repeated"), &rows_at_random(&file, seed).file);
+    }
+    for seed in 0..1500 {
+        agree(&format!("clashing several {seed}"), &clashing_several_file(seed));
+    }
+    for seed in 0..60 {
+        agree(&format!("long several {seed}"), &several_file_of(seed, 150));
     }
 }

@@ -11,7 +11,7 @@ use yestrwyn_types::Verdict;
 use yestrwyn_vectors::examples::{cases, edges, published, refusals, repeats, Example};
 use yestrwyn_vectors::outcome::{outcome, Outcome};
 use yestrwyn_vectors::repeating::{rows_at_random, rows_twice, Repeated};
-use yestrwyn_vectors::{clashing_file, damage, random_file, random_file_of, repeating_file};
+use yestrwyn_vectors::{clashing_file, damage, random_file, random_file_of, repeating_file, several_file};
 
 /// The outcome of a case by its name.
 fn case(name: &str) -> Outcome {
@@ -226,7 +226,8 @@ fn same_but_for_numbers(name: &str, file: &[u8], repeated: Repeated) -> bool {
 fn repeated_rows_alter_numbers_only() {
     let mut more = 0;
     for seed in 0..1500 {
-        let file = match seed % 5 {
+        let file = match seed % 6 {
+            5 => several_file(seed),
             0 => clashing_file(seed),
             1 => damage(&random_file(seed), seed),
             2 => random_file_of(seed, 100),

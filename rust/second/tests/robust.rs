@@ -6,7 +6,7 @@ use yestrwyn_types::{Reason, Tables, Verdict, LENGTHS};
 use yestrwyn_vectors::examples::{cases, edges, published, refusals};
 use yestrwyn_vectors::random::SplitMix64;
 use yestrwyn_vectors::sketch::Sketch;
-use yestrwyn_vectors::{damage, random_file};
+use yestrwyn_vectors::{damage, random_file, several_file};
 
 const MARK: u16 = 0xabcd;
 
@@ -93,6 +93,7 @@ fn damaged_files() {
     }
     for seed in 0..600 {
         holds(&damage(&damage(&random_file(seed), seed), seed + 1));
+        holds(&damage(&damage(&several_file(seed), seed), seed + 1));
     }
 }
 

@@ -13,6 +13,8 @@ pub const ARITY: u8 = 6;
 pub const VARIABLES: usize = 64;
 /// Most literals of an input clause.
 pub const INPUT_LITERALS: u8 = 7;
+/// Most right literals that one step can resolve with a left one.
+pub const RIGHT_LITERALS: u8 = 4;
 /// Most literals of a derived clause.
 pub const LITERALS: u16 = 128;
 /// Largest maximum index of a clause.

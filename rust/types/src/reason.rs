@@ -12,7 +12,7 @@ pub enum Reason {
     Length,
     /// A lent table is too short.
     Table,
-    /// Kind not 1 to 6.
+    /// Kind not 1 to 7.
     Kind,
     /// Byte 1 or a variable number out of its range, or an unused field not zero.
     Range,
@@ -35,12 +35,14 @@ pub enum Reason {
     Work,
     /// A binding is to be added and 8,192 are held.
     Bindings,
+    /// The right literals of a step do not strictly rise. This comes after 5 and before 8.
+    Order,
     /// A number that this version does not know: a refusal all the same.
     Other(u16),
 }
 
 /// The reasons that have a name, from number 1 on.
-const NAMED: [Reason; 13] = [
+const NAMED: [Reason; 14] = [
     Reason::Length,
     Reason::Table,
     Reason::Kind,
@@ -54,6 +56,7 @@ const NAMED: [Reason; 13] = [
     Reason::Occurs,
     Reason::Work,
     Reason::Bindings,
+    Reason::Order,
 ];
 
 impl Reason {
@@ -73,6 +76,7 @@ impl Reason {
             Reason::Occurs => 11,
             Reason::Work => 12,
             Reason::Bindings => 13,
+            Reason::Order => 14,
             Reason::Other(number) => number,
         }
     }
@@ -89,7 +93,7 @@ impl fmt::Display for Reason {
         out.write_str(match self {
             Reason::Length => "the length is over 65,536 bytes or not a multiple of 16",
             Reason::Table => "a lent table is too short",
-            Reason::Kind => "the kind is not 1 to 6",
+            Reason::Kind => "the kind is not 1 to 7",
             Reason::Range => {
                 "byte 1 or the variable number is out of its range, or an unused field is not zero"
             }
@@ -104,6 +108,7 @@ impl fmt::Display for Reason {
             Reason::Occurs => "a variable would become something in which it occurs",
             Reason::Work => "the step would do more than 16,384 work",
             Reason::Bindings => "a binding is to be added and 8,192 are held",
+            Reason::Order => "the right literals of the step do not strictly rise",
             Reason::Other(number) => return write!(out, "reason {number}"),
         })
     }

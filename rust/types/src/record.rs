@@ -12,10 +12,12 @@ pub mod kind {
     pub const APPLICATION: u8 = 3;
     /// An input clause.
     pub const INPUT: u8 = 4;
-    /// A resolution step.
+    /// A resolution step on one literal of each clause.
     pub const RESOLVE: u8 = 5;
     /// A factoring step.
     pub const FACTOR: u8 = 6;
+    /// A resolution step on one literal of the left clause and one to four of the right.
+    pub const RESOLVE_SEVERAL: u8 = 7;
 }
 
 /// A record as the file has it; nothing is tested yet.

@@ -7,10 +7,11 @@ fn reasons_are_their_numbers() {
     for number in 0..100 {
         let reason = Reason::from_number(number);
         assert_eq!(reason.number(), number);
-        assert_eq!(matches!(reason, Reason::Other(_)), !(1..=13).contains(&number), "{reason:?}");
+        assert_eq!(matches!(reason, Reason::Other(_)), !(1..=14).contains(&number), "{reason:?}");
     }
     assert_eq!(Reason::Clash.to_string(), "two different symbols meet");
-    assert_eq!(Reason::Other(14).to_string(), "reason 14");
+    assert_eq!(Reason::Order.to_string(), "the right literals of the step do not strictly rise");
+    assert_eq!(Reason::Other(15).to_string(), "reason 15");
 }
 
 #[test]

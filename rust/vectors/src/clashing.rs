@@ -9,20 +9,15 @@ use crate::random::SplitMix64;
 
 /// The file of a seed: of some dozens of records, or of some hundreds where nearly all bindings are held.
 pub fn clashing_file(seed: u64) -> Vec<u8> {
-    let mut random = SplitMix64::new(seed ^ 0x0071_1e5c_1a58_0000);
-    let room = random.one_in(4).then(|| random.below(3));
-    let mut atoms = Atoms {
-        terms: Terms::new(room),
-        random,
-        left: Vec::new(),
-        right: Vec::new(),
-        pairs: 1,
-        variables: 0,
-    };
-    for left in (0..atoms.random.between(2, 6)).rev() {
-        atoms.part(left == 0);
-    }
+    let mut atoms = Atoms::new(seed);
     atoms.steps();
+    atoms.terms.file.finish()
+}
+
+/// The same with steps on the left atom and several right ones.
+pub fn clashing_several_file(seed: u64) -> Vec<u8> {
+    let mut atoms = Atoms::new(seed);
+    atoms.several_steps();
     atoms.terms.file.finish()
 }
 
@@ -40,6 +35,18 @@ struct Atoms {
 }
 
 impl Atoms {
+    /// Atoms of two to six arguments.
+    fn new(seed: u64) -> Atoms {
+        let mut random = SplitMix64::new(seed ^ 0x0071_1e5c_1a58_0000);
+        let room = random.one_in(4).then(|| random.below(3));
+        let (left, right, terms) = (Vec::new(), Vec::new(), Terms::new(room));
+        let mut atoms = Atoms { random, terms, left, right, pairs: 1, variables: 0 };
+        for left in (0..atoms.random.between(2, 6)).rev() {
+            atoms.part(left == 0);
+        }
+        atoms
+    }
+
     /// One more argument on each side. The last is mostly a clash, the others seldom are.
     fn part(&mut self, last: bool) {
         let (pairs, mut part) = match self.random.below(if last { 30 } else { 13 }) {
@@ -151,6 +158,39 @@ impl Atoms {
             let [first, second] = if exchanged { [second, first] } else { [first, second] };
             file.resolve(first, 1, second, 1);
         }
+    }
+
+    /// A clause of the left atom, one of two to four right atoms, among them the one made with it, and a step on all
+    /// of these; then a step on the last two.
+    fn several_steps(&mut self) {
+        let count = self.random.between(2, 4);
+        let made = self.random.below(count);
+        let atoms: Vec<Vec<u16>> = (0..count)
+            .map(|place| if place == made { self.right.clone() } else { self.other_right() })
+            .collect();
+        let file = &mut self.terms.file;
+        let p = file.symbol(self.left.len() as u8);
+        let left = file.application(p, &self.left);
+        let rights: Vec<u16> = atoms.iter().map(|arguments| file.application(p, arguments)).collect();
+        let positive = self.random.one_in(2);
+        let left = self.clause(vec![(positive, left)]);
+        let right = self.clause(rights.iter().map(|&row| (!positive, row)).collect());
+        let numbers: Vec<u16> = (1..=count as u16).collect();
+        let file = &mut self.terms.file;
+        file.resolve_several(left, 1, right, &numbers);
+        file.resolve_several(left, 1, right, &numbers[count - 2..]);
+    }
+
+    /// Arguments of another right atom: mostly those of either atom, or variables.
+    fn other_right(&mut self) -> Vec<u16> {
+        let places = 0..self.left.len();
+        let argument = |place: usize| match self.random.below(16) {
+            0..=5 => self.left[place],
+            6..=8 => self.right[place],
+            9 => self.terms.b(),
+            _ => self.variable(),
+        };
+        places.map(argument).collect()
     }
 
     fn clause(&mut self, literals: Vec<(bool, u16)>) -> u16 {

@@ -13,6 +13,6 @@ pub mod shapes;
 pub mod sketch;
 pub mod stored;
 
-pub use clashing::clashing_file;
-pub use random::{damage, random_file, random_file_of};
+pub use clashing::{clashing_file, clashing_several_file};
+pub use random::{damage, random_file, random_file_of, several_file, several_file_of};
 pub use repeating::repeating_file;

@@ -105,7 +105,8 @@ impl Repeating {
             kind::INPUT => self.input(record),
             _ => self.write(record),
         }
-        self.clauses += usize::from(matches!(record.kind, kind::INPUT | kind::RESOLVE | kind::FACTOR));
+        let clause = [kind::INPUT, kind::RESOLVE, kind::FACTOR, kind::RESOLVE_SEVERAL].contains(&record.kind);
+        self.clauses += usize::from(clause);
     }
 
     /// Writes a row once or more.

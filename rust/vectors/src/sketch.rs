@@ -111,7 +111,7 @@ impl Sketch {
         let counter = match record.kind {
             kind::SYMBOL => &mut self.symbols,
             kind::VARIABLE | kind::APPLICATION => &mut self.rows,
-            kind::INPUT | kind::RESOLVE | kind::FACTOR => &mut self.clauses,
+            kind::INPUT | kind::RESOLVE | kind::FACTOR | kind::RESOLVE_SEVERAL => &mut self.clauses,
             _ => return at,
         };
         let own = number(*counter);
@@ -188,6 +188,19 @@ impl Sketch {
     /// A factoring step that keeps one literal and deletes another; returns its clause number.
     pub fn factor(&mut self, clause: u16, kept: u16, deleted: u16) -> u16 {
         self.fields(kind::FACTOR, 0, &[clause, kept, deleted])
+    }
+
+    /// A resolution step on a left literal and a list of right ones; returns its clause number.
+    pub fn resolve_several(
+        &mut self,
+        left: u16,
+        left_literal: u16,
+        right: u16,
+        right_literals: &[u16],
+    ) -> u16 {
+        let given = [&[left, left_literal, right], right_literals].concat();
+        let count = u8::try_from(right_literals.len()).unwrap_or(u8::MAX);
+        self.fields(kind::RESOLVE_SEVERAL, count, &given)
     }
 
     /// An equal row if there is one, otherwise a new one.

@@ -4,10 +4,10 @@
 use std::fmt::Write;
 use std::path::{Path, PathBuf};
 
-use crate::clashing::clashing_file;
+use crate::clashing::{clashing_file, clashing_several_file};
 use crate::examples::{cases, deep, edges, published, refusals, Example};
 use crate::outcome::{outcome, Outcome};
-use crate::random::{damage, random_file, random_file_of};
+use crate::random::{damage, random_file, random_file_of, several_file, several_file_of};
 use crate::repeating::repeating_file;
 
 /// Tables with at most this many used cells are written in full.
@@ -16,11 +16,15 @@ const CELLS_IN_FULL: usize = 400;
 const READOUT_IN_FULL: usize = 4096;
 /// At most this many works are written in full.
 const WORKS_IN_FULL: usize = 400;
-/// Number of random files, of those made to clash, of those with repeated rows, and of longer ones.
+/// Number of random files, of those made to clash, of those with repeated rows, of those with steps on several right
+/// literals, and of longer ones without and with such steps.
 const RANDOM_FILES: u64 = 1000;
 const CLASHING_FILES: u64 = 40;
 const REPEATING_FILES: u64 = 20;
+const SEVERAL_FILES: u64 = 30;
+const CLASHING_SEVERAL_FILES: u64 = 8;
 const LONG_FILES: u64 = 40;
+const LONG_SEVERAL_FILES: u64 = 12;
 
 /// A group of vectors: the name of its two files, and the proof files in order.
 pub struct Group {
@@ -62,16 +66,19 @@ fn repository() -> &'static Path {
     package.ancestors().nth(2).unwrap_or(package)
 }
 
-/// Random files, then files made to clash, then files with repeated rows.
+/// Random files, then files made to clash, then files with repeated rows, then files with steps on several literals.
 fn random_examples() -> Vec<Example> {
     let mut all: Vec<Example> = (0..RANDOM_FILES).map(random_example).collect();
-    all.extend(
-        (0..CLASHING_FILES).map(|seed| Example::new(&format!("clashing-{seed}"), clashing_file(seed))),
-    );
-    all.extend(
-        (0..REPEATING_FILES).map(|seed| Example::new(&format!("repeating-{seed}"), repeating_file(seed))),
-    );
+    all.extend(seeded("clashing", CLASHING_FILES, clashing_file));
+    all.extend(seeded("repeating", REPEATING_FILES, repeating_file));
+    all.extend(seeded("several", SEVERAL_FILES, several_file));
+    all.extend(seeded("clashing-several", CLASHING_SEVERAL_FILES, clashing_several_file));
     all
+}
+
+/// The files of the first seeds.
+fn seeded(name: &str, count: u64, file: fn(u64) -> Vec<u8>) -> impl Iterator<Item = Example> + '_ {
+    (0..count).map(move |seed| Example::new(&format!("{name}-{seed}"), file(seed)))
 }
 
 /// The random file of a seed; each fourth one is damaged with the same seed.
@@ -82,13 +89,15 @@ pub fn random_example(seed: u64) -> Example {
     }
 }
 
-/// Random files of 200 to 590 records.
+/// Random files of 200 to 590 records, then files of 200 to 530 with steps on several literals.
 fn long_examples() -> Vec<Example> {
-    let example = |seed: u64| {
-        let records = 200 + 10 * seed as usize;
-        Example::new(&format!("long-{records}-{seed}"), random_file_of(seed, records))
+    let example = |name: &str, seed: u64, records: usize, file: fn(u64, usize) -> Vec<u8>| {
+        Example::new(&format!("{name}-{records}-{seed}"), file(seed, records))
     };
-    (0..LONG_FILES).map(example).collect()
+    let plain = (0..LONG_FILES).map(|seed| example("long", seed, 200 + 10 * seed as usize, random_file_of));
+    let several = (0..LONG_SEVERAL_FILES)
+        .map(|seed| example("long-several", seed, 200 + 30 * seed as usize, several_file_of));
+    plain.chain(several).collect()
 }
 
 /// A pack of files: for each four bytes of length, low byte first, and its bytes.

@@ -31,6 +31,21 @@ fn numbers_are_those_of_the_checker() {
 }
 
 #[test]
+fn several_right_literals_are_written_as_given() {
+    let mut file = Sketch::new();
+    let p = file.symbol(1);
+    let left = file.clause(&[pos(app(p, [var(0)]))]);
+    let right = file.clause(&[neg(app(p, [var(0)])), neg(app(p, [var(1)]))]);
+    assert_eq!(file.resolve_several(left, 1, right, &[1, 2]), 2);
+    assert_eq!(outcome(file.bytes()).answer.numbers(), [1, 2, 0, 1, 4, 3, 2]);
+    assert_eq!(file.resolve_several(left, 1, right, &[1, 2, 3, 4, 5]), 3);
+    let bytes = file.finish();
+    let last = read(&bytes, (bytes.len() / 16 - 1) as u16).expect("a record");
+    assert_eq!((last.kind, last.count, last.fields), (7, 5, [left, 1, right, 1, 2, 3, 4]));
+    assert_eq!(outcome(&bytes).answer.numbers()[..2], [2, 4]);
+}
+
+#[test]
 fn raw_records_are_written_as_they_are() {
     let mut file = Sketch::new();
     let odd = Record { kind: 200, count: 9, fields: [1, 2, 3, 4, 5, 6, 65_535] };

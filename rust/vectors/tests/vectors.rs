@@ -71,7 +71,7 @@ fn every_reason_but_2_and_6_has_vectors() {
         .filter(|line| line.starts_with("answer"))
         .map(|line| line.split(' ').collect())
         .collect();
-    for reason in 1..=13 {
+    for reason in 1..=14 {
         let number = reason.to_string();
         let count = answers.iter().filter(|answer| answer[1] == "2" && answer[2] == number).count();
         let right = if [2, 6].contains(&reason) { count == 0 } else { count >= 3 };

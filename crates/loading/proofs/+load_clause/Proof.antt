@@ -57,12 +57,12 @@ load-clause-part-of-requires t c κs =
 
 load-clause-load-clause-requires : (t : ℕ) → load-clause-lts.Need-load-clause-requires (load-clause-told t) (load-clause-at t) load-clause.Post
 load-clause-load-clause-requires t c κs =
-    let d = to-parent (c .before .before .before .before .before .before .before .before .before .before .before .before .pre .1) (c .before .before .before .before .before .before .before .before .before .before .before .origin-code .ensures) (c .before .before .before .before .before .before .before .before .first-cell .ensures) (c .before .before .before .before .before .before .bindings-cell .ensures) (c .before .before .before .put-bindings .ensures) (c .before .before .part-of .ensures) (c .before .before .before .before .before .before .before .before .before .before .if1 .left) (c .before .if2 .taken) in
+    let d = to-parent (c .before .before .before .before .before .before .before .before .before .before .before .before .pre .1) (c .before .before .before .before .before .before .before .before .before .before .before .origin-code .ensures) (c .before .before .before .before .before .before .before .before .first-cell .ensures) (c .before .before .before .before .before .before .bindings-cell .ensures) (c .before .before .before .put-bindings .ensures) (c .before .before .part-of .ensures) (c .before .if2 .taken) in
     (omega (arith, c .before .before .before .before .before .before .before .before .before .before .before .before .pre .0, d .0), d .1)
 
 load-clause-returns-2 : (t : ℕ) → load-clause-lts.Need-returns-2 (load-clause-told t) (load-clause-at t) load-clause.Post
 load-clause-returns-2 t c =
-    factor-loaded (c .before .before .before .before .before .before .before .before .before .before .before .before .before .pre .1) (c .before .before .before .before .before .before .before .before .before .before .before .before .origin-code .ensures) (c .before .before .before .before .before .before .before .before .before .first-cell .ensures) (c .before .before .before .before .before .before .before .bindings-cell .ensures) (c .before .before .before .before .put-bindings .ensures) (c .before .before .before .part-of .ensures) (c .before .before .before .before .before .before .before .before .before .before .before .if1 .left) (c .before .before .if2 .taken) (c .load-clause .ensures)
+    factor-loaded (c .before .before .before .before .before .before .before .before .before .before .before .before .before .pre .1) (c .before .before .before .before .before .before .before .before .before .before .before .before .origin-code .ensures) (c .before .before .before .before .before .before .before .before .before .first-cell .ensures) (c .before .before .before .before .before .before .before .bindings-cell .ensures) (c .before .before .before .before .put-bindings .ensures) (c .before .before .before .part-of .ensures) (c .before .before .if2 .taken) (c .load-clause .ensures)
 
 load-clause-part-of-requires-2 : (t : ℕ) → load-clause-lts.Need-part-of-requires-2 (load-clause-told t) (load-clause-at t) load-clause.Post
 load-clause-part-of-requires-2 t c κs =
@@ -74,16 +74,16 @@ load-clause-origin-code-requires-2 t c κs =
 
 load-clause-load-clause-requires-2 : (t : ℕ) → load-clause-lts.Need-load-clause-requires-2 (load-clause-told t) (load-clause-at t) load-clause.Post
 load-clause-load-clause-requires-2 t c κs =
-    let d = to-left (c .before .before .before .before .before .before .before .before .before .before .before .before .before .before .before .pre .1) (c .before .before .before .before .before .before .before .before .before .before .before .before .before .before .origin-code .ensures) (c .before .before .before .before .before .before .before .before .before .before .before .first-cell .ensures) (c .before .before .before .before .before .before .before .before .before .bindings-cell .ensures) (c .before .before .before .before .before .before .put-bindings .ensures) (c .before .before .before .before .before .part-of .ensures) (c .before .before .before .before .if2 .left) in
+    let d = to-left (c .before .before .before .before .before .before .before .before .before .before .before .before .before .before .before .pre .1) (c .before .before .before .before .before .before .before .before .before .before .before .before .before .before .origin-code .ensures) (c .before .before .before .before .before .before .before .before .before .before .before .first-cell .ensures) (c .before .before .before .before .before .before .before .before .before .bindings-cell .ensures) (c .before .before .before .before .before .before .put-bindings .ensures) (c .before .before .before .before .before .part-of .ensures) (c .before .before .before .before .before .before .before .before .before .before .before .before .before .if1 .left) (c .before .before .before .before .if2 .left) in
     (omega (arith, c .before .before .before .before .before .before .before .before .before .before .before .before .before .before .before .pre .0, d .0), d .1)
 
 load-clause-returns-3 : (t : ℕ) → load-clause-lts.Need-returns-3 (load-clause-told t) (load-clause-at t) load-clause.Post
 load-clause-returns-3 t c =
-    left-loaded (c .before .before .before .before .before .before .before .before .before .before .before .before .before .before .before .before .pre .1) (c .before .before .before .before .before .before .before .before .before .before .before .before .before .before .before .origin-code .ensures) (c .before .before .before .before .before .before .before .before .before .before .before .before .first-cell .ensures) (c .before .before .before .before .before .before .before .before .before .before .bindings-cell .ensures) (c .before .before .before .before .before .before .before .put-bindings .ensures) (c .before .before .before .before .before .before .part-of .ensures) (c .before .before .before .before .before .if2 .left) (c .before .before .before .before .part-of2 .ensures) (c .before .before .before .origin-code2 .ensures) (c .before .before .if3 .taken) (c .load-clause2 .ensures)
+    left-loaded (c .before .before .before .before .before .before .before .before .before .before .before .before .before .before .before .before .pre .1) (c .before .before .before .before .before .before .before .before .before .before .before .before .before .before .before .origin-code .ensures) (c .before .before .before .before .before .before .before .before .before .before .before .before .first-cell .ensures) (c .before .before .before .before .before .before .before .before .before .before .bindings-cell .ensures) (c .before .before .before .before .before .before .before .put-bindings .ensures) (c .before .before .before .before .before .before .part-of .ensures) (c .before .before .before .before .before .before .before .before .before .before .before .before .before .before .if1 .left) (c .before .before .before .before .before .if2 .left) (c .before .before .before .before .part-of2 .ensures) (c .before .before .before .origin-code2 .ensures) (c .before .before .if3 .taken) (c .load-clause2 .ensures)
 
 load-clause-load-clause-requires-3 : (t : ℕ) → load-clause-lts.Need-load-clause-requires-3 (load-clause-told t) (load-clause-at t) load-clause.Post
 load-clause-load-clause-requires-3 t c κs =
-    let d = to-left (c .before .before .before .before .before .before .before .before .before .before .before .before .before .before .before .pre .1) (c .before .before .before .before .before .before .before .before .before .before .before .before .before .before .origin-code .ensures) (c .before .before .before .before .before .before .before .before .before .before .before .first-cell .ensures) (c .before .before .before .before .before .before .before .before .before .bindings-cell .ensures) (c .before .before .before .before .before .before .put-bindings .ensures) (c .before .before .before .before .before .part-of .ensures) (c .before .before .before .before .if2 .left) in
+    let d = to-left (c .before .before .before .before .before .before .before .before .before .before .before .before .before .before .before .pre .1) (c .before .before .before .before .before .before .before .before .before .before .before .before .before .before .origin-code .ensures) (c .before .before .before .before .before .before .before .before .before .before .before .first-cell .ensures) (c .before .before .before .before .before .before .before .before .before .bindings-cell .ensures) (c .before .before .before .before .before .before .put-bindings .ensures) (c .before .before .before .before .before .part-of .ensures) (c .before .before .before .before .before .before .before .before .before .before .before .before .before .if1 .left) (c .before .before .before .before .if2 .left) in
     (omega (arith, c .before .before .before .before .before .before .before .before .before .before .before .before .before .before .before .pre .0, d .0), d .1)
 
 load-clause-index-cell-requires : (t : ℕ) → load-clause-lts.Need-index-cell-requires (load-clause-told t) (load-clause-at t) load-clause.Post
@@ -91,36 +91,19 @@ load-clause-index-cell-requires t c κs = search needs
 
 load-clause-add-above : (t : ℕ) → load-clause-lts.Need-add-above (load-clause-told t) (load-clause-at t) load-clause.Post
 load-clause-add-above t c =
-    omega (arith, to-right (c .before .before .before .before .before .before .before .before .before .before .before .before .before .before .before .before .before .before .pre .1) (c .before .before .before .before .before .before .before .before .before .before .before .before .before .before .before .before .before .origin-code .ensures) (c .before .before .before .before .before .before .before .before .before .before .before .before .before .before .first-cell .ensures) (c .before .before .before .before .before .before .before .before .before .before .before .before .bindings-cell .ensures) (c .before .before .before .before .before .before .before .before .before .put-bindings .ensures) (c .before .before .before .before .before .before .before .before .part-of .ensures) (c .before .before .before .before .before .before .before .if2 .left) (c .before .before .before .before .before .before .part-of2 .ensures) (c .index-cell .ensures) (c .before .before .load-clause3 .ensures) .1 .fits)
+    omega (arith, to-right (c .before .before .before .before .before .before .before .before .before .before .before .before .before .before .before .before .before .before .pre .1) (c .before .before .before .before .before .before .before .before .before .before .before .before .before .before .before .before .before .origin-code .ensures) (c .before .before .before .before .before .before .before .before .before .before .before .before .before .before .first-cell .ensures) (c .before .before .before .before .before .before .before .before .before .before .before .before .bindings-cell .ensures) (c .before .before .before .before .before .before .before .before .before .put-bindings .ensures) (c .before .before .before .before .before .before .before .before .part-of .ensures) (c .before .before .before .before .before .before .before .before .before .before .before .before .before .before .before .before .if1 .left) (c .before .before .before .before .before .before .before .if2 .left) (c .before .before .before .before .before .before .part-of2 .ensures) (c .index-cell .ensures) (c .before .before .load-clause3 .ensures) .1 .fits)
 
 load-clause-load-clause-requires-4 : (t : ℕ) → load-clause-lts.Need-load-clause-requires-4 (load-clause-told t) (load-clause-at t) load-clause.Post
 load-clause-load-clause-requires-4 t c κs =
-    let d = to-right (c .before .before .before .before .before .before .before .before .before .before .before .before .before .before .before .before .before .before .before .pre .1) (c .before .before .before .before .before .before .before .before .before .before .before .before .before .before .before .before .before .before .origin-code .ensures) (c .before .before .before .before .before .before .before .before .before .before .before .before .before .before .before .first-cell .ensures) (c .before .before .before .before .before .before .before .before .before .before .before .before .before .bindings-cell .ensures) (c .before .before .before .before .before .before .before .before .before .before .put-bindings .ensures) (c .before .before .before .before .before .before .before .before .before .part-of .ensures) (c .before .before .before .before .before .before .before .before .if2 .left) (c .before .before .before .before .before .before .before .part-of2 .ensures) (c .before .index-cell .ensures) (c .before .before .before .load-clause3 .ensures) in
+    let d = to-right (c .before .before .before .before .before .before .before .before .before .before .before .before .before .before .before .before .before .before .before .pre .1) (c .before .before .before .before .before .before .before .before .before .before .before .before .before .before .before .before .before .before .origin-code .ensures) (c .before .before .before .before .before .before .before .before .before .before .before .before .before .before .before .first-cell .ensures) (c .before .before .before .before .before .before .before .before .before .before .before .before .before .bindings-cell .ensures) (c .before .before .before .before .before .before .before .before .before .before .put-bindings .ensures) (c .before .before .before .before .before .before .before .before .before .part-of .ensures) (c .before .before .before .before .before .before .before .before .before .before .before .before .before .before .before .before .before .if1 .left) (c .before .before .before .before .before .before .before .before .if2 .left) (c .before .before .before .before .before .before .before .part-of2 .ensures) (c .before .index-cell .ensures) (c .before .before .before .load-clause3 .ensures) in
     (omega (arith, c .before .before .before .before .before .before .before .before .before .before .before .before .before .before .before .before .before .before .before .pre .0, d .0), d .1)
 
 load-clause-returns-4 : (t : ℕ) → load-clause-lts.Need-returns-4 (load-clause-told t) (load-clause-at t) load-clause.Post
 load-clause-returns-4 t c =
-    both-loaded (c .before .before .before .before .before .before .before .before .before .before .before .before .before .before .before .before .before .before .before .before .pre .1) (c .before .before .before .before .before .before .before .before .before .before .before .before .before .before .before .before .before .before .before .origin-code .ensures) (c .before .before .before .before .before .before .before .before .before .before .before .before .before .before .before .before .first-cell .ensures) (c .before .before .before .before .before .before .before .before .before .before .before .before .before .before .bindings-cell .ensures) (c .before .before .before .before .before .before .before .before .before .before .before .put-bindings .ensures) (c .before .before .before .before .before .before .before .before .before .before .part-of .ensures) (c .before .before .before .before .before .before .before .before .before .if2 .left) (c .before .before .before .before .before .before .before .before .part-of2 .ensures) (c .before .before .index-cell .ensures) (c .before .before .before .before .load-clause3 .ensures) (c .load-clause4 .ensures)
+    both-loaded (c .before .before .before .before .before .before .before .before .before .before .before .before .before .before .before .before .before .before .before .before .pre .1) (c .before .before .before .before .before .before .before .before .before .before .before .before .before .before .before .before .before .before .before .origin-code .ensures) (c .before .before .before .before .before .before .before .before .before .before .before .before .before .before .before .before .first-cell .ensures) (c .before .before .before .before .before .before .before .before .before .before .before .before .before .before .bindings-cell .ensures) (c .before .before .before .before .before .before .before .before .before .before .before .put-bindings .ensures) (c .before .before .before .before .before .before .before .before .before .before .part-of .ensures) (c .before .before .before .before .before .before .before .before .before .before .before .before .before .before .before .before .before .before .if1 .left) (c .before .before .before .before .before .before .before .before .before .if2 .left) (c .before .before .before .before .before .before .before .before .part-of2 .ensures) (c .before .before .index-cell .ensures) (c .before .before .before .before .load-clause3 .ensures) (c .load-clause4 .ensures)
 
 pub +load-clause-spec : {M : Type 1} → statement M
-+load-clause-spec = close μ-load-clause λ t. load-clause-lts.spec (
-  origin-code-reads.Asked,
-  origin-code-reads.Learnt,
-  first-cell-reads.Asked,
-  first-cell-reads.Learnt,
-  bindings-cell-reads.Asked,
-  bindings-cell-reads.Learnt,
-  put-bindings-reads.Asked,
-  put-bindings-reads.Learnt,
-  part-of-reads.Asked,
-  part-of-reads.Learnt,
-  load-clause-below t,
-  load-clause.Post,
-  index-cell-reads.Asked,
-  index-cell-reads.Learnt,
-)
-    (load-clause-at t)
-    load-clause.Post
++load-clause-spec = close μ-load-clause λ t. load-clause-lts.spec (load-clause-told t) (load-clause-at t) load-clause.Post
     (load-clause-origin-code-requires t)
     (load-clause-returns t)
     (load-clause-first-cell-requires t)

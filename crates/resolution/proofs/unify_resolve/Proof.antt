@@ -1,5 +1,5 @@
 use native.Mathlib.Omega.{arith}
-use Rattle.inference.proofs.StepLaws.{resolve-top, resolve-clear, resolve-load, resolve-load-right, resolve-index, resolve-ready, resolve-unified}
+use Rattle.inference.proofs.StepLaws.{resolve-top, resolve-clear, resolve-load, resolve-load-right, resolve-ready, resolve-unified}
 use borrow.Author.Needs.{needs}
 use Rattle.resolution.proofs.unify_resolve.Statement.{statement}
 use Rattle.resolution.proofs.unify_resolve.Tie as tie
@@ -8,7 +8,7 @@ use Rattle.resolution.proofs.unify_resolve.Lts as lts
 use Rattle.clauses.proofs.index_cell.Reads as index-cell-reads
 use Rattle.following.proofs.values.clear.Reads as clear-reads
 use Rattle.loading.proofs.load.Reads as load-reads
-use Rattle.unify.proofs.unify_literals.Reads as unify-literals-reads
+use Rattle.unify.proofs.unify_with_each.Reads as unify-with-each-reads
 
 index-cell-requires : tie.Need-index-cell-requires
 index-cell-requires c κs = search needs
@@ -32,20 +32,16 @@ load-requires-2 : tie.Need-load-requires-2
 load-requires-2 c κs =
     resolve-load-right (c .before .before .before .before .before .before .before .before .before .before .before .pre) _ (c .before .before .before .before .before .before .before .before .index-cell .ensures) _ (c .before .before .load .ensures .room)
 
-add-unify-literals : tie.Need-add-unify-literals
-add-unify-literals c =
-    omega (arith, resolve-index (c .before .before .before .before .before .before .before .before .before .before .before .before .before .before .before .pre) _ (c .before .before .before .before .before .before .before .before .before .before .before .before .index-cell .ensures))
-
-unify-literals-requires : tie.Need-unify-literals-requires
-unify-literals-requires c κs =
-    resolve-ready (c .before .before .before .before .before .before .before .before .before .before .before .before .before .before .before .pre) _ _ (c .before .before .before .before .before .before .before .before .before .before .before .before .index-cell .ensures) (c .before .before .before .before .before .before .before .before .before .before .before .index-cell2 .ensures) _ _ _ (c .before .before .before .before .before .before .before .before .before .clear .ensures .0) (c .before .before .before .before .before .before .load .ensures) (c .before .before .before .load2 .ensures)
+unify-with-each-requires : tie.Need-unify-with-each-requires
+unify-with-each-requires c κs =
+    resolve-ready (c .before .before .before .before .before .before .before .before .before .before .before .before .before .before .pre) _ _ (c .before .before .before .before .before .before .before .before .before .before .before .index-cell .ensures) (c .before .before .before .before .before .before .before .before .before .before .index-cell2 .ensures) _ _ _ (c .before .before .before .before .before .before .before .before .clear .ensures .0) (c .before .before .before .before .before .load .ensures) (c .before .before .load2 .ensures)
 
 same-length : tie.Need-same-length
 same-length c = search needs
 
 returns : tie.Need-returns
 returns c =
-    resolve-unified _ _ (c .before .before .before .before .before .before .before .before .before .before .before .before .before .before .before .index-cell .ensures) (c .before .before .before .before .before .before .before .before .before .before .before .before .before .before .index-cell2 .ensures) _ _ _ _ _ _ (c .before .before .before .before .before .before .before .before .before .before .before .before .clear .ensures .0) (c .before .before .before .before .before .before .before .before .before .load .ensures) (c .before .before .before .before .before .before .load2 .ensures) (c .before .before .unify-literals .ensures)
+    resolve-unified _ _ (c .before .before .before .before .before .before .before .before .before .before .before .before .before .before .index-cell .ensures) (c .before .before .before .before .before .before .before .before .before .before .before .before .before .index-cell2 .ensures) _ _ _ _ _ _ (c .before .before .before .before .before .before .before .before .before .before .before .clear .ensures .0) (c .before .before .before .before .before .before .before .before .load .ensures) (c .before .before .before .before .before .load2 .ensures) (c .before .before .unify-with-each .ensures)
 
 pub unify-resolve-spec : {M : Type 1} → statement M
 unify-resolve-spec =
@@ -57,7 +53,6 @@ unify-resolve-spec =
     clear-requires
     load-requires
     load-requires-2
-    add-unify-literals
-    unify-literals-requires
+    unify-with-each-requires
     same-length
     returns)

@@ -2,7 +2,7 @@
 
 use yestrwyn_builder::BuildError;
 
-use super::{curfew, duty, permit, two_steps};
+use super::{curfew, duty, permit, sheets, two_steps};
 
 /// Every file of the folder `examples`, in the order of its page.
 pub fn files() -> Result<Vec<(&'static str, Vec<u8>)>, BuildError> {
@@ -10,6 +10,7 @@ pub fn files() -> Result<Vec<(&'static str, Vec<u8>)>, BuildError> {
         ("curfew", curfew::file()?),
         ("duty", duty::file()?),
         ("permit", permit::file()?),
+        ("sheets", sheets::file()?),
         ("refused", duty::refused_file()?),
         ("two_steps", two_steps::file()?),
     ])

@@ -1,4 +1,4 @@
-//! Three trips without a lawful plan, written as proof files: copy one to begin a planner's writer.
+//! Four trips without a lawful plan, written as proof files: copy one to begin a planner's writer.
 //!
 //!     cargo run --example trips
 //!
@@ -13,6 +13,7 @@ mod curfew;
 mod duty;
 mod files;
 mod permit;
+mod sheets;
 mod two_steps;
 
 fn main() -> Result<(), Box<dyn Error>> {

@@ -10,11 +10,11 @@ mod rows;
 pub use outlines::Outline;
 pub use rows::Row;
 
-/// Where a clause comes from; literals count from 1.
+/// Where a clause comes from; literals count from 1. A resolve has a list of right ones.
 #[derive(Clone, Debug)]
 pub enum From {
     Input(Vec<(bool, u16)>),
-    Resolve(usize, usize, usize, usize),
+    Resolve(usize, usize, usize, Vec<usize>),
     Factor(usize, usize, usize),
 }
 
@@ -85,7 +85,7 @@ impl Reference {
             1 => self.symbol(at, bytes),
             2 | 3 => self.row(at, bytes),
             4 => self.input(at, bytes),
-            5 => self.resolve(at, bytes),
+            5 | 7 => self.resolve(at, bytes),
             6 => self.factor(at, bytes),
             _ => Err(3),
         }
@@ -142,20 +142,32 @@ impl Reference {
     }
 
     fn resolve(&mut self, at: u16, bytes: &[u8]) -> Result<(), u16> {
-        if bytes[1] != 0 || !unused_zero(bytes, 4) {
+        let (count, in_range) = match (bytes[0], bytes[1]) {
+            (7, count) => (usize::from(count), (1..=4).contains(&count)),
+            (_, count) => (1, count == 0),
+        };
+        if !in_range || !unused_zero(bytes, 3 + count) {
             return Err(4);
         }
-        let [a, b, c, d] = [0, 1, 2, 3].map(|number| usize::from(field(bytes, number)));
-        let (left, right) = (self.literal(a, b).ok_or(5u16)?, self.literal(c, d).ok_or(5u16)?);
-        if left.0 == right.0 {
+        let [a, b, c] = [0, 1, 2].map(|number| usize::from(field(bytes, number)));
+        let numbers: Vec<usize> = (3..3 + count).map(|number| usize::from(field(bytes, number))).collect();
+        let left = self.literal(a, b).ok_or(5u16)?;
+        let rights: Option<Vec<(bool, Expr)>> = numbers.iter().map(|&d| self.literal(c, d)).collect();
+        let rights = rights.ok_or(5u16)?;
+        if (1..count).any(|place| numbers[place] <= numbers[place - 1]) {
+            return Err(14);
+        }
+        if rights.iter().any(|right| right.0 == left.0) {
             return Err(8);
         }
-        let from = From::Resolve(a, b, c, d);
-        if self.literals(a).len() + self.literals(c).len() - 2 > 128 || self.max_of(&from) > 4096 {
+        let from = From::Resolve(a, b, c, numbers);
+        let literals = self.literals(a).len() - 1 + self.literals(c).len() - count;
+        if literals > 128 || self.max_of(&from) > 4096 {
             return Err(9);
         }
         let raise = self.max(a);
-        self.step(at, from, left.1, (right.1 .0, right.1 .1 + raise))
+        let raised: Vec<Expr> = rights.iter().map(|&(_, (row, index))| (row, index + raise)).collect();
+        self.step(at, from, left.1, &raised)
     }
 
     fn factor(&mut self, at: u16, bytes: &[u8]) -> Result<(), u16> {
@@ -167,12 +179,13 @@ impl Reference {
         if b == c || kept.0 != deleted.0 {
             return Err(8);
         }
-        self.step(at, From::Factor(a, b, c), kept.1, deleted.1)
+        self.step(at, From::Factor(a, b, c), kept.1, &[deleted.1])
     }
 
-    /// Compares the outlines of a step, unifies for it and adds its clause.
-    fn step(&mut self, at: u16, from: From, left: Expr, right: Expr) -> Result<(), u16> {
-        if !self.only_unify && self.outline(left.0, right.0) == Outline::Clash {
+    /// Compares all outlines of a step, then unifies for it, one right side after another, and adds its clause.
+    fn step(&mut self, at: u16, from: From, left: Expr, rights: &[Expr]) -> Result<(), u16> {
+        let clashes = |right: &Expr| self.outline(left.0, right.0) == Outline::Clash;
+        if !self.only_unify && rights.iter().any(clashes) {
             self.works.push((at, 0));
             return Err(10);
         }
@@ -182,7 +195,7 @@ impl Reference {
             state: self,
             work: 0,
         };
-        let result = walk.pair(left, right);
+        let result = rights.iter().try_for_each(|&right| walk.pair(left, right));
         let (work, clause) = (walk.work, walk.clause);
         self.works.push((at, work));
         result?;
@@ -196,17 +209,19 @@ impl Reference {
             From::Input(literals) => {
                 literals.iter().map(|&(sign, row)| (sign, (self.earliest(row), 1))).collect()
             }
-            &From::Factor(parent, _, deleted) => {
-                let mut all = self.literals(parent);
+            From::Factor(parent, _, deleted) => {
+                let mut all = self.literals(*parent);
                 all.remove(deleted - 1);
                 all
             }
-            &From::Resolve(left, b, right, d) => {
-                let mut all = self.literals(left);
+            From::Resolve(left, b, right, numbers) => {
+                let mut all = self.literals(*left);
                 all.remove(b - 1);
-                let mut others = self.literals(right);
-                others.remove(d - 1);
-                let raise = self.max(left);
+                let mut others = self.literals(*right);
+                for d in numbers.iter().rev() {
+                    others.remove(d - 1);
+                }
+                let raise = self.max(*left);
                 all.extend(others.into_iter().map(|(sign, (row, index))| (sign, (row, index + raise))));
                 all
             }

@@ -59,12 +59,17 @@ impl Reference {
         }
     }
 
-    /// The rows of the two atoms of a step that was refused after its tests up to 9.
-    pub fn refused_atoms(&self, file: &[u8]) -> Option<(u16, u16)> {
-        let Some((10.., record)) = self.refusal else { return None };
+    /// The rows of each pair of atoms of a step that was refused after its other tests.
+    pub fn refused_atoms(&self, file: &[u8]) -> Vec<(u16, u16)> {
+        let Some((10..=13, record)) = self.refusal else { return Vec::new() };
         let bytes = &file[16 * usize::from(record)..];
-        let [a, b, c, d] = [0, 1, 2, 3].map(|number| usize::from(field(bytes, number)));
-        let (other, number) = if bytes[0] == 5 { (c, d) } else { (a, c) };
-        Some((self.literal(a, b)?.1 .0, self.literal(other, number)?.1 .0))
+        let fields: Vec<usize> = (0..7).map(|number| usize::from(field(bytes, number))).collect();
+        let (other, numbers) = match bytes[0] {
+            5 => (fields[2], &fields[3..4]),
+            7 => (fields[2], &fields[3..3 + usize::from(bytes[1])]),
+            _ => (fields[0], &fields[2..3]),
+        };
+        let row = |clause: usize, number: usize| self.literal(clause, number).expect("a literal").1 .0;
+        numbers.iter().map(|&number| (row(fields[0], fields[1]), row(other, number))).collect()
     }
 }

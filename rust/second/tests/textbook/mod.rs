@@ -47,10 +47,10 @@ fn put(term: &Term, variable: usize, value: &Term) -> Term {
     replace(term, &|other| if other == variable { value.clone() } else { Term::Variable(other) })
 }
 
-/// A most general unifier by the rules of the textbook, as a solved form: equations still to
-/// solve are rewritten whole at each binding.
-pub fn mgu(left: &Term, right: &Term) -> Option<Vec<(usize, Term)>> {
-    let mut equations = vec![(left.clone(), right.clone())];
+/// A most general unifier of all equations by the rules of the textbook, as a solved form: equations still
+/// to solve are rewritten whole at each binding.
+pub fn mgu(equations: Vec<(Term, Term)>) -> Option<Vec<(usize, Term)>> {
+    let mut equations = equations;
     let mut solved: Vec<(usize, Term)> = Vec::new();
     while let Some((s, t)) = equations.pop() {
         match (s, t) {
@@ -109,8 +109,9 @@ fn variables(term: &Term, into: &mut Vec<usize>) {
     }
 }
 
-/// The textbook resolvent on two literals (from 1), or none if the atoms have no unifier.
-pub fn resolvent(left: &Clause, b: usize, right: &Clause, d: usize) -> Option<Clause> {
+/// The textbook resolvent on a left literal and rising right ones (from 1), by the rule RIF: (D ∨ C)σ with
+/// σ = mgu(A, B1, .., Bn), or none if the atoms have no unifier.
+pub fn resolvent(left: &Clause, b: usize, right: &Clause, numbers: &[usize]) -> Option<Clause> {
     let mut used = Vec::new();
     left.iter().for_each(|(_, atom)| variables(atom, &mut used));
     let shift = used.into_iter().max().map_or(0, |most| most + 1);
@@ -118,18 +119,18 @@ pub fn resolvent(left: &Clause, b: usize, right: &Clause, d: usize) -> Option<Cl
         .iter()
         .map(|(sign, atom)| (*sign, replace(atom, &|variable| Term::Variable(variable + shift))))
         .collect();
-    let solved = mgu(&left[b - 1].1, &right[d - 1].1)?;
+    let equation = |d: &usize| (left[b - 1].1.clone(), right[d - 1].1.clone());
+    let solved = mgu(numbers.iter().map(equation).collect())?;
     let mut rest = left.clone();
     rest.remove(b - 1);
-    let mut others = right;
-    others.remove(d - 1);
-    rest.extend(others);
+    let others = right.into_iter().zip(1..).filter(|(_, number)| !numbers.contains(number));
+    rest.extend(others.map(|(literal, _)| literal));
     Some(canonical(&under(&rest, &solved)))
 }
 
 /// The textbook factor that keeps one literal and deletes another, or none.
 pub fn factor(clause: &Clause, kept: usize, deleted: usize) -> Option<Clause> {
-    let solved = mgu(&clause[kept - 1].1, &clause[deleted - 1].1)?;
+    let solved = mgu(vec![(clause[kept - 1].1.clone(), clause[deleted - 1].1.clone())])?;
     let mut rest = clause.clone();
     rest.remove(deleted - 1);
     Some(canonical(&under(&rest, &solved)))

@@ -1,19 +1,21 @@
-//! The case sheet of the format description, under its letters; then more files like case J.
+//! The case sheet of the format description, under its letters; then more files like case J, and files with steps
+//! on several right literals.
 
 use yestrwyn_types::record::kind;
 
-use super::{repeats, Example};
+use super::{repeats, several, Example};
 use crate::sketch::{app, neg, pos, var, SignedTerm, Sketch};
 
 /// All cases that are files. Case L is a unification in a given environment and is tested as one.
 pub fn examples() -> Vec<Example> {
     let mut all = sheet();
     all.extend(repeats::cases());
+    all.extend(several::cases());
     all
 }
 
 /// The sheet itself.
-fn sheet() -> Vec<Example> {
+pub(super) fn sheet() -> Vec<Example> {
     vec![
         Example::new("A", case_a()),
         Example::new("B", Vec::new()),

@@ -4,7 +4,7 @@ use yestrwyn_types::limits::BINDINGS;
 use yestrwyn_types::record::kind;
 
 use super::cases::case_k;
-use super::{outlines, repeats, Example};
+use super::{outlines, repeats, several, Example};
 use crate::sketch::{app, apply, neg, pos, var, SignedTerm, Sketch, Term};
 
 /// All of them.
@@ -18,6 +18,7 @@ pub fn examples() -> Vec<Example> {
     all.extend(counts());
     all.extend(outlines::edges());
     all.extend(repeats::edges());
+    all.extend(several::edges());
     all
 }
 
@@ -323,6 +324,13 @@ fn many_literals(last: usize, on: u16) -> Vec<u8> {
     let mut small = vec![neg(a); 1];
     small.extend(vec![neg(b); last - 1]);
     let small = file.clause(&small);
+    let at_25 = literals_127(&mut file, one);
+    file.resolve(at_25, on, small, 1);
+    file.finish()
+}
+
+/// The clause of 127 literals, made of one with seven: -a +a +b +b +b +b +b.
+pub(super) fn literals_127(file: &mut Sketch, one: u16) -> u16 {
     // Literals of a result: the left one's -a, then its five +b, and so on; +a is second of the last.
     let mut doubled = vec![one];
     for k in 0..4 {
@@ -331,9 +339,7 @@ fn many_literals(last: usize, on: u16) -> Vec<u8> {
         doubled.push(file.resolve(doubled[k], plus as u16, doubled[k], 1));
     }
     let at_24 = file.resolve(doubled[4], 5 * 16 + 2 - 5, doubled[3], 1);
-    let at_25 = file.resolve(at_24, 5 * 24 + 2 - 5, one, 1);
-    file.resolve(at_25, on, small, 1);
-    file.finish()
+    file.resolve(at_24, 5 * 24 + 2 - 5, one, 1)
 }
 
 /// -a +a doubled to index 4,095, then a clause with two more literals at 4,096 and its factor, or
@@ -343,11 +349,7 @@ fn index_past(past: u16) -> Vec<u8> {
     let [a, b] = [0, 0].map(|arity| app(file.symbol(arity), []));
     let one = file.clause(&[neg(a.clone()), pos(a.clone())]);
     let last = file.clause(&[neg(a), pos(b.clone()), pos(b)]);
-    let (mut power, mut sum) = (one, one);
-    for _ in 1..12 {
-        power = file.resolve(power, 2, power, 1);
-        sum = file.resolve(sum, 2, power, 1);
-    }
+    let sum = index_4095(&mut file, one);
     let full = file.resolve(sum, 2, last, 1);
     if past == 0 {
         file.factor(full, 2, 3);
@@ -356,6 +358,16 @@ fn index_past(past: u16) -> Vec<u8> {
         file.resolve(full, 2, one, 1);
     }
     file.finish()
+}
+
+/// -a +a at index 4,095, of one use after another.
+pub(super) fn index_4095(file: &mut Sketch, one: u16) -> u16 {
+    let (mut power, mut sum) = (one, one);
+    for _ in 1..12 {
+        power = file.resolve(power, 2, power, 1);
+        sum = file.resolve(sum, 2, power, 1);
+    }
+    sum
 }
 
 /// Occurrences in a literal: 64 are written, more are not.

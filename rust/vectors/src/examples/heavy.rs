@@ -22,6 +22,7 @@ pub fn examples() -> Vec<Example> {
         Example::new("heavy-readout", readout()),
         Example::new("heavy-exponential", super::deep::exponential_value(4000)),
         Example::new("heavy-slowest", SLOWEST.file()),
+        Example::new("heavy-several", several()),
     ]
 }
 
@@ -118,6 +119,21 @@ fn work_pairs() -> Vec<u8> {
     let right = file.clause_of_rows(&[(false, atom)]);
     while file.records() < RECORDS {
         file.resolve(left, 1, right, 1);
+    }
+    file.finish()
+}
+
+/// 4,096 pairs for each of four right literals in every step.
+fn several() -> Vec<u8> {
+    let mut file = Sketch::new();
+    let [p, f, g, a] = [1, 1, 2, 0].map(|arity| file.symbol(arity));
+    let a = file.application(a, &[]);
+    let t = sized(&mut file, [f, g], 4095, a);
+    let atom = file.application(p, &[t]);
+    let left = file.clause_of_rows(&[(true, atom)]);
+    let right = file.clause_of_rows(&[(false, atom); 4]);
+    while file.records() < RECORDS {
+        file.resolve_several(left, 1, right, &[1, 2, 3, 4]);
     }
     file.finish()
 }

@@ -11,6 +11,7 @@ pub mod outlines;
 pub mod refusals;
 pub mod repeats;
 pub mod resolution_rules;
+pub mod several;
 pub mod structure_sharing;
 
 /// A file and its name.
@@ -33,5 +34,6 @@ pub fn published() -> Vec<Example> {
     all.extend(group_theory::examples());
     all.extend(resolution_rules::examples());
     all.extend(kowalski::examples());
+    all.extend(resolution_rules::implicit_factorization());
     all
 }

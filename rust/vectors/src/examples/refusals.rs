@@ -2,7 +2,7 @@
 
 use yestrwyn_types::record::{kind, Record};
 
-use super::{outlines, repeats, Example};
+use super::{outlines, repeats, several, Example};
 use crate::sketch::{app, neg, pos, var, Sketch, Term};
 
 /// Each is a standing file and one more record, which is refused with the reason in its name.
@@ -16,6 +16,7 @@ pub fn examples() -> Vec<Example> {
     all.extend(unused_bytes());
     all.extend(outlines::refusals());
     all.extend(repeats::refusals());
+    all.extend(several::refusals());
     all
 }
 
@@ -40,7 +41,7 @@ fn standing() -> Sketch {
 }
 
 /// The standing file with one record after it, and a good record after that.
-fn with(name: &str, kind: u8, count: u8, fields: [u16; 7]) -> Example {
+pub(super) fn with(name: &str, kind: u8, count: u8, fields: [u16; 7]) -> Example {
     let mut file = standing();
     file.raw(Record { kind, count, fields });
     file.symbol(1);
@@ -52,7 +53,7 @@ fn kinds() -> Vec<Example> {
     vec![
         with("stands", kind::SYMBOL, 6, [0; 7]),
         with("3-kind-0", 0, 0, [0; 7]),
-        with("3-kind-7", 7, 1, [0, 1, 1, 1, 0, 0, 0]),
+        with("stands-kind-7", 7, 1, [0, 1, 1, 1, 0, 0, 0]),
         with("3-kind-8", 8, 0, [0; 7]),
         with("3-kind-255", 255, 255, [65_535; 7]),
         with("4-symbol-arity-7", kind::SYMBOL, 7, [0; 7]),
@@ -192,8 +193,8 @@ fn unused_bytes() -> Vec<Example> {
 }
 
 /// Byte 1 where the kind has no count, and every byte from pair `used` on.
-fn unused_bytes_of(name: &str, record: Record, used: usize) -> Vec<Example> {
-    let counted = matches!(record.kind, kind::SYMBOL | kind::APPLICATION | kind::INPUT);
+pub(super) fn unused_bytes_of(name: &str, record: Record, used: usize) -> Vec<Example> {
+    let counted = !matches!(record.kind, kind::VARIABLE | kind::RESOLVE | kind::FACTOR);
     let places = (1..2).filter(|_| !counted).chain(2 * used..16);
     let example = |place: usize| {
         let mut bytes = record.to_bytes();

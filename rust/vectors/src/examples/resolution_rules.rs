@@ -50,6 +50,31 @@ fn factorization(positive: bool) -> Vec<u8> {
     file.finish()
 }
 
+/// The rule RIF, resolution with implicit factorization, for either sign of the right literals.
+pub fn implicit_factorization() -> Vec<Example> {
+    vec![Example::new("rules-RIF", rif(true)), Example::new("rules-RIF-negative", rif(false))]
+}
+
+/// D ∨ B1 ∨ B2 ∨ B3 and C ∨ ¬A give (D ∨ C)σ with σ = mgu(A, B1, B2, B3): D is d(x,y,z), B1 is p(x,f(y)), B2 is
+/// p(g(y,y),z), B3 is p(z,f(a)); C is c(x,y) and A is p(x,y). The clause of A is the left one. There is no unifier:
+/// x is both g(y,y) and z, which is f(y). With p(x,z) for B3 there is one.
+fn rif(positive: bool) -> Vec<u8> {
+    let mut file = Sketch::new();
+    let [p, d, c, f, g, a] = [2, 3, 2, 1, 2, 0].map(|arity| file.symbol(arity));
+    let [x, y, z] = [0, 1, 2].map(|number| move || var(number));
+    let b1 = app(p, [x(), app(f, [y()])]);
+    let b2 = app(p, [app(g, [y(), y()]), z()]);
+    let [b3, clash] = [app(p, [x(), z()]), app(p, [z(), app(f, [app(a, [])])])];
+    let left = file.clause(&[pos(app(c, [x(), y()])), (!positive, app(p, [x(), y()]))]);
+    let [right, other] = [b3, clash].map(|last| {
+        let rest = pos(app(d, [x(), y(), z()]));
+        file.clause(&[rest, (positive, b1.clone()), (positive, b2.clone()), (positive, last)])
+    });
+    file.resolve_several(left, 2, right, &[2, 3, 4]);
+    file.resolve_several(left, 2, other, &[2, 3, 4]);
+    file.finish()
+}
+
 /// One equation s = t as a factor on p(s) and p(t). Symbols: p, f of one argument, g of two, a.
 fn equation(s: Term, t: Term) -> Vec<u8> {
     let mut file = Sketch::new();

@@ -36,8 +36,8 @@ pub struct Arrays<'a> {
     /// the earliest equal row, for a row that repeats it.
     pub nodes: &'a mut Nodes,
     /// Afterwards eight cells for each clause that stands, then zeros: 1 for an input clause, 2 for a
-    /// factoring step or 3 for a resolution step, and the seven fields of its record; the literals of an
-    /// input clause are on the earliest rows that equal theirs.
+    /// factoring step or 2 plus the number of right literals for a resolution step, and the seven fields of
+    /// its record; the literals of an input clause are on the earliest rows that equal theirs.
     pub origins: &'a mut Origins,
     /// Afterwards anything.
     pub values: &'a mut Values,

@@ -1,5 +1,6 @@
 use mathlib.Core.Path.{refl}
-use Rattle.checker.proofs.RecordLaws.{symbols-few, rows-few, clauses-few, input-asked, step-asked, symbol-done, variable-done, application-done, input-done, step-done, other-done, with-index}
+use mathlib.Core.Logic.{inl, inr}
+use Rattle.checker.proofs.RecordLaws.{symbols-few, rows-few, clauses-few, input-asked, step-asked, resolve-asked, symbol-done, variable-done, application-done, input-done, step-done, other-done, with-index}
 use borrow.Author.Needs.{needs}
 use Rattle.checker.proofs.reader.read_record.Statement.{statement}
 use Rattle.checker.proofs.reader.read_record.Tie as tie
@@ -38,11 +39,15 @@ input-record-requires c κs =
 
 resolve-record-requires : tie.Need-resolve-record-requires
 resolve-record-requires c κs =
-    step-asked (c .before .before .before .before .before .before .before .before .before .before .before .before .before .pre .0) _ (c .before .before .before .before .before .before .before .record-part .ensures) _ (c .before .before .before .before .before .before .kind .ensures) 5 (c .before .before .before .before .before .match .keys5)
+    resolve-asked (c .before .before .before .before .before .before .before .before .before .before .before .before .before .pre .0) _ (c .before .before .before .before .before .before .before .record-part .ensures) _ (c .before .before .before .before .before .before .kind .ensures) (inl (c .before .before .before .before .before .match .keys5))
 
 factor-record-requires : tie.Need-factor-record-requires
 factor-record-requires c κs =
     step-asked (c .before .before .before .before .before .before .before .before .before .before .before .before .before .pre .0) _ (c .before .before .before .before .before .before .before .record-part .ensures) _ (c .before .before .before .before .before .before .kind .ensures) 6 (c .before .before .before .before .before .match .keys6)
+
+resolve-record-requires-2 : tie.Need-resolve-record-requires-2
+resolve-record-requires-2 c κs =
+    resolve-asked (c .before .before .before .before .before .before .before .before .before .before .before .before .before .pre .0) _ (c .before .before .before .before .before .before .before .record-part .ensures) _ (c .before .before .before .before .before .before .kind .ensures) (inr (c .before .before .before .before .before .match .keys7))
 
 same-length : tie.Need-same-length
 same-length c = search needs
@@ -95,9 +100,19 @@ returns-6 : tie.Need-returns-6
 returns-6 c =
     with-index (c .before .before .before .before .before .before .before .before .before .before .before .before .before .before .before .before .before .before .pre .0) _ (c .before .before .before .before .before .before .before .before .before .before .before .before .record-part .ensures) _ (c .before .before .before .before .before .before .before .before .before .before .before .kind .ensures) 6 (c .before .before .before .before .before .before .before .before .before .before .match .keys6) (λ S r. refl) _ _ (c .before .before .before .before .before .before .before .before .before .before .before .before .before .before .before .before .before .before .pre .1) _ _ _ _ (step-done (c .before .before .before .before .before .before .before .before .before .before .before .before .before .before .before .before .before .before .pre .0) _ (c .before .before .before .before .before .before .before .before .before .before .before .before .record-part .ensures) _ (c .before .before .before .before .before .before .before .before .before .before .before .kind .ensures) _ _ _ _ _ (c .before .before .before .before .factor-record .ensures))
 
+same-length-10 : tie.Need-same-length-10
+same-length-10 c = search needs
+
+same-length-11 : tie.Need-same-length-11
+same-length-11 c = search needs
+
 returns-7 : tie.Need-returns-7
 returns-7 c =
-    (other-done (c .before .before .before .before .before .before .before .before .pre .0) _ (c .before .before .record-part .ensures) _ (c .before .kind .ensures) (c .match .rest .0 .0 .0 .0 .0 .1) (c .match .rest .0 .0 .0 .0 .1) (c .match .rest .0 .0 .0 .1) (c .match .rest .0 .0 .1) (c .match .rest .0 .1) (c .match .rest .1), c .before .before .before .before .before .before .before .before .pre .1)
+    with-index (c .before .before .before .before .before .before .before .before .before .before .before .before .before .before .before .before .before .before .pre .0) _ (c .before .before .before .before .before .before .before .before .before .before .before .before .record-part .ensures) _ (c .before .before .before .before .before .before .before .before .before .before .before .kind .ensures) 7 (c .before .before .before .before .before .before .before .before .before .before .match .keys7) (λ S r. refl) _ _ (c .before .before .before .before .before .before .before .before .before .before .before .before .before .before .before .before .before .before .pre .1) _ _ _ _ (step-done (c .before .before .before .before .before .before .before .before .before .before .before .before .before .before .before .before .before .before .pre .0) _ (c .before .before .before .before .before .before .before .before .before .before .before .before .record-part .ensures) _ (c .before .before .before .before .before .before .before .before .before .before .before .kind .ensures) _ _ _ _ _ (c .before .before .before .before .resolve-record2 .ensures))
+
+returns-8 : tie.Need-returns-8
+returns-8 c =
+    (other-done (c .before .before .before .before .before .before .before .before .pre .0) _ (c .before .before .record-part .ensures) _ (c .before .kind .ensures) (c .match .rest .0 .0 .0 .0 .0 .0 .1) (c .match .rest .0 .0 .0 .0 .0 .1) (c .match .rest .0 .0 .0 .0 .1) (c .match .rest .0 .0 .0 .1) (c .match .rest .0 .0 .1) (c .match .rest .0 .1) (c .match .rest .1), c .before .before .before .before .before .before .before .before .pre .1)
 
 pub read-record-spec : {M : Type 1} → statement M
 read-record-spec =
@@ -111,6 +126,7 @@ read-record-spec =
     input-record-requires
     resolve-record-requires
     factor-record-requires
+    resolve-record-requires-2
     same-length
     returns
     same-length-2
@@ -126,4 +142,7 @@ read-record-spec =
     same-length-8
     same-length-9
     returns-6
-    returns-7)
+    same-length-10
+    same-length-11
+    returns-7
+    returns-8)

@@ -2,7 +2,7 @@
 use mathlib.Core.Path.{refl}
 use Prim.Native.Nat.{_+_, _*_}
 use native.Mathlib.Omega.{arith}
-use Rattle.clauses.proofs.Origins.{comes-up, comes-high, factor-up, left-up, right-up}
+use Rattle.clauses.proofs.Origins.{comes-up, comes-high, factor-up, left-up, right-up, right-passes}
 use borrow.Author.Needs.{needs}
 use Rattle.clauses.proofs.literal.parent_place.Statement.{statement}
 use Rattle.clauses.proofs.literal.parent_place.Tie as tie
@@ -11,6 +11,7 @@ use Rattle.clauses.proofs.literal.parent_place.Lts as lts
 use Rattle.clauses.proofs.index_cell.Reads as index-cell-reads
 use Rattle.clauses.proofs.literal.left_over.Reads as left-over-reads
 use Rattle.clauses.proofs.literal.passed_over.Reads as passed-over-reads
+use Rattle.clauses.proofs.literal.passed_rights.Reads as passed-rights-reads
 use Rattle.clauses.proofs.literals_cell.Reads as literals-cell-reads
 use Rattle.clauses.proofs.origin_code.Reads as origin-code-reads
 use Rattle.following.proofs.nodes.part_of.Reads as part-of-reads
@@ -30,12 +31,12 @@ origin-code-requires c κs =
 passed-over-requires : tie.Need-passed-over-requires
 passed-over-requires c κs =
     let H = c .before .before .before .before .before .pre .0 in
-    omega (arith, comes-high H (factor-up H (c .before .origin-code .ensures) (c .before .before .before .before .before .pre .1) (c .if1 .taken) (c .before .before .before .part-of .ensures) (c .before .before .part-of2 .ensures)), c .before .before .before .before .shared-slice-known .given (5 * c .before .before .before .part-of .result + 1))
+    omega (arith, comes-high H (factor-up H (c .before .origin-code .ensures) (c .if1 .taken) (c .before .before .before .part-of .ensures) (c .before .before .part-of2 .ensures)), c .before .before .before .before .shared-slice-known .given (5 * c .before .before .before .part-of .result + 1))
 
 returns : tie.Need-returns
 returns c =
     let H = c .before .before .before .before .before .before .pre .0 in
-    comes-up (c .passed-over .ensures) H (factor-up H (c .before .before .origin-code .ensures) (c .before .before .before .before .before .before .pre .1) (c .before .if1 .taken) (c .before .before .before .before .part-of .ensures) (c .before .before .before .part-of2 .ensures))
+    comes-up (c .passed-over .ensures) H (factor-up H (c .before .before .origin-code .ensures) (c .before .if1 .taken) (c .before .before .before .before .part-of .ensures) (c .before .before .before .part-of2 .ensures))
 
 part-of-requires-3 : tie.Need-part-of-requires-3
 part-of-requires-3 c κs =
@@ -50,32 +51,28 @@ left-over-requires c κs = search needs
 passed-over-requires-2 : tie.Need-passed-over-requires-2
 passed-over-requires-2 c κs =
     let H = c .before .before .before .before .before .before .before .before .before .pre .0 in
-    omega (arith, comes-high H (left-up H (c .before .before .before .before .before .origin-code .ensures) (c .before .before .before .before .if1 .left) (c .before .before .before .before .before .before .before .part-of .ensures) (c .before .before .before .part-of3 .ensures) (c .before .before .literals-cell .ensures) (c .before .left-over .ensures) (c .if2 .taken)), c .before .before .before .before .before .before .before .before .shared-slice-known .given (5 * c .before .before .before .before .before .before .before .part-of .result + 1))
+    omega (arith, comes-high H (left-up H (c .before .before .before .before .before .origin-code .ensures) (c .before .before .before .before .before .before .before .before .before .pre .1) (c .before .before .before .before .if1 .left) (c .before .before .before .before .before .before .before .part-of .ensures) (c .before .before .before .part-of3 .ensures) (c .before .before .literals-cell .ensures) (c .before .left-over .ensures) (c .if2 .taken)), c .before .before .before .before .before .before .before .before .shared-slice-known .given (5 * c .before .before .before .before .before .before .before .part-of .result + 1))
 
 returns-2 : tie.Need-returns-2
 returns-2 c =
     let H = c .before .before .before .before .before .before .before .before .before .before .pre .0 in
-    comes-up (c .passed-over2 .ensures) H (left-up H (c .before .before .before .before .before .before .origin-code .ensures) (c .before .before .before .before .before .if1 .left) (c .before .before .before .before .before .before .before .before .part-of .ensures) (c .before .before .before .before .part-of3 .ensures) (c .before .before .before .literals-cell .ensures) (c .before .before .left-over .ensures) (c .before .if2 .taken))
+    comes-up (c .passed-over2 .ensures) H (left-up H (c .before .before .before .before .before .before .origin-code .ensures) (c .before .before .before .before .before .before .before .before .before .before .pre .1) (c .before .before .before .before .before .if1 .left) (c .before .before .before .before .before .before .before .before .part-of .ensures) (c .before .before .before .before .part-of3 .ensures) (c .before .before .before .literals-cell .ensures) (c .before .before .left-over .ensures) (c .before .if2 .taken))
 
 index-cell-requires : tie.Need-index-cell-requires
 index-cell-requires c κs = search needs
 
-sub-passed-over : tie.Need-sub-passed-over
-sub-passed-over c = search needs
+sub-passed-rights : tie.Need-sub-passed-rights
+sub-passed-rights c = search needs
 
-part-of-requires-4 : tie.Need-part-of-requires-4
-part-of-requires-4 c κs =
-    c .before .before .before .before .before .before .before .before .before .before .pre .0 .clause .room
-
-passed-over-requires-3 : tie.Need-passed-over-requires-3
-passed-over-requires-3 c κs =
-    let H = c .before .before .before .before .before .before .before .before .before .before .before .pre .0 in
-    omega (arith, comes-high H (right-up H (c .before .before .before .before .before .before .before .origin-code .ensures) (c .before .before .before .before .before .before .if1 .left) (c .before .before .before .before .before .before .before .before .before .part-of .ensures) (c .before .before .before .before .before .part-of3 .ensures) (c .before .before .before .before .literals-cell .ensures) (c .before .before .before .left-over .ensures) (c .before .before .if2 .left) (c .before .before .before .before .before .before .before .before .part-of2 .ensures) (c .part-of4 .ensures) refl), c .before .before .before .before .before .before .before .before .before .before .shared-slice-known .given (5 * c .before .before .before .before .before .before .before .before .part-of2 .result + 1))
+passed-rights-requires : tie.Need-passed-rights-requires
+passed-rights-requires c κs =
+    let H = c .before .before .before .before .before .before .before .before .before .before .pre .0 in
+    right-passes H (c .before .before .before .before .before .before .origin-code .ensures) (c .before .before .before .before .before .before .before .before .before .before .pre .1) (c .before .before .before .before .before .if1 .left) (c .before .before .before .before .before .before .before .before .part-of .ensures) (c .before .before .before .before .part-of3 .ensures) (c .before .before .before .literals-cell .ensures) (c .before .before .left-over .ensures) (c .before .if2 .left) (c .before .before .before .before .before .before .before .part-of2 .ensures) (omega (arith, c .before .before .before .before .before .before .before .before .before .shared-slice-known .given (5 * c .before .before .before .before .before .before .before .part-of2 .result + 1)))
 
 returns-3 : tie.Need-returns-3
 returns-3 c =
-    let H = c .before .before .before .before .before .before .before .before .before .before .before .before .pre .0 in
-    comes-up (c .passed-over3 .ensures) H (right-up H (c .before .before .before .before .before .before .before .before .origin-code .ensures) (c .before .before .before .before .before .before .before .if1 .left) (c .before .before .before .before .before .before .before .before .before .before .part-of .ensures) (c .before .before .before .before .before .before .part-of3 .ensures) (c .before .before .before .before .before .literals-cell .ensures) (c .before .before .before .before .left-over .ensures) (c .before .before .before .if2 .left) (c .before .before .before .before .before .before .before .before .before .part-of2 .ensures) (c .before .part-of4 .ensures) (c .before .before .index-cell .ensures))
+    let H = c .before .before .before .before .before .before .before .before .before .before .before .pre .0 in
+    comes-up refl H (right-up H (c .before .before .before .before .before .before .before .origin-code .ensures) (c .before .before .before .before .before .before .before .before .before .before .before .pre .1) (c .before .before .before .before .before .before .if1 .left) (c .before .before .before .before .before .before .before .before .before .part-of .ensures) (c .before .before .before .before .before .part-of3 .ensures) (c .before .before .before .before .literals-cell .ensures) (c .before .before .before .left-over .ensures) (c .before .before .if2 .left) (c .before .before .before .before .before .before .before .before .part-of2 .ensures) (c .passed-rights .ensures) (c .before .index-cell .ensures))
 
 pub parent-place-spec : {M : Type 1} → statement M
 parent-place-spec =
@@ -92,7 +89,6 @@ parent-place-spec =
     passed-over-requires-2
     returns-2
     index-cell-requires
-    sub-passed-over
-    part-of-requires-4
-    passed-over-requires-3
+    sub-passed-rights
+    passed-rights-requires
     returns-3)

@@ -21,7 +21,7 @@ abbrev μ-loop : tie.MeasureT-loop
 
 collect-requires : tie.Need-collect-requires Inv-loop μ-loop
 collect-requires c κs =
-    (length-replicate {A = ℕ} 8704 0, c .before .before .pre .collectable)
+    (length-replicate {A = ℕ} 33024 0, c .before .before .pre .collectable)
 
 loop-holds : tie.Need-loop-holds Inv-loop μ-loop
 loop-holds c =

@@ -14,6 +14,7 @@ use Rattle.clauses.proofs.origin_code.Reads as origin-code-reads
 use Rattle.following.proofs.nodes.part_of.Reads as part-of-reads
 use Rattle.lines.proofs.literals.collect_input.Reads as collect-input-reads
 use Rattle.lines.proofs.literals.delete.Reads as delete-reads
+use Rattle.lines.proofs.literals.delete_rights.Reads as delete-rights-reads
 use Rattle.lines.proofs.literals.+collect.{statement}
 use Rattle.lines.proofs.literals.+collect.Tie.{close}
 
@@ -29,7 +30,7 @@ collect-below t = and 3 collect-kinds.ps (falls 3 collect-kinds.ps _<_ μ-collec
 
 -- what the callees of `collect` say, its own calls below t
 abbrev collect-told : ℕ → collect-lts.Claims
-collect-told t = (origin-code-reads.Asked, origin-code-reads.Learnt, collect-input-reads.Asked, collect-input-reads.Learnt, part-of-reads.Asked, part-of-reads.Learnt, collect-below t, collect.Post, delete-reads.Asked, delete-reads.Learnt, index-cell-reads.Asked, index-cell-reads.Learnt)
+collect-told t = (origin-code-reads.Asked, origin-code-reads.Learnt, collect-input-reads.Asked, collect-input-reads.Learnt, part-of-reads.Asked, part-of-reads.Learnt, collect-below t, collect.Post, delete-reads.Asked, delete-reads.Learnt, index-cell-reads.Asked, index-cell-reads.Learnt, delete-rights-reads.Asked, delete-rights-reads.Learnt)
 
 collect-origin-code-requires : (t : ℕ) → collect-lts.Need-origin-code-requires (collect-told t) (collect-at t) collect.Post
 collect-origin-code-requires t c κs =
@@ -87,36 +88,17 @@ collect-collect-requires-2 t c κs =
     let d = to-second (c .before .before .before .before .before .before .before .before .before .before .before .before .before .pre .1 .1) (c .before .before .before .before .before .before .before .before .before .before .before .origin-code .ensures) (c .before .before .before .before .before .before .before .before .before .before .if1 .left) (c .before .before .before .before .before .before .before .before .before .part-of .ensures) (c .before .before .before .before .before .before .before .before .part-of2 .ensures) (c .before .before .before .before .before .before .collect .ensures) (c .before .before .before .before .before .if2 .left) (c .before .before .before .part-of3 .ensures) (c .before .before .delete2 .ensures) (c .before .index-cell .ensures) in
     (omega (arith, c .before .before .before .before .before .before .before .before .before .before .before .before .before .pre .0, d .0), (c .before .before .delete2 .ensures .room, d .1))
 
-collect-part-of-requires-4 : (t : ℕ) → collect-lts.Need-part-of-requires-4 (collect-told t) (collect-at t) collect.Post
-collect-part-of-requires-4 t c κs =
-    c .before .before .before .before .before .before .before .before .before .before .before .before .before .before .before .pre .1 .1 .originRoom
-
-collect-delete-requires-3 : (t : ℕ) → collect-lts.Need-delete-requires-3 (collect-told t) (collect-at t) collect.Post
-collect-delete-requires-3 t c κs =
-    let d = second-room (c .before .before .before .before .before .before .before .before .before .before .before .before .before .before .before .before .pre .1 .1) (c .before .before .before .before .before .before .before .before .before .before .before .before .before .before .origin-code .ensures) (c .before .before .before .before .before .before .before .before .before .before .before .before .before .if1 .left) (c .before .before .before .before .before .before .before .before .before .before .before .before .part-of .ensures) (c .before .before .before .before .before .before .before .before .before .before .before .part-of2 .ensures) (c .before .before .before .before .before .before .before .before .before .collect .ensures) (c .before .before .before .before .before .before .before .before .if2 .left) (c .before .before .before .before .before .before .part-of3 .ensures) (c .before .before .before .before .before .delete2 .ensures) (c .before .before .before .before .index-cell .ensures) (c .before .before .collect2 .ensures) in
-    (c .before .before .collect2 .ensures .room, (d .0, d .1))
+collect-delete-rights-requires : (t : ℕ) → collect-lts.Need-delete-rights-requires (collect-told t) (collect-at t) collect.Post
+collect-delete-rights-requires t c κs =
+    let d = second-room (c .before .before .before .before .before .before .before .before .before .before .before .before .before .before .before .pre .1 .1) (c .before .before .before .before .before .before .before .before .before .before .before .before .before .origin-code .ensures) (c .before .before .before .before .before .before .before .before .before .before .before .before .if1 .left) (c .before .before .before .before .before .before .before .before .before .before .before .part-of .ensures) (c .before .before .before .before .before .before .before .before .before .before .part-of2 .ensures) (c .before .before .before .before .before .before .before .before .collect .ensures) (c .before .before .before .before .before .before .before .if2 .left) (c .before .before .before .before .before .part-of3 .ensures) (c .before .before .before .before .delete2 .ensures) (c .before .before .before .index-cell .ensures) (c .before .collect2 .ensures) in
+    (c .before .before .before .before .before .before .before .before .before .before .before .before .before .before .before .pre .1 .1 .originRoom, (c .before .collect2 .ensures .room, (d .0, d .1)))
 
 collect-returns-3 : (t : ℕ) → collect-lts.Need-returns-3 (collect-told t) (collect-at t) collect.Post
 collect-returns-3 t c =
-    from-both (c .before .before .before .before .before .before .before .before .before .before .before .before .before .before .before .before .before .pre .1 .1) (c .before .before .before .before .before .before .before .before .before .before .before .before .before .before .before .origin-code .ensures) (c .before .before .before .before .before .before .before .before .before .before .before .before .before .before .if1 .left) (c .before .before .before .before .before .before .before .before .before .before .before .before .before .part-of .ensures) (c .before .before .before .before .before .before .before .before .before .before .before .before .part-of2 .ensures) (c .before .before .before .before .before .before .before .before .before .before .collect .ensures) (c .before .before .before .before .before .before .before .before .before .if2 .left) (c .before .before .before .before .before .before .before .part-of3 .ensures) (c .before .before .before .before .before .before .delete2 .ensures) (c .before .before .before .before .before .index-cell .ensures) (c .before .before .before .collect2 .ensures) (c .before .part-of4 .ensures) (c .delete3 .ensures)
+    from-both (c .before .before .before .before .before .before .before .before .before .before .before .before .before .before .before .before .pre .1 .1) (c .before .before .before .before .before .before .before .before .before .before .before .before .before .before .origin-code .ensures) (c .before .before .before .before .before .before .before .before .before .before .before .before .before .if1 .left) (c .before .before .before .before .before .before .before .before .before .before .before .before .part-of .ensures) (c .before .before .before .before .before .before .before .before .before .before .before .part-of2 .ensures) (c .before .before .before .before .before .before .before .before .before .collect .ensures) (c .before .before .before .before .before .before .before .before .if2 .left) (c .before .before .before .before .before .before .part-of3 .ensures) (c .before .before .before .before .before .delete2 .ensures) (c .before .before .before .before .index-cell .ensures) (c .before .before .collect2 .ensures) (c .delete-rights .ensures)
 
 pub +collect-spec : {M : Type 1} → statement M
-+collect-spec = close μ-collect λ t. collect-lts.spec (
-  origin-code-reads.Asked,
-  origin-code-reads.Learnt,
-  collect-input-reads.Asked,
-  collect-input-reads.Learnt,
-  part-of-reads.Asked,
-  part-of-reads.Learnt,
-  collect-below t,
-  collect.Post,
-  delete-reads.Asked,
-  delete-reads.Learnt,
-  index-cell-reads.Asked,
-  index-cell-reads.Learnt,
-)
-    (collect-at t)
-    collect.Post
++collect-spec = close μ-collect λ t. collect-lts.spec (collect-told t) (collect-at t) collect.Post
     (collect-origin-code-requires t)
     (collect-collect-input-requires t)
     (collect-returns t)
@@ -130,6 +112,5 @@ pub +collect-spec : {M : Type 1} → statement M
     (collect-index-cell-requires t)
     (collect-add-above t)
     (collect-collect-requires-2 t)
-    (collect-part-of-requires-4 t)
-    (collect-delete-requires-3 t)
+    (collect-delete-rights-requires t)
     (collect-returns-3 t)

@@ -1,5 +1,7 @@
 //! Random files from a seed: mostly meaningful ones, and damage to them.
 
+mod several;
+
 use yestrwyn_second::checker::Checker;
 use yestrwyn_second::clause::literal;
 use yestrwyn_types::limits::{RECORDS, RECORD_BYTES};
@@ -8,6 +10,8 @@ use yestrwyn_types::Reason;
 
 use crate::alone::unification_alone;
 use crate::sketch::Sketch;
+
+pub use several::{several_file, several_file_of};
 
 /// The generator SplitMix64: equal seeds give equal numbers everywhere.
 #[derive(Clone, Debug)]
@@ -50,17 +54,18 @@ impl SplitMix64 {
 pub fn random_file(seed: u64) -> Vec<u8> {
     let mut random = SplitMix64::new(seed);
     let records = random.between(5, 60);
-    make(random, records)
+    make(random, records, false)
 }
 
 /// The same with a number of records to aim at, up to 4,096. Longer files have more symbols and rows.
 pub fn random_file_of(seed: u64, records: usize) -> Vec<u8> {
-    make(SplitMix64::new(seed), records.min(RECORDS))
+    make(SplitMix64::new(seed), records.min(RECORDS), false)
 }
 
-/// Writes a file in the usual order: symbols, rows, clauses, then steps with a few others between.
-fn make(random: SplitMix64, wanted: usize) -> Vec<u8> {
-    let mut maker = Maker::new(random, wanted);
+/// Writes a file in the usual order: symbols, rows, clauses, then steps with a few others between. Are there steps
+/// on several right literals among them, and clauses that these can be made of?
+fn make(random: SplitMix64, wanted: usize, several: bool) -> Vec<u8> {
+    let mut maker = Maker::new(random, wanted, several);
     maker.symbols();
     maker.rows();
     maker.clauses();
@@ -74,6 +79,7 @@ struct Maker {
     file: Sketch,
     checker: Checker,
     wanted: usize,
+    several: bool,
     predicates: Vec<(u16, u8)>,
     functions: Vec<(u16, u8)>,
     atoms: Vec<u16>,
@@ -83,12 +89,13 @@ struct Maker {
 }
 
 impl Maker {
-    fn new(random: SplitMix64, wanted: usize) -> Maker {
+    fn new(random: SplitMix64, wanted: usize, several: bool) -> Maker {
         Maker {
             random,
             file: Sketch::new(),
             checker: Checker::new(),
             wanted,
+            several,
             predicates: Vec::new(),
             functions: Vec::new(),
             atoms: Vec::new(),
@@ -230,8 +237,11 @@ impl Maker {
             36..=38 => self.random.between(4, 7),
             _ => usize::from(!self.random.one_in(4)),
         };
-        let codes: Vec<u16> = (0..count).map(|_| self.code()).collect();
-        self.write(kind::INPUT, count as u8, &codes, false);
+        let mut codes: Vec<u16> = (0..count).map(|_| self.code()).collect();
+        if self.several {
+            self.more_alike(&mut codes);
+        }
+        self.write(kind::INPUT, codes.len() as u8, &codes, false);
     }
 
     /// A literal's code: some atom with some sign.
@@ -251,6 +261,7 @@ impl Maker {
                 1 => self.atom(),
                 2 | 3 => self.clause(),
                 4..=9 => self.factor(),
+                10..=24 if self.several => self.resolve_several(),
                 _ => self.resolve(),
             }
         }

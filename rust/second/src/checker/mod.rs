@@ -1,13 +1,15 @@
 //! The check of one record after another: what stands so far, and the next record or its reason.
 
-use yestrwyn_types::limits::{ARITY, INDEX, INPUT_LITERALS, LITERALS, RECORDS, RECORD_BYTES, VARIABLES};
+mod steps;
+
+use yestrwyn_types::limits::{ARITY, INPUT_LITERALS, RECORDS, RECORD_BYTES, VARIABLES};
 use yestrwyn_types::record::{kind, Record};
 use yestrwyn_types::{Answer, Reason, Verdict};
 
-use crate::clause::{literal, Clause, Literal, Loader, Origin};
+use crate::clause::{Clause, Loader, Origin};
 use crate::earliest::Earliest;
 use crate::environment::Environment;
-use crate::expression::{Binding, Expression, Node};
+use crate::expression::{Binding, Node};
 use crate::outline::Outlines;
 use crate::unify::Unifier;
 
@@ -57,6 +59,7 @@ impl Checker {
             kind::INPUT => self.input(&record),
             kind::RESOLVE => self.resolve(&record),
             kind::FACTOR => self.factor(&record),
+            kind::RESOLVE_SEVERAL => self.resolve_several(&record),
             _ => Err(Reason::Kind),
         }?;
         self.records += 1;
@@ -172,73 +175,10 @@ impl Checker {
         Ok(())
     }
 
-    /// Kind 5: the resolvent on literals of two clauses.
-    fn resolve(&mut self, record: &Record) -> Result<(), Reason> {
-        require(record.count == 0 && record.zero_from(4), Reason::Range)?;
-        let [left, left_literal, right, right_literal, ..] = record.fields;
-        let (l, first) = self.named(left, left_literal)?;
-        let (r, second) = self.named(right, right_literal)?;
-        require(first.positive != second.positive, Reason::Signs)?;
-        let literals = (l.literals + r.literals).saturating_sub(2);
-        let index = l.max_index + r.max_index;
-        require(literals <= LITERALS && index <= INDEX, Reason::TooLarge)?;
-        self.compare_outlines(first, second)?;
-        self.environment.clear(index);
-        self.load_at(left, 0);
-        self.load_at(right, l.max_index);
-        let raised = Expression { row: second.atom.row, index: second.atom.index + l.max_index };
-        let held = self.unify(first.atom, raised)?;
-        self.clause(Origin::Resolve { left, left_literal, right, right_literal }, literals, index, held);
-        Ok(())
-    }
-
-    /// Kind 6: the factor on two literals of a clause.
-    fn factor(&mut self, record: &Record) -> Result<(), Reason> {
-        require(record.count == 0 && record.zero_from(3), Reason::Range)?;
-        let [parent, kept, deleted, ..] = record.fields;
-        let (clause, first) = self.named(parent, kept)?;
-        let (_, second) = self.named(parent, deleted)?;
-        require(kept != deleted && first.positive == second.positive, Reason::Signs)?;
-        self.compare_outlines(first, second)?;
-        self.environment.clear(clause.max_index);
-        self.load_at(parent, 0);
-        let held = self.unify(first.atom, second.atom)?;
-        let literals = clause.literals.saturating_sub(1);
-        self.clause(Origin::Factor { parent, kept, deleted }, literals, clause.max_index, held);
-        Ok(())
-    }
-
-    /// A clause and a literal of it, which a step names.
-    fn named(&self, number: u16, of: u16) -> Result<(Clause, Literal), Reason> {
-        let clause = self.clauses.get(usize::from(number)).ok_or(Reason::Missing)?;
-        let Some(found) = literal(&self.clauses, number, of) else { return Err(Reason::Missing) };
-        Ok((*clause, found))
-    }
-
-    /// Compares two literals' atoms as the input clauses have them, before anything is loaded or unified.
-    fn compare_outlines(&mut self, left: Literal, right: Literal) -> Result<(), Reason> {
-        self.work = Some(0);
-        require(!self.outlines.clash(&self.nodes, left.atom.row, right.atom.row), Reason::Clash)
-    }
-
     /// Loads the bindings of a derivation into the environment, indices raised by `offset`.
     fn load_at(&mut self, clause: u16, offset: u16) {
         let Checker { clauses, bindings, environment, loader, .. } = self;
         loader.load(clauses, bindings, environment, clause, offset);
-    }
-
-    /// Unifies in the loaded environment and returns the number of bindings held before.
-    /// A refused step leaves no bindings behind.
-    fn unify(&mut self, left: Expression, right: Expression) -> Result<usize, Reason> {
-        let held = self.bindings.len();
-        let Checker { nodes, bindings, environment, unifier, .. } = self;
-        let result = unifier.unify(nodes, environment, bindings, left, right);
-        self.work = Some(self.unifier.work());
-        if let Err(reason) = result {
-            self.bindings.truncate(held);
-            return Err(reason);
-        }
-        Ok(held)
     }
 
     /// Adds a clause whose own bindings are those from number `held` on.
