@@ -59,7 +59,8 @@ extern "C" {
  *              reason, 1 to 14 and never 6; open: 0
  *   answer[2]  refused: the record; otherwise 0
  *   answer[3], answer[4], answer[5], answer[6]
- *              how many symbols, rows, clauses and bindings there are
+ *              how many symbols, rows, clauses and bindings there are; the
+ *              last is the sum of the clauses' fifth cells
  *
  * If answer has fewer than 7 cells, nothing at all is touched. Cells of answer
  * past the seventh are left alone, as are the cells of each table past its

@@ -17,9 +17,9 @@ use Rattle.tables.specs.Cells.{clearedPart}
 use Rattle.entry.specs.Progress.{nodeTableOf, countsOf, ReadTo, tablesWith}
 use Rattle.checker.specs.Reader.{Begun, EndsAs, EndedWith, Readable, FileRead, FileReadWith}
 use Rattle.verdict.specs.Refusal.{Reason, reasonNumber}
-use Rattle.verdict.specs.State.{State, bindingsOf}
+use Rattle.verdict.specs.State.{State}
 use Rattle.verdict.specs.Step.{Ending, allStand, refusedAt, stateOf}
-use Rattle.verdict.specs.Tables.{Tables, cellsOfClause, clauseCells, filledTables}
+use Rattle.verdict.specs.Tables.{Tables, cellsOfClause, clauseCells, filledTables, bindingsOf}
 use Rattle.verdict.specs.Verdict.{verdictNumbers, answerNumbers, isEmpty, firstEmpty, everyClause, standing, verdictOf, answerOf, ending}
 use Rattle.verdict.proofs.Acceptance.{cells-length}
 use Rattle.entry.proofs.Kept.{Sizes, sizes}

@@ -14,13 +14,13 @@ use Rattle.tables.specs.Cells.{clearedPart}
 use Rattle.derivation.specs.Stored.{originTableOf}
 use Rattle.entry.specs.Progress.{nodeTableOf}
 use Rattle.inference.proofs.KeptClauses.{nodes-room, origins-room}
-use Rattle.verdict.specs.State.{held}
 use Rattle.verdict.specs.Tables.{Tables, lengthsOf, tablesAfter}
 use Rattle.verdict.specs.Verdict.{check, answerNumbers, longEnough, fittingLength}
 use Rattle.verdict.specs.Verdict as verdicts
 use Rattle.verdict.proofs.OutlinesShown.{outlines-shown}
 use Rattle.verdict.proofs.RepeatsShown.{repeats-shown}
 use Rattle.verdict.proofs.SeveralShown.{several-shown}
+use Rattle.verdict.proofs.TotalShown.{bindings-held}
 use Rattle.verdict.proofs.Demanded.{check-length, check-tables, check-reads, tables-length, tables-short, tables-read, demand1, demand2, demand3}
 use borrow.Author.Tests.{not-false, not-true}
 use Rattle.answer.specs.declared.Answer.{Answer}
@@ -40,6 +40,7 @@ module _ (F : List ℕ) (t : Tables) (a : Answer) (here : Tables) (isAnswer : an
     outlines = outlines-shown;
     repeats = repeats-shown F;
     several = several-shown F;
+    held = bindings-held F t;
   }
 
 pub readable : (F : List ℕ) (t : Tables) (b : Bool) → b ≡ fittingLength (length F) → not b ≡ false → (d : Bool) → d ≡ longEnough (lengthsOf t) → not d ≡ false → Readable F t
@@ -48,7 +49,6 @@ readable F t b p f d q l = record { fit = sym p ∙ not-false b f; long = sym q 
 -- The three ways, by the tests of the program.
 module _ (F : List ℕ) (t : Tables) (a : Answer) (b : Bool) (isFitting : b ≡ fittingLength (length F)) where
   pub checked-length : not b ≡ true → answerGiven a ≡ untouchedNumbers 1 → Checked F t a t
-  unfolding held
   checked-length q p =
       let f : fittingLength (length F) ≡ false = sym isFitting ∙ not-true b q in
       checked F t a t (p ∙ sym (ap answerNumbers (check-length F t f))) (sym (tables-length F t f))
@@ -58,7 +58,6 @@ module _ (F : List ℕ) (t : Tables) (a : Answer) (b : Bool) (isFitting : b ≡ 
     fits = sym isFitting ∙ not-false b fit
 
     pub checked-tables : not d ≡ true → answerGiven a ≡ untouchedNumbers 2 → Checked F t a t
-    unfolding held
     checked-tables q p =
         let l : longEnough (lengthsOf t) ≡ false = sym isLong ∙ not-true d q in
         checked F t a t (p ∙ sym (ap answerNumbers (check-tables F t fits l))) (sym (tables-short F t fits l))

@@ -10,6 +10,7 @@ use Rattle.verdict.specs.Demands.{Demand1, Demand2, Demand3}
 use Rattle.verdict.specs.Outlines.{OutlinesBeforeUnification}
 use Rattle.verdict.specs.Repeats.{RepeatedRows}
 use Rattle.verdict.specs.Several.{SeveralLiterals}
+use Rattle.verdict.specs.Total.{BindingsHeld}
 use Rattle.answer.specs.Given.{answerGiven}
 use Rattle.entry.specs.Progress.{nodeTableOf, ReadTo}
 use Rattle.verdict.specs.State.{rowsOf, derivations}
@@ -35,6 +36,8 @@ pub record Checked (file : List ℕ) (before : Tables) (a : Answer) (after : Tab
   pub repeats : RepeatedRows file
   -- Document 02, Q-3.
   pub several : SeveralLiterals file
+  -- Document 02, Q-4.
+  pub held : BindingsHeld file before
 
 -- A node table, a table of origins and an array of values that the caller lends, whatever they hold.
 pub record Workspace : Type 0 where

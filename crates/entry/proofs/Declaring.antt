@@ -25,9 +25,9 @@ use Rattle.tables.specs.Cells.{withClauseCells}
 use Rattle.fields.specs.Fields.{arityIn}
 use Rattle.entry.specs.Progress.{cellsOfRow, cellsAfter, countsOf, Kept, Next}
 use Rattle.verdict.specs.Refusal.{outOfRange, notThere, variableLiteral, reasonNumber, kindOfRecord, zeros, inRange, argumentRows, hasArity, allBelow, argumentsThere, allApplications}
-use Rattle.verdict.specs.State.{arities, State, withSymbol, withRow, withClause, entry, rowsOf, derivations, arityOf, rowOf, earliestOf, recordOfRow, bindingsOf, held, nextClause}
+use Rattle.verdict.specs.State.{arities, State, withSymbol, withRow, withClause, entry, rowsOf, derivations, arityOf, rowOf, earliestOf, recordOfRow, nextClause}
 use Rattle.verdict.specs.Step.{stands, Result, require, newApplication, newLiterals, step}
-use Rattle.verdict.specs.Tables.{Tables, symbolCells, rowCells, clauseCells, bindingCells, filled, filledTables}
+use Rattle.verdict.specs.Tables.{Tables, symbolCells, rowCells, clauseCells, bindingCells, filled, filledTables, bindingsOf}
 use Rattle.verdict.proofs.Acceptance.{cells-length}
 use Rattle.verdict.proofs.Advance.{RowFits}
 use Rattle.entry.proofs.Entering.{row-found, variable-tests, row-written, clause-written, variable-cells, application-cells, input-cells}
@@ -35,7 +35,6 @@ use Rattle.entry.proofs.Filling.{filled-set, filled-five, filled-low}
 use Rattle.verdict.proofs.Inversions.{all-below, rows-below, not-equal, entry-below, entry-more, entry-none, entry-some, not-below}
 use Rattle.entry.proofs.Kept.{stand, Sizes, sizes, few-records, same-rows, few-symbols, few-rows, few-clauses, rows-fit, kept-next}
 use Rattle.verdict.proofs.Resolution.{at-kind}
-use Rattle.verdict.proofs.Standing.{held-symbol, held-row, held-clause}
 use Rattle.entry.specs.declared.entry.Counts.{Counts}
 use Rattle.entry.specs.declared.entry.Entered.{Entered}
 use Rattle.entry.specs.declared.entry.Entered.the-variants.{Stands, Refused}
@@ -127,7 +126,7 @@ module _ (F : List ℕ) (t : Tables) (k : ℕ) (S : State) (n : Counts) (here : 
       ∙ ap (λ (x : List ℕ). filled 4096 x (t .symbols)) (sym (record-cells-more k s (S .symbols)))
 
   symbol-counts : (s : ℕ) → moreSymbols n ≡ countsOf (withSymbol S k s)
-  symbol-counts s = ap moreSymbols (K .counts) ∙ (λ i. record { symbols = add-one (length (S .symbols)) i; rows = length (S .rows); clauses = length (S .clauses); bindings = sym (held-symbol S k s) i })
+  symbol-counts s = ap moreSymbols (K .counts) ∙ (λ i. record { symbols = add-one (length (S .symbols)) i; rows = length (S .rows); clauses = length (S .clauses); bindings = S .total })
 
   abbrev withSymbols : List ℕ → Tables
   withSymbols x = record { symbols = x; rows = here .rows; clauses = here .clauses; bindings = here .bindings }
@@ -157,7 +156,7 @@ module _ (F : List ℕ) (t : Tables) (k : ℕ) (S : State) (n : Counts) (here : 
       ∙ ap (λ (x : List ℕ). filled 4096 x (t .rows)) (sym (record-cells-more j w (S .rows)))
 
   row-counts : (j : ℕ) (w : Row) → moreRows n ≡ countsOf (withRow S j w)
-  row-counts j w = ap moreRows (K .counts) ∙ (λ i. record { symbols = length (S .symbols); rows = add-one (length (S .rows)) i; clauses = length (S .clauses); bindings = sym (held-row S j w) i })
+  row-counts j w = ap moreRows (K .counts) ∙ (λ i. record { symbols = length (S .symbols); rows = add-one (length (S .rows)) i; clauses = length (S .clauses); bindings = S .total })
 
   -- The record of a row that is there, off the table.
   record-read : (q : ℕ) → q < length (S .rows) → (j : ℕ) → entry (map (λ (u : ℕ × Row). u .0) (S .rows)) q ≡ some j → getD (here .rows) q 0 ≡ j
@@ -270,9 +269,8 @@ module _ (F : List ℕ) (t : Tables) (k : ℕ) (S : State) (n : Counts) (here : 
       try false q = (outOfRange, at ∙ ap (λ (b : Bool). require b outOfRange (require (argumentsThere S rec) notThere last)) q, refl, K .tables, K .nodes, K .origins, K .values)
 
   -- One clause more, with the cells of a clause that adds bindings up to h.
-  pub clause-table : (c : Derivation) (a b d e : ℕ) → a ≡ length (literals c) → b ≡ maximumIndex c → d ≡ held S → e ≡ length (ownBindings c)
+  pub clause-table : (c : Derivation) (a b d e : ℕ) → a ≡ length (literals c) → b ≡ maximumIndex c → d ≡ bindingsOf (derivations S) → e ≡ length (ownBindings c)
       → withClauseCells (here .clauses) (n .clauses) k a b d e ≡ filled 20480 (clauseCells (withClause S k c .clauses)) (t .clauses)
-  unfolding held
   clause-table c a b d e pa pb pd pe =
       (λ i. withClauseCells (clauses-here i) (ap (λ (x : Counts). x .clauses) (K .counts) i) k (pa i) (pb i) (pd i) (pe i))
       ∙ filled-five 20480 (clauseCells (S .clauses)) (t .clauses) (length (S .clauses)) k (length (literals c)) (maximumIndex c) (bindingsOf (derivations S)) (length (ownBindings c)) (cells-length (S .clauses)) (omega (arith, few-clauses F t k S n here N O A K l, below))
@@ -309,10 +307,10 @@ module _ (F : List ℕ) (t : Tables) (k : ℕ) (S : State) (n : Counts) (here : 
           sym (length-map (newLiterals S rec) (λ (x : RowLiteral). (x .0, (x .1, 1))) ∙ length-map (inputLiterals rec) (λ (x : RowLiteral). (x .0, earliestOf S (x .1))) ∙ length-map (take (rec .count) (rec .fields)) literalOf ∙ length-take-le (rec .count) (rec .fields) m)
 
       counts : moreClauses n ≡ countsOf (withClause S k (input (nextClause S) (newLiterals S rec)))
-      counts = ap moreClauses (K .counts) ∙ (λ i. record { symbols = length (S .symbols); rows = length (S .rows); clauses = add-one (length (S .clauses)) i; bindings = (sym (add-zero (held S)) ∙ sym (held-clause S k (input (nextClause S) (newLiterals S rec)))) i })
+      counts = ap moreClauses (K .counts) ∙ (λ i. record { symbols = length (S .symbols); rows = length (S .rows); clauses = add-one (length (S .clauses)) i; bindings = sym (add-zero (S .total)) i })
 
       made : inRange inputKind rec ≡ true → withClauses (withClauseCells (here .clauses) (n .clauses) k (countOf part) 1 (n .bindings) 0) ≡ filledTables (withClause S k (input (nextClause S) (newLiterals S rec))) t
-      made q = λ i. record { symbols = symbols-here i; rows = rows-here i; clauses = clause-table (input (nextClause S) (newLiterals S rec)) (countOf part) 1 (n .bindings) 0 (small q) refl (ap (λ (x : Counts). x .bindings) (K .counts)) refl i; bindings = (bindings-here ∙ ap (λ (x : List ℕ). filled 32768 x (t .bindings)) (sym (append-nil (bindingCells (derivations S))))) i }
+      made q = λ i. record { symbols = symbols-here i; rows = rows-here i; clauses = clause-table (input (nextClause S) (newLiterals S rec)) (countOf part) 1 (n .bindings) 0 (small q) refl (ap (λ (x : Counts). x .bindings) (K .counts) ∙ stand F t k S n here N O A K l .ok .totalOk) refl i; bindings = (bindings-here ∙ ap (λ (x : List ℕ). filled 32768 x (t .bindings)) (sym (append-nil (bindingCells (derivations S))))) i }
 
       origin : inRange inputKind rec ≡ true → Each (λ (x : RowLiteral). x .1 < length (rowsOf S)) (inputLiterals rec) → withNode O (n .clauses) (1 ∷ takenLiterals N (fieldsOf part)) ≡ originTableOf (derivations (withClause S k (input (nextClause S) (newLiterals S rec))))
       origin q h = clause-origin (input (nextClause S) (newLiterals S rec)) (1 ∷ takenLiterals N (fieldsOf part)) (input-cells (rowsOf S) fitting few N (K .nodes) part (nextClause S) q h)

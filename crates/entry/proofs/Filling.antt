@@ -12,7 +12,6 @@ use Rattle.unification.specs.Bindings.{bindingsFrom}
 use Rattle.unification.specs.Unification.{full}
 use Rattle.unification.proofs.Tests.{to-T}
 use Rattle.tables.specs.Cells.{clearedPart, withClauseCells}
-use Rattle.verdict.specs.State.{held}
 use Rattle.verdict.specs.Tables.{cellsOfBindings, filled}
 use Rattle.verdict.proofs.Inversions.{not-below}
 use Rattle.entry.proofs.NodeTable.{zeros-read}

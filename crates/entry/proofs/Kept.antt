@@ -18,10 +18,12 @@ use Rattle.verdict.specs.Refusal.{Reason}
 use Rattle.verdict.specs.State.{State, emptyState, rowsOf, derivations}
 use Rattle.verdict.specs.Step.{stands, refused, Result, step, read, allStand, refusedAt}
 use Rattle.verdict.specs.Tables.{Tables, lengthsOf, filledTables}
+use Rattle.verdict.specs.Total.{fifthCells}
 use Rattle.verdict.specs.Verdict.{longEnough, fittingLength}
 use Rattle.verdict.proofs.Advance.{Standing, RowFits, Tally, standing-start, take-next, read-one, advance}
 use Rattle.entry.proofs.Entering.{node-table-length, origin-table-length}
 use Rattle.verdict.proofs.Reading.{ending-stands}
+use Rattle.verdict.proofs.TotalShown.{total-sum}
 use Rattle.entry.specs.declared.entry.Counts.{Counts}
 
 read-split : (S : State) (j : ℕ) (xs ys : List Record) (T : State) → read S j (xs ++ ys) ≡ allStand T → (U : State) × (read S j xs ≡ allStand U)
@@ -116,4 +118,7 @@ module _ (F : List ℕ) (t : Tables) (k : ℕ) (S : State) (n : Counts) (here : 
 
   -- After a record that stands: what is left to show are the counts and the tables.
   pub kept-next : (T : State) → step S k (decoded (recordPart F k)) ≡ stands T → (n′ : Counts) (here′ : Tables) (N′ O′ A′ : List ℕ) → n′ ≡ countsOf T → here′ ≡ filledTables T t → N′ ≡ nodeTableOf (rowsOf T) → O′ ≡ originTableOf (derivations T) → length A′ ≡ 524416 → Kept F t (suc k) T n′ here′ N′ O′ A′
-  kept-next T q n′ here′ N′ O′ A′ c h m o v = record { fit = K .fit; long = K .long; before = advance F k S stand l T q .before; counts = c; tables = h; nodes = m; origins = o; values = v }
+  kept-next T q n′ here′ N′ O′ A′ c h m o v =
+      let a = advance F k S stand l T q in
+      let s : n′ .bindings ≡ fifthCells (here′ .clauses) (n′ .clauses) = ap (λ (x : Counts). x .bindings) c ∙ total-sum (suc k) T (a .ok) t ∙ sym (λ i. fifthCells (h i .clauses) (c i .clauses)) in
+      record { fit = K .fit; long = K .long; before = a .before; counts = c; held = s; tables = h; nodes = m; origins = o; values = v }

@@ -10,9 +10,10 @@ use Rattle.unification.specs.Repeated.{earliestEqual}
 use Rattle.unification.specs.Row.{variable, Row, application}
 use Rattle.derivation.specs.Stored.{originTableOf}
 use Rattle.verdict.specs.Refusal.{Reason, reasonNumber}
-use Rattle.verdict.specs.State.{State, emptyState, rowsOf, derivations, held}
+use Rattle.verdict.specs.State.{State, emptyState, rowsOf, derivations}
 use Rattle.verdict.specs.Step.{stands, refused, step, read, allStand}
 use Rattle.verdict.specs.Tables.{Tables, lengthsOf, filledTables}
+use Rattle.verdict.specs.Total.{fifthCells}
 use Rattle.verdict.specs.Verdict.{longEnough, fittingLength}
 use Rattle.entry.specs.Program.{repeatCells}
 use Rattle.entry.specs.declared.entry.Counts.{Counts}
@@ -36,19 +37,21 @@ nodeTableOf ws = nodeList ws ++ replicate (32768 - 8 * length ws) 0
 
 -- The counts of a state.
 abbrev pub countsOf : State → Counts
-countsOf S = record { symbols = length (S .symbols); rows = length (S .rows); clauses = length (S .clauses); bindings = held S }
+countsOf S = record { symbols = length (S .symbols); rows = length (S .rows); clauses = length (S .clauses); bindings = S .total }
 
 -- The four tables.
 abbrev pub tablesWith : List ℕ → List ℕ → List ℕ → List ℕ → Tables
 tablesWith symbols rows C B = record { symbols = symbols; rows = rows; clauses = C; bindings = B }
 
 -- What the program has after k records of the file F, begun on the tables t: the counts, tables, node table and table of origins of the
--- state that these records leave. What the array of values holds between steps does not matter.
+-- state that these records leave. What the array of values holds between steps does not matter. Document 02, Q-4: the bindings counted, the
+-- running total of the state, are the sum over the clauses held, off the table.
 pub record Kept (F : List ℕ) (t : Tables) (k : ℕ) (S : State) (n : Counts) (here : Tables) (N O A : List ℕ) : Type 0 where
   pub fit : fittingLength (length F) ≡ true
   pub long : longEnough (lengthsOf t) ≡ true
   pub before : read emptyState 0 (take k (records F)) ≡ allStand S
   pub counts : n ≡ countsOf S
+  pub held : n .bindings ≡ fifthCells (here .clauses) (n .clauses)
   pub tables : here ≡ filledTables S t
   pub nodes : N ≡ nodeTableOf (rowsOf S)
   pub origins : O ≡ originTableOf (derivations S)

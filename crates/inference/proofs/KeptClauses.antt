@@ -28,7 +28,7 @@ use Rattle.clauses.proofs.Origins.{stored-cells}
 use Rattle.derivation.proofs.OwnBindings.{BindingThere, FreeIn, BindingsThere, bindings-there}
 use Rattle.entry.specs.Progress.{Kept}
 use Rattle.verdict.specs.Refusal.{mostIndex}
-use Rattle.verdict.specs.State.{arities, State, rowsOf, derivations, arityOf, clauseOf, rowOf, held}
+use Rattle.verdict.specs.State.{arities, State, rowsOf, derivations, arityOf, clauseOf, rowOf}
 use Rattle.verdict.specs.Tables.{Tables, clauseCells, bindingCells, filled}
 use Rattle.verdict.proofs.Advance.{Standing, RowFits}
 use Rattle.entry.proofs.Entering.{node-table-length, origin-table-length}
@@ -88,7 +88,7 @@ module _ {F : List ℕ} {t : Tables} {k : ℕ} {S : State} {n : Counts} {here : 
   pub literals-of : (c : ℕ) (d : Derivation) → clauseOf S c ≡ some d → literalsCell (here .clauses) c ≡ length (literals d)
   literals-of c d q = stored-cells (stored-of c d q) .literalCount
 
-  pub order-in : (c : ℕ) (d : Derivation) → clauseOf S c ≡ some d → InOrder (rowsOf S) (held S) d
+  pub order-in : (c : ℕ) (d : Derivation) → clauseOf S c ≡ some d → InOrder (rowsOf S) (S .total) d
   order-in c d q = order-of 4096 S ok-of c d q
 
   pub index-fits : (c : ℕ) (d : Derivation) → clauseOf S c ≡ some d → maximumIndex d ≤ 4096
@@ -172,4 +172,4 @@ module _ {F : List ℕ} {t : Tables} {k : ℕ} {S : State} {n : Counts} {here : 
       let o = order-in c d q in
       let s = index-fits c d q in
       factor-models nodes-fine (stored-of c d q) (bindings-in c d q) (sym p) (omega arith) (cleared-free N A₀ A₁ top nodes-fine C) L
-      (λ e h. node-ends mostLinks (lookup d) (earliest-lookup c d q) (short-le (λ r. r < length (rowsOf S)) (rowOf S) (held S) mostLinks (lookup d) (held-links 4096 S ok-of) (o .chains)) e h)
+      (λ e h. node-ends mostLinks (lookup d) (earliest-lookup c d q) (short-le (λ r. r < length (rowsOf S)) (rowOf S) (S .total) mostLinks (lookup d) (held-links 4096 S ok-of) (o .chains)) e h)

@@ -16,15 +16,15 @@ use Rattle.distinct.specs.Rows.{withNode}
 use Rattle.tables.specs.Cells.{clearedPart, withClauseCells}
 use Rattle.entry.specs.Progress.{countsOf, tablesWith}
 use Rattle.verdict.specs.Refusal.{unification}
-use Rattle.verdict.specs.State.{State, withClause, derivations, held}
+use Rattle.verdict.specs.State.{State, withClause, derivations}
 use Rattle.verdict.specs.Step.{step, addClause}
 use Rattle.inference.specs.Stepping.{BeforeStep, UnifiedTables, Finished, finished, withStep, stepFinished, HeldUpTo, Finishing, StepRead}
 use Rattle.verdict.specs.Tables.{Tables, cellsOfBindings, bindingCells, filled, filledTables}
 use Rattle.entry.proofs.Declaring.{symbols-here, rows-here, clauses-here, bindings-here, clause-table, clause-origin}
 use Rattle.entry.proofs.Filling.{bindings-count, bindings-added, bindings-cleared}
 use Rattle.entry.proofs.Kept.{sizes, kept-next}
-use Rattle.verdict.proofs.Standing.{held-clause, room}
-use Rattle.inference.proofs.StepLaws.{held-count, clause-count, held-few, few-of, room-of, origins-room}
+use Rattle.verdict.proofs.Standing.{room}
+use Rattle.inference.proofs.StepLaws.{held-count, held-sum, clause-count, held-few, few-of, room-of, origins-room}
 use Rattle.verdict.proofs.Tabled.{all-bindings-length}
 use Rattle.unify.specs.declared.Unified.{Unified}
 use Rattle.unify.specs.declared.Unified.the-variants.{Done}
@@ -49,8 +49,7 @@ module _ {F : List ℕ} {k : ℕ} {n : Counts} {C B N O A : List ℕ} (E : Befor
   before-cells = bindings-here F t k S n Here N O A (E .kept) (E .inside)
 
   cells-count : length (bindingCells (derivations (E .state))) ≡ 4 * n .bindings
-  unfolding held
-  cells-count = all-bindings-length (derivations S) ∙ ap (λ (h : ℕ). 4 * h) (sym (held-count E))
+  cells-count = all-bindings-length (derivations S) ∙ ap (λ (h : ℕ). 4 * h) (sym (held-sum E))
 
   table-long : 32768 ≤ length (E .tablesBefore .bindings)
   table-long = sizes t (E .kept .long) .bindings
@@ -70,13 +69,13 @@ module _ {F : List ℕ} {k : ℕ} {n : Counts} {C B N O A : List ℕ} (E : Befor
     counts-after : (h : ℕ) → n .bindings ≤ h → withStep n h ≡ countsOf (withClause (E .state) k (clause (bindingsFrom B′ (n .bindings) (h - n .bindings))))
     counts-after h l =
         let c = E .kept .counts in
-        let b : h ≡ held (after h) = sym (held-clause S k (clause (added h)) ∙ ap₂ _+_ (sym (held-count E)) (own-count h) ∙ omega arith) in
+        let b : h ≡ after h .total = sym (ap₂ _+_ (sym (held-count E)) (own-count h) ∙ omega arith) in
         λ i. record { symbols = c i .symbols; rows = c i .rows; clauses = (ap (λ (x : ℕ). x + 1) (clause-count E) ∙ add-one (length (S .clauses))) i; bindings = b i }
 
     tables-after : (w h : ℕ) → UnifiedTables B B′ A′ (n .bindings) (Done w h) → tablesWith (E .symbols) (E .rows) (withClauseCells C (n .clauses) k literalCount index (n .bindings) (h - n .bindings)) B′ ≡ filledTables (withClause (E .state) k (clause (bindingsFrom B′ (n .bindings) (h - n .bindings)))) (E .tablesBefore)
     tables-after w h U =
         let K = E .kept in
-        let c = clause-table F t k S n Here N O A K (E .inside) (clause (added h)) literalCount index (n .bindings) (h - n .bindings) (isCount (added h)) (isIndex (added h)) (held-count E) (sym (own-count h)) in
+        let c = clause-table F t k S n Here N O A K (E .inside) (clause (added h)) literalCount index (n .bindings) (h - n .bindings) (isCount (added h)) (isIndex (added h)) (held-sum E) (sym (own-count h)) in
         let b = bindings-added (bindingCells (derivations S)) (t .bindings) B′ (n .bindings) h cells-count (U .counted .0) (U .counted .1) table-long (U .bindings ∙ ap length before-cells) (λ j l. U .before j l ∙ ap (λ (x : List ℕ). getD x j 0) before-cells) (λ j l. U .counted .2 j l ∙ ap (λ (x : List ℕ). getD x j 0) before-cells) in
         λ i. record {
           symbols = symbols-here F t k S n Here N O A K (E .inside) i;

@@ -35,12 +35,12 @@ use Rattle.derivation.proofs.Validity.{pairs-kept, lookup-in}
 use Rattle.tables.specs.Cells.{clearedPart, withClauseCells}
 use Rattle.outlines.specs.Comparing.{someClash}
 use Rattle.verdict.specs.Refusal.{outlinesAgree}
-use Rattle.verdict.specs.State.{State, rowsOf, derivations, clauseOf, rowOf, held}
+use Rattle.verdict.specs.State.{State, rowsOf, derivations, clauseOf, rowOf}
 use Rattle.verdict.specs.Step.{step, atoms, unifyResolve, unifyFactor}
 use Rattle.inference.specs.Stepping.{BeforeStep, AtomOf, atomNamed, RightsOf, rightsNamed, Resolving, Factoring, UnifiedTables, finished, withStep, stepFinished, HeldUpTo}
 use Rattle.distinct.specs.Rows.{withNode}
 use Rattle.entry.specs.Progress.{tablesWith}
-use Rattle.verdict.specs.Tables.{Tables, bindingCells}
+use Rattle.verdict.specs.Tables.{Tables, bindingCells, bindingsOf}
 use Rattle.verdict.proofs.Advance.{Standing}
 use Rattle.entry.proofs.Declaring.{bindings-here}
 use Rattle.entry.proofs.Filling.{filled-length}
@@ -99,13 +99,16 @@ module _ {F : List ℕ} {k : ℕ} {n : Counts} {C B N O A : List ℕ} (E : Befor
   pub nodes-fine : NodesOk N
   nodes-fine = kept.nodes-fine (E .kept) few-inside
 
-  pub held-count : n .bindings ≡ held (E .state)
+  pub held-count : n .bindings ≡ E .state .total
   held-count = ap (λ (c : Counts). c .bindings) (E .kept .counts)
+
+  pub held-sum : n .bindings ≡ bindingsOf (derivations (E .state))
+  held-sum = held-count ∙ ok-of .totalOk
 
   pub clause-count : n .clauses ≡ length (E .state .clauses)
   clause-count = ap (λ (c : Counts). c .clauses) (E .kept .counts)
 
-  few-bindings : held (E .state) ≤ 8192
+  few-bindings : E .state .total ≤ 8192
   unfolding mostBindings
   few-bindings = ok-of .heldOk
 
@@ -115,15 +118,14 @@ module _ {F : List ℕ} {k : ℕ} {n : Counts} {C B N O A : List ℕ} (E : Befor
   pub few-of : n .clauses < 4096
   few-of = omega (arith, clause-count, few-clauses F T k S n Here N O A (E .kept) (E .inside), small)
 
-  cells : length (bindingCells (derivations (E .state))) ≡ 4 * held (E .state)
-  unfolding held
-  cells = all-bindings-length (derivations (E .state))
+  cells : length (bindingCells (derivations (E .state))) ≡ 4 * n .bindings
+  cells = all-bindings-length (derivations (E .state)) ∙ ap (λ (h : ℕ). 4 * h) (sym held-sum)
 
   pub room-of : 32768 ≤ length B
   room-of =
       let b = bindings-here F T k S n Here N O A (E .kept) (E .inside) in
       let z = sizes T (E .kept .long) in
-      let c : length (bindingCells (derivations S)) ≤ 32768 = omega (arith, cells, few-bindings) in
+      let c : length (bindingCells (derivations S)) ≤ 32768 = omega (arith, cells, held-few) in
       rw (ap length b ∙ filled-length 32768 (bindingCells (derivations S)) (T .bindings) c (z .bindings)) (z .bindings)
 
   -- Clauses and rows, as for every state that the program keeps.
@@ -136,7 +138,7 @@ module _ {F : List ℕ} {k : ℕ} {n : Counts} {C B N O A : List ℕ} (E : Befor
   pub literals-of : (c : ℕ) (d : Derivation) → clauseOf (E .state) c ≡ some d → literalsCell C c ≡ length (literals d)
   literals-of c d q = kept.literals-of (E .kept) few-inside c d q
 
-  pub order-in : (c : ℕ) (d : Derivation) → clauseOf (E .state) c ≡ some d → InOrder (rowsOf (E .state)) (held (E .state)) d
+  pub order-in : (c : ℕ) (d : Derivation) → clauseOf (E .state) c ≡ some d → InOrder (rowsOf (E .state)) (E .state .total) d
   order-in c d q = kept.order-in (E .kept) few-inside c d q
 
   agree : (r : ℕ) → IsEarliest (rowsOf (E .state)) r → nodeRow N r ≡ rowOf (E .state) r
@@ -200,11 +202,11 @@ module _ {F : List ℕ} {k : ℕ} {n : Counts} {C B N O A : List ℕ} (E : Befor
   pub load-ready : (c o : ℕ) (d : Derivation) → clauseOf (E .state) c ≡ some d → o + maximumIndex d ≤ 4096 → (Q : List ℕ) → length Q ≡ 524416 → Loadable O C B N Q c o
   load-ready c o d q f Q v = kept.load-ready (E .kept) few-inside c o d q f Q v
 
-  facing : (ρ : Environment) (top : ℕ) (Q : List ℕ) (ps : List Pair) → Models N top Q ρ → KnownEnvironment (IsEarliest (rowsOf (E .state))) ρ → ChainsEnd (rowsOf (E .state)) (held (E .state)) ρ → EachInStep N top ps → Facing N top Q (n .bindings) ρ ps
-  facing ρ top Q ps M κ c a = record { models = M; short = subst (λ (h : ℕ). (x : Expression) → HasRow N (x .0) → Ends (follow (nodeRow N) h ρ x)) (sym held-count) (node-ends (held S) ρ κ c); inStep = a }
+  facing : (ρ : Environment) (top : ℕ) (Q : List ℕ) (ps : List Pair) → Models N top Q ρ → KnownEnvironment (IsEarliest (rowsOf (E .state))) ρ → ChainsEnd (rowsOf (E .state)) (E .state .total) ρ → EachInStep N top ps → Facing N top Q (n .bindings) ρ ps
+  facing ρ top Q ps M κ c a = record { models = M; short = subst (λ (h : ℕ). (x : Expression) → HasRow N (x .0) → Ends (follow (nodeRow N) h ρ x)) (sym held-count) (node-ends (S .total) ρ κ c); inStep = a }
 
-  outcome-of : (ρ : Environment) (ps : List Pair) → KnownEnvironment (IsEarliest (rowsOf (E .state))) ρ → KeptPairs (Known (IsEarliest (rowsOf (E .state)))) (Known (IsEarliest (rowsOf (E .state)))) ps → (o : Outcome) → unify (nodeRow N) (n .bindings) ρ ps ≡ o → unify (rowOf (E .state)) (held (E .state)) ρ ps ≡ o
-  outcome-of ρ ps κ a o q = sym (node-unify (held S) ρ ps κ a) ∙ ap (λ (h : ℕ). unify (nodeRow N) h ρ ps) (sym held-count) ∙ q
+  outcome-of : (ρ : Environment) (ps : List Pair) → KnownEnvironment (IsEarliest (rowsOf (E .state))) ρ → KeptPairs (Known (IsEarliest (rowsOf (E .state)))) (Known (IsEarliest (rowsOf (E .state)))) ps → (o : Outcome) → unify (nodeRow N) (n .bindings) ρ ps ≡ o → unify (rowOf (E .state)) (E .state .total) ρ ps ≡ o
+  outcome-of ρ ps κ a o q = sym (node-unify (S .total) ρ ps κ a) ∙ ap (λ (h : ℕ). unify (nodeRow N) h ρ ps) (sym held-count) ∙ q
 
   -- The two parents of a resolve.
   module _ (a b c : ℕ) (x : AtomOf (E .state) a b c) (d : ℕ) (ns L′ : List ℕ) (y : RightsOf (E .state) d ns L′) (many : ℕ) (count : many ≡ length ns) (fits : maximumIndex (x .clause) + maximumIndex (y .clause) ≤ 4096) where
@@ -217,17 +219,17 @@ module _ {F : List ℕ} {k : ℕ} {n : Counts} {C B N O A : List ℕ} (E : Befor
     abbrev ρ : Environment
     ρ = joined (maximumIndex (x .clause)) (lookup (x .clause)) (lookup (y .clause))
 
-    X : InOrder (rowsOf (E .state)) (held (E .state)) (x .clause)
+    X : InOrder (rowsOf (E .state)) (E .state .total) (x .clause)
     X = order-in a l (x .isClause)
 
-    Y : InOrder (rowsOf (E .state)) (held (E .state)) (y .clause)
+    Y : InOrder (rowsOf (E .state)) (E .state .total) (y .clause)
     Y = order-in d r (y .isClause)
 
     both-known : KnownEnvironment (IsEarliest (rowsOf (E .state))) (joined (maximumIndex (x .clause)) (lookup (x .clause)) (lookup (y .clause)))
     both-known = known-joined (IsEarliest ws) (maximumIndex l) (lookup l) (lookup r) (kept.earliest-lookup (E .kept) few-inside a l (x .isClause)) (kept.earliest-lookup (E .kept) few-inside d r (y .isClause))
 
-    both-chains : ChainsEnd (rowsOf (E .state)) (held (E .state)) (joined (maximumIndex (x .clause)) (lookup (x .clause)) (lookup (y .clause)))
-    both-chains = short-joined (λ r. r < L) (rowOf S) (maximumIndex l) (maximumIndex r) (lookup l) (lookup r) (lookup-in (rowOf S) l (X .valid)) (lookup-in (rowOf S) r (Y .valid)) (held S) (X .chains) (Y .chains)
+    both-chains : ChainsEnd (rowsOf (E .state)) (E .state .total) (joined (maximumIndex (x .clause)) (lookup (x .clause)) (lookup (y .clause)))
+    both-chains = short-joined (λ r. r < L) (rowOf S) (maximumIndex l) (maximumIndex r) (lookup l) (lookup r) (lookup-in (rowOf S) l (X .valid)) (lookup-in (rowOf S) r (Y .valid)) (S .total) (X .chains) (Y .chains)
 
     -- The listed atoms are those of the named literals.
     listed-atoms : listedFrom L′ 0 many ≡ atoms (y .named)
@@ -256,7 +258,7 @@ module _ {F : List ℕ} {k : ℕ} {n : Counts} {C B N O A : List ℕ} (E : Befor
         (all-in raised top (omega arith) (record { row = there b (rw (← xr) (kx .0)); low = omega arith; high = omega arith }) (atoms (y .named)) (rights-known d ns L′ y)))
       where
         short-le-node : (g : Expression) → HasRow N (g .0) → Ends (follow (nodeRow N) mostLinks (joined (maximumIndex (x .clause)) (lookup (x .clause)) (lookup (y .clause))) g)
-        short-le-node g h = node-ends mostLinks ρ both-known (short-le (λ r. r < L) (rowOf S) (held S) mostLinks ρ (held-links 4096 S ok-of) both-chains) g h
+        short-le-node g h = node-ends mostLinks ρ both-known (short-le (λ r. r < L) (rowOf S) (S .total) mostLinks ρ (held-links 4096 S ok-of) both-chains) g h
 
     pub resolve-outcome : (raised : ℕ) → raised ≡ indexCell C a → (o : Outcome) → unify (nodeRow N) (n .bindings) (joined (maximumIndex (x .clause)) (lookup (x .clause)) (lookup (y .clause))) (pairsFrom (b, c) raised L′ 0 many) ≡ o → unifyResolve (E .state) (atomNamed x) (rightsNamed y) ≡ o
     resolve-outcome raised pr o q =
@@ -271,7 +273,7 @@ module _ {F : List ℕ} {k : ℕ} {n : Counts} {C B N O A : List ℕ} (E : Befor
     abbrev m : Derivation
     m = x .clause
 
-    Ord : InOrder (rowsOf (E .state)) (held (E .state)) (x .clause)
+    Ord : InOrder (rowsOf (E .state)) (E .state .total) (x .clause)
     Ord = order-in a m (x .isClause)
 
     same-clause : y .clause ≡ x .clause

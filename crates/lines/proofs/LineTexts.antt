@@ -237,7 +237,7 @@ module _ {C B N O A T : List ℕ} {c : ℕ} (R : LineReady C B N O A T c) where
 pub read-again : (F : List ℕ) (t : Tables) (S : State) (here : Tables) (N O A A′ : List ℕ) → ReadTo F t S here N O A → length A′ ≡ 524416 → ReadTo F t S here N O A′
 read-again F t S here N O A A′ R v =
     let K = R .kept in
-    record { count = R .count; few = R .few; counts = R .counts; kept = record { fit = K .fit; long = K .long; before = K .before; counts = K .counts; tables = K .tables; nodes = K .nodes; origins = K .origins; values = v } }
+    record { count = R .count; few = R .few; counts = R .counts; kept = record { fit = K .fit; long = K .long; before = K .before; counts = K .counts; held = K .held; tables = K .tables; nodes = K .nodes; origins = K .origins; values = v } }
 
 -- The clause, loaded into a cleared array, can be written out.
 module _ {F C B N O A : List ℕ} {t : Tables} {S : State} {symbols rows : List ℕ} (R : ReadTo F t S (tablesWith symbols rows C B) N O A) (c : ℕ) (d : Derivation) (q : clauseOf S c ≡ some d) where

@@ -12,8 +12,8 @@ use Rattle.record.specs.Record.{pick}
 use Rattle.unification.proofs.Rows.{eqb-below}
 use Rattle.unification.proofs.Tests.{to-T, both-true, true-not-false, some-not-none, some-injective}
 use Rattle.derivation.specs.Derivation.{literals, Derivation, maximumIndex}
-use Rattle.verdict.specs.State.{entry, bindingsOf}
-use Rattle.verdict.specs.Tables.{cellsOfClause, clauseCells}
+use Rattle.verdict.specs.State.{entry}
+use Rattle.verdict.specs.Tables.{cellsOfClause, clauseCells, bindingsOf}
 use Rattle.verdict.specs.Verdict.{isEmpty, firstEmpty}
 use Rattle.verdict.proofs.Inversions.{entry-below, entry-more, entry-new}
 

@@ -20,7 +20,7 @@ use Rattle.verdict.specs.Cases.{recordOf, inputClause, nines, holding, C
 use Rattle.verdict.specs.Edges.{answerTo, ranges, unusedFields, outlines, severalLiterals, indexEdge, literalEdge, workEdge, eights, EdgesHold, ShortTablesHold, TextsHold}
 use Rattle.verdict.specs.Readout.{linesOf, joinedLines, readout, readoutLines}
 use Rattle.verdict.specs.Refusal.{unification, mostLiterals, mostIndex}
-use Rattle.verdict.specs.State.{State, held, emptyState, derivations}
+use Rattle.verdict.specs.State.{State, emptyState, derivations}
 use Rattle.verdict.specs.Step.{Ending, allStand, refusedAt, require, requireAll, enter, onNamed, step, read, addClause, stateOf}
 use Rattle.verdict.specs.Tables.{Tables, lengthsOf, symbolCells, rowCells, clauseCells, bindingCells, filled, filledTables, tablesGiven, tablesAfter}
 use Rattle.verdict.specs.Verdict.{refusal, verdictOf, named, check, answerNumbers, longEnough, answerOf, verdictGiven, stateGiven, Lengths, fittingLength, ending, Reading, untouched, readTo, reading}
@@ -91,7 +91,7 @@ case-by file = (λ i. record {
 }) ∙ ap (caseBy file) nines-lengths
 
 computed : map (λ c. caseBy (c .file) ninesLengths) cases ≡ cases
-unfolding fileBytes recordBytes records ending held require addClause clashWithin mostOutlinePairs run mostWork mostBindings mostLinks mostLiterals mostIndex
+unfolding fileBytes recordBytes records ending require addClause clashWithin mostOutlinePairs run mostWork mostBindings mostLinks mostLiterals mostIndex
 computed = refl
 
 pub cases-hold : CasesHold
@@ -156,6 +156,7 @@ edgeState = record {
   clauses =
       (22, input 3 (inputLiterals (inputClause (30 ∷ [])))) ∷ (21, input 2 (inputLiterals (inputClause (31 ∷ []))))
       ∷ (20, input 1 (inputLiterals (inputClause (28 ∷ [])))) ∷ (19, input 0 (inputLiterals (inputClause (29 ∷ [])))) ∷ [];
+  total = 0;
 }
 
 -- Its two steps, with the fields that they do not use.
@@ -163,7 +164,7 @@ abbrev lastSteps : List Record
 lastSteps = recordOf 5 0 (0 ∷ 1 ∷ 1 ∷ 1 ∷ 0 ∷ 0 ∷ 0 ∷ []) ∷ recordOf 5 0 (2 ∷ 1 ∷ 3 ∷ 1 ∷ 0 ∷ 0 ∷ 0 ∷ []) ∷ []
 
 edge-declared : read emptyState 0 (take 23 (records (fileBytes workEdge))) ≡ allStand edgeState
-unfolding fileBytes recordBytes records held require addClause
+unfolding fileBytes recordBytes records require addClause
 edge-declared = refl
 
 edge-steps : drop 23 (records (fileBytes workEdge)) ≡ lastSteps
@@ -178,7 +179,7 @@ edge-ending =
     ∙ ap (read edgeState 23) edge-steps
 
 steps-numbers : numbersOf (read edgeState 23 lastSteps) ≡ 2 ∷ 12 ∷ 24 ∷ 3 ∷ 16 ∷ 5 ∷ 0 ∷ []
-unfolding held require addClause clashWithin mostOutlinePairs mostBindings mostLinks mostLiterals mostIndex numbersOf
+unfolding require addClause clashWithin mostOutlinePairs mostBindings mostLinks mostLiterals mostIndex numbersOf
 steps-numbers = rw (last-work, read, step, enter, requireAll, require, onNamed, no-further-work)
 
 work-numbers : numbersOf (ending (fileBytes workEdge)) ≡ 2 ∷ 12 ∷ 24 ∷ 3 ∷ 16 ∷ 5 ∷ 0 ∷ []
@@ -190,27 +191,27 @@ work-fits = refl
 
 -- The others are computed, turn by turn.
 ranges-hold : map (λ e. answerTo (e .0)) ranges ≡ map (λ e. e .1) ranges
-unfolding fileBytes recordBytes records check ending held require addClause clashWithin mostOutlinePairs run mostWork mostBindings mostLinks mostLiterals mostIndex
+unfolding fileBytes recordBytes records check ending require addClause clashWithin mostOutlinePairs run mostWork mostBindings mostLinks mostLiterals mostIndex
 ranges-hold = refl
 
 unused-hold : map (λ e. answerTo (e .0)) unusedFields ≡ map (λ e. e .1) unusedFields
-unfolding fileBytes recordBytes records check ending held require addClause clashWithin mostOutlinePairs run mostWork mostBindings mostLinks mostLiterals mostIndex
+unfolding fileBytes recordBytes records check ending require addClause clashWithin mostOutlinePairs run mostWork mostBindings mostLinks mostLiterals mostIndex
 unused-hold = refl
 
 index-edge : answerTo indexEdge ≡ 2 ∷ 9 ∷ 15 ∷ 1 ∷ 1 ∷ 13 ∷ 0 ∷ []
-unfolding fileBytes recordBytes records check ending held require addClause clashWithin mostOutlinePairs run mostWork mostBindings mostLinks mostLiterals mostIndex
+unfolding fileBytes recordBytes records check ending require addClause clashWithin mostOutlinePairs run mostWork mostBindings mostLinks mostLiterals mostIndex
 index-edge = refl
 
 literal-edge : answerTo literalEdge ≡ 2 ∷ 9 ∷ 29 ∷ 1 ∷ 1 ∷ 27 ∷ 0 ∷ []
-unfolding fileBytes recordBytes records check ending held require addClause clashWithin mostOutlinePairs run mostWork mostBindings mostLinks mostLiterals mostIndex
+unfolding fileBytes recordBytes records check ending require addClause clashWithin mostOutlinePairs run mostWork mostBindings mostLinks mostLiterals mostIndex
 literal-edge = refl
 
 outlines-hold : map (λ e. answerTo (e .0)) outlines ≡ map (λ e. e .1) outlines
-unfolding fileBytes recordBytes records check ending held require addClause clashWithin mostOutlinePairs run mostWork mostBindings mostLinks mostLiterals mostIndex
+unfolding fileBytes recordBytes records check ending require addClause clashWithin mostOutlinePairs run mostWork mostBindings mostLinks mostLiterals mostIndex
 outlines-hold = refl
 
 several-hold : map (λ e. answerTo (e .0)) severalLiterals ≡ map (λ e. e .1) severalLiterals
-unfolding fileBytes recordBytes records check ending held require addClause clashWithin mostOutlinePairs run mostWork mostBindings mostLinks mostLiterals mostIndex
+unfolding fileBytes recordBytes records check ending require addClause clashWithin mostOutlinePairs run mostWork mostBindings mostLinks mostLiterals mostIndex
 several-hold = refl
 
 pub edges-hold : EdgesHold
@@ -227,7 +228,7 @@ eights-lengths s r c b =
     λ i. lengthsBy (length-replicate {A = ℕ} s 8 i) (length-replicate {A = ℕ} r 8 i) (length-replicate {A = ℕ} c 8 i) (length-replicate {A = ℕ} b 8 i)
 
 short-answer : (s r c b : ℕ) → longEnough (lengthsBy s r c b) ≡ false → answerNumbers (check [] (lengthsOf (eights s r c b))) ≡ 2 ∷ 2 ∷ 0 ∷ 0 ∷ 0 ∷ 0 ∷ 0 ∷ []
-unfolding check held
+unfolding check
 short-answer s r c b short = rw (ap longEnough (eights-lengths s r c b) ∙ short)
 
 short-untouched : (s r c b : ℕ) → longEnough (lengthsBy s r c b) ≡ false → tablesAfter [] (eights s r c b) ≡ eights s r c b
@@ -250,7 +251,7 @@ pub texts-hold : TextsHold
 texts-hold = record { digits = refl; occurrences64 = refl; occurrences65 = refl }
 
 bad-length : (file : List ℕ) (lengths : Lengths) → fittingLength (length file) ≡ false → answerNumbers (check file lengths) ≡ refusedForLength
-unfolding check held
+unfolding check
 bad-length file lengths f = rw f
 
 pub lengths-hold : LengthsHold

@@ -25,7 +25,7 @@ use Rattle.derivation.proofs.Values.{refutes, writes-out, writes-out-unique, va
 use Rattle.verdict.specs.Conditions.{OneOf, LengthUnfit, lengthOver, notMultiple, TableShort, symbolsShort, rowsShort, clausesShort, bindingsShort, Condition, unknownKind, outsideRange, nothingThere, fallingLiterals, variableAsLiteral, unfitSigns, largeResult, clashingOutlines, clashing, occurring, overworking, overfull}
 use Rattle.verdict.specs.Demands.{ResolventAdded, Reached, ComesTo, Untouched, LeftBefore, Demand1, ConditionAt, ofLength, ofTables, ofRecord, Due, LowestEmpty, NoneEmpty, Demand2, Refutation, Demand3}
 use Rattle.verdict.specs.Refusal.{Reason, badLength, shortTable, reasonNumber, precedence}
-use Rattle.verdict.specs.State.{State, emptyState, rowsOf, derivations, arityOf, clauseOf, rowOf, termOf, held}
+use Rattle.verdict.specs.State.{State, emptyState, rowsOf, derivations, arityOf, clauseOf, rowOf, termOf}
 use Rattle.verdict.specs.Step.{refused, step, read, Ending, allStand, refusedAt, stateOf}
 use Rattle.verdict.specs.Tables.{Tables, lengthsOf, clauseCells, filledTables, tablesGiven, tablesAfter}
 use Rattle.verdict.specs.Verdict.{Verdict, refusal, check, accepted, open′, Answer, firstEmpty, everyClause, standing, verdictOf, answerOf, Lengths, longEnough, fittingLength, ending, Stands, Reading, verdictGiven, stateGiven}
@@ -356,7 +356,7 @@ module _ (file : List ℕ) (tables : Tables) where
   following-ends S C n c q e l =
       let H = comes-ok file S C in
       let O = order-of 4096 S H n c q in
-      short-le (λ r. r < length (rowsOf S)) (rowOf S) (held S) mostLinks (lookup c) (held-links 4096 S H) (O .chains) e l
+      short-le (λ r. r < length (rowsOf S)) (rowOf S) (S .total) mostLinks (lookup c) (held-links 4096 S H) (O .chains) e l
 
   pub demand2 : (Y : Type 0) → Demand2 Y file tables
   demand2 Y = record {
@@ -406,7 +406,7 @@ module _ (file : List ℕ) (tables : Tables) where
         values = v;
         valuesUnique = values-unique (rowOf S) (termOf S) law c (O .valid);
         formed = instances-formed (arityOf S) (rowOf S) (termOf S) law (λ r. r < length (rowsOf S)) (λ r s xs l p. (row-there (arityOf S) (rowsOf S) (H .rowsOk) r s xs l p, below 4096 S H r s xs p l))
-            (lookup c) mostLinks (λ x e p. known-of 4096 S H c O x e p .1) (short-le (λ r. r < length (rowsOf S)) (rowOf S) (held S) mostLinks (lookup c) (held-links 4096 S H) (O .chains)) (valueIn (termOf S) c) v 1 (uses c) (known-uses (Under (length (rowsOf S))) c (O .known));
+            (lookup c) mostLinks (λ x e p. known-of 4096 S H c O x e p .1) (short-le (λ r. r < length (rowsOf S)) (rowOf S) (S .total) mostLinks (lookup c) (held-links 4096 S H) (O .chains)) (valueIn (termOf S) c) v 1 (uses c) (known-uses (Under (length (rowsOf S))) c (O .known));
         unsatisfiable = refutes (rowOf S) (termOf S) law c (O .valid) (one-arity S H) (L .empty) (valueIn (termOf S) c) v;
       }
 

@@ -21,3 +21,4 @@ pub mod Unrepeated
 pub mod Replacing
 pub mod RepeatsShown
 pub mod SeveralShown
+pub mod TotalShown

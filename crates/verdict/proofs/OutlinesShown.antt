@@ -18,7 +18,7 @@ use Rattle.derivation.specs.Derivation.{Literal, Derivation, resolve, factor, p
 use Rattle.verdict.specs.Conditions.{OneOf, OutlinesClash}
 use Rattle.verdict.specs.Outlines.{OutlinesBeforeUnification}
 use Rattle.verdict.specs.Refusal.{tests, outlineTests, outlinesOfResolve, outlinesAgree, onBoth, Reason, unification, reasonNumber, precedence, kindOfRecord, leftOf, rightNumbers, rightOf, deletedOf}
-use Rattle.verdict.specs.State.{State, rowOf, held, nextClause}
+use Rattle.verdict.specs.State.{State, rowOf, nextClause}
 use Rattle.verdict.specs.Step.{stands, refused, requireAll, step, stepWithoutOutlines, atoms, unifyResolve, unifyFactor, enterResolvent, enter}
 use Rattle.verdict.proofs.Inversions.{FirstFailing, AllPass, all-stand, all-refused, all-passed, named-stands, clause-added, refused-injective, tests-passed}
 use Rattle.verdict.proofs.RangeTests.{either-false}
@@ -42,8 +42,8 @@ module _ (S : State) where
       try (inl w) h = clash-here (not-false _ w)
       try (inr w) h = clash-later (h w)
 
-  unified-agree : (ρ : Environment) (ps : List Pair) → ClashAmong (rowOf S) ps → (bs : List Binding) (m : ℕ) → ¬ (unify (rowOf S) (held S) ρ ps ≡ unified bs m)
-  unified-agree ρ ps h bs m u = clash-not-unified (rowOf S) mostLinks (noRoom (held S)) ρ mostWork [] ps h bs m u
+  unified-agree : (ρ : Environment) (ps : List Pair) → ClashAmong (rowOf S) ps → (bs : List Binding) (m : ℕ) → ¬ (unify (rowOf S) (S .total) ρ ps ≡ unified bs m)
+  unified-agree ρ ps h bs m u = clash-not-unified (rowOf S) mostLinks (noRoom (S .total)) ρ mostWork [] ps h bs m u
 
   resolvent-agrees : (k : ℕ) (r : Record) (T : State) (kind : Kind) → enterResolvent S k kind r ≡ stands T → AllPass (outlinesOfResolve S kind r)
   resolvent-agrees k r T kind q =

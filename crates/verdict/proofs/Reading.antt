@@ -18,7 +18,7 @@ use Rattle.verdict.specs.State.{arities, State, emptyState, rowsOf, arit
 use Rattle.verdict.specs.Step.{stands, refused, Result, step, read, allStand, refusedAt, stateOf}
 use Rattle.verdict.specs.Verdict.{Lengths, longEnough, fittingLength, ending, Stands, untouched, readTo, reading}
 use Rattle.verdict.proofs.Inversions.{entry-none}
-use Rattle.verdict.proofs.Standing.{StateOk, held-start}
+use Rattle.verdict.proofs.Standing.{StateOk}
 use Rattle.verdict.proofs.Steps.{step-ok}
 
 -- The three ways that the reading of a file can go.
@@ -41,7 +41,7 @@ same-state : {S T : State} {p q : Reason} {j k : ℕ} → refusedAt S p j ≡ re
 same-state e = (cc, cc, cc)
 
 pub state-more : (n m : ℕ) (S : State) → n ≤ m → StateOk n S → StateOk m S
-state-more n m S l h = record { rowsOk = h .rowsOk; few = let k = h .few in omega arith; heldOk = h .heldOk; clausesOk = h .clausesOk; inputsOk = h .inputsOk }
+state-more n m S l h = record { rowsOk = h .rowsOk; few = let k = h .few in omega arith; totalOk = h .totalOk; heldOk = h .heldOk; clausesOk = h .clausesOk; inputsOk = h .inputsOk }
 
 pub read-ok : (n : ℕ) (S : State) (k : ℕ) (rs : List Record) → Shaped rs → StateOk n S → StateOk (n + length rs) (stateOf (read S k rs))
 read-ok n S k [] H h = state-more n (n + 0) S (omega arith) h
@@ -53,7 +53,7 @@ read-ok n S k (r ∷ rs) H h = try (step S k r) refl (λ T g. read-ok (suc n) T 
     try (refused p) q ih = state-more n (n + suc (length rs)) S (omega arith) h
 
 pub start-ok : StateOk 0 emptyState
-start-ok = record { rowsOk = tt; few = omega arith; heldOk = rw held-start (omega arith); clausesOk = tt; inputsOk = tt }
+start-ok = record { rowsOk = tt; few = omega arith; totalOk = refl; heldOk = omega arith; clausesOk = tt; inputsOk = tt }
 
 -- Reading goes on where it stopped.
 pub read-on : (S : State) (j : ℕ) (xs ys : List Record) (T : State) → read S j xs ≡ allStand T → read S j (xs ++ ys) ≡ read T (j + length xs) ys
@@ -103,7 +103,7 @@ read-refused S k (r ∷ rs) T q j e = try (step S k r) refl e (λ U z. read-refu
     try (stands U) p z ih = later U p (ih U z)
     try (refused p) z e ih = at-once p z e
 
-shaped-take : (k : ℕ) (rs : List Record) → Shaped rs → Shaped (take k rs)
+pub shaped-take : (k : ℕ) (rs : List Record) → Shaped rs → Shaped (take k rs)
 shaped-take zero rs h = tt
 shaped-take (suc k) [] h = tt
 shaped-take (suc k) (r ∷ rs) h = (h .0, shaped-take k rs (h .1))

@@ -26,7 +26,7 @@ use Rattle.derivation.proofs.Validity.{signed}
 use Rattle.verdict.specs.Conditions.{OneOf, RightLiterals, ofOne, ofSome, Resolves, OutlinesClash, resolveOutlines, factorOutlines, Fails, StepFails, resolveFails, factorFails, Condition, unknownKind, outsideRange, nothingThere, fallingLiterals, variableAsLiteral, unfitSigns, largeResult, clashingOutlines, clashing, occurring, overworking, overfull}
 use Rattle.verdict.specs.Demands.{Reached, atomOf, StepAtoms, resolveAtoms, factorAtoms}
 use Rattle.verdict.specs.Refusal.{tests, resolveTests, outlineTests, outlinesOfResolve, outlinesAgree, onBoth, Reason, unification, reasonNumber, precedence, kindOfRecord, inRange, leftOf, rightNumbers, rightOf, deletedOf}
-use Rattle.verdict.specs.State.{State, emptyState, rowsOf, rowOf, held, nextClause}
+use Rattle.verdict.specs.State.{State, emptyState, rowsOf, rowOf, nextClause}
 use Rattle.verdict.specs.Step.{stands, refused, Result, require, requireAll, step, addClause, atoms, unifyResolve, unifyFactor, enterResolvent, enter}
 use Rattle.verdict.proofs.RangeTests.{not-true, either-false, of-kind, other-kind, range-over, out-of-range, IsResolve, on-one, on-several}
 use Rattle.verdict.proofs.ExistenceTests.{arguments-absent, literal-rows-absent, resolve-absent, factor-absent, not-there}
@@ -110,11 +110,11 @@ stands-refused : {S : State} {q : Reason} → stands S ≡ refused q → ⊥
 stands-refused p = never-both (stands _) refl p
 
 -- The limits by their numbers.
-stated : (S : State) (ρ : Environment) (pairs : List Pair) (f : Failure) → Failing (rowOf S) mostLinks (noRoom (held S)) ρ mostWork (unifying [] pairs) f → Fails S ρ pairs f
-stated S ρ pairs f h = subst₂ (λ (b w : ℕ). Failing (rowOf S) mostLinks (λ bs. leb b (held S + length bs)) ρ w (unifying [] pairs) f) bindings-8192 work-16384 h
+stated : (S : State) (ρ : Environment) (pairs : List Pair) (f : Failure) → Failing (rowOf S) mostLinks (noRoom (S .total)) ρ mostWork (unifying [] pairs) f → Fails S ρ pairs f
+stated S ρ pairs f h = subst₂ (λ (b w : ℕ). Failing (rowOf S) mostLinks (λ bs. leb b (S .total + length bs)) ρ w (unifying [] pairs) f) bindings-8192 work-16384 h
 
-unstated : (S : State) (ρ : Environment) (pairs : List Pair) (f : Failure) → Fails S ρ pairs f → Failing (rowOf S) mostLinks (noRoom (held S)) ρ mostWork (unifying [] pairs) f
-unstated S ρ pairs f h = subst₂ (λ (b w : ℕ). Failing (rowOf S) mostLinks (λ bs. leb b (held S + length bs)) ρ w (unifying [] pairs) f) (sym bindings-8192) (sym work-16384) h
+unstated : (S : State) (ρ : Environment) (pairs : List Pair) (f : Failure) → Fails S ρ pairs f → Failing (rowOf S) mostLinks (noRoom (S .total)) ρ mostWork (unifying [] pairs) f
+unstated S ρ pairs f h = subst₂ (λ (b w : ℕ). Failing (rowOf S) mostLinks (λ bs. leb b (S .total + length bs)) ρ w (unifying [] pairs) f) (sym bindings-8192) (sym work-16384) h
 
 module _ (k : ℕ) (S : State) (r : Record) where
   -- ── A refusal by unification ──
@@ -281,12 +281,12 @@ module _ (k : ℕ) (S : State) (r : Record) where
       let ps = pairsWith (maximumIndex left) (c .1) (atoms ms) in
       outlines-or n least (K .kind) (K .isKind) f g
       (enter-by (K .kind) (K .isResolve) (unification f) (enter-resolve S k r (K .kind) (left, c) (right, ms) (resolves-left S r N) (K .named)
-      ∙ ap (addClause S k (resolve (nextClause S) left (fieldB r) right (rightNumbers (K .kind) r))) (failing-fails (rowOf S) mostLinks (noRoom (held S)) ρ mostWork (unifying [] ps) f (unstated S ρ ps f h))
+      ∙ ap (addClause S k (resolve (nextClause S) left (fieldB r) right (rightNumbers (K .kind) r))) (failing-fails (rowOf S) mostLinks (noRoom (S .total)) ρ mostWork (unifying [] ps) f (unstated S ρ ps f h))
       ∙ enter-refused S k (resolve (nextClause S) left (fieldB r) right (rightNumbers (K .kind) r)) f))
   failure-refuses n least f g (factorFails {parent} {l = c} {m = d} N h) =
       outlines-or n least factorKind (ap kindNumbered (N .isFactor)) f g
       (enter-factor S k r (parent, c) (parent, d) (factors-kept S r N) (factors-deleted S r N)
-      ∙ ap (addClause S k (factor (nextClause S) parent (fieldB r) (fieldC r))) (failing-fails (rowOf S) mostLinks (noRoom (held S)) (lookup parent) mostWork (unifying [] ((c .1, d .1) ∷ [])) f (unstated S (lookup parent) ((c .1, d .1) ∷ []) f h))
+      ∙ ap (addClause S k (factor (nextClause S) parent (fieldB r) (fieldC r))) (failing-fails (rowOf S) mostLinks (noRoom (S .total)) (lookup parent) mostWork (unifying [] ((c .1, d .1) ∷ [])) f (unstated S (lookup parent) ((c .1, d .1) ∷ []) f h))
       ∙ enter-refused S k (factor (nextClause S) parent (fieldB r) (fieldC r)) f)
 
   module _ (file : List ℕ) (R : Reached file k S r) where
@@ -336,10 +336,10 @@ module _ (k : ℕ) (S : State) (r : Record) where
     step-fails f (resolving {kind} {x} {y} i e p q s u) =
         let ρ = joined (maximumIndex (x .0)) (lookup (x .0)) (lookup (y .0)) in
         let ps = pairsWith (maximumIndex (x .0)) (x .1 .1) (atoms (y .1)) in
-        resolveFails (resolves S r kind i x y e p q) (stated S ρ ps f (fails (rowOf S) mostLinks (noRoom (held S)) ρ mostWork (unifying [] ps) f u (not-endless f (resolving i e p q s u))))
+        resolveFails (resolves S r kind i x y e p q) (stated S ρ ps f (fails (rowOf S) mostLinks (noRoom (S .total)) ρ mostWork (unifying [] ps) f u (not-endless f (resolving i e p q s u))))
     step-fails f (factoring {x} {y} e p q s u) =
         factorFails (factors S r x y e p q) (stated S (lookup (x .0)) ((x .1 .1, y .1 .1) ∷ []) f
-        (fails (rowOf S) mostLinks (noRoom (held S)) (lookup (x .0)) mostWork (unifying [] ((x .1 .1, y .1 .1) ∷ [])) f u (not-endless f (factoring e p q s u))))
+        (fails (rowOf S) mostLinks (noRoom (S .total)) (lookup (x .0)) mostWork (unifying [] ((x .1 .1, y .1 .1) ∷ [])) f u (not-endless f (factoring e p q s u))))
 
     failure-condition : (f : Failure) → ByUnification f → Holds (failureNumber f)
     failure-condition clash b = clashing (step-fails clash b)

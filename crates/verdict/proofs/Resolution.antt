@@ -24,7 +24,7 @@ use Rattle.derivation.proofs.Validity.{signed}
 use Rattle.verdict.specs.Conditions.{OutOfRange, NotRising, SignsUnfit}
 use Rattle.verdict.specs.Demands.{atomOf, StepAtoms, resolveAtoms, factorAtoms, ResolventAdded, FactorAdded, StandsOrLimit, itStands, limitMet}
 use Rattle.verdict.specs.Refusal.{tests, outlineTests, outlinesAgree, onBoth, Reason, outOfRange, notThere, notRising, wrongSigns, tooLarge, unification, kindOfRecord, inRange, leftOf, rightNumbers, rightOf, deletedOf, bothThere, rising, oppositeSigns, factorSigns, resolventFits, factorFits}
-use Rattle.verdict.specs.State.{State, rowOf, termOf, held, nextClause}
+use Rattle.verdict.specs.State.{State, rowOf, termOf, nextClause}
 use Rattle.verdict.specs.Step.{stands, refused, Result, require, requireAll, step, addClause, atoms, unifyResolve, unifyFactor, enterResolvent, enter}
 use Rattle.verdict.proofs.RangeTests.{either-false, range-over, IsResolve, on-one, on-several}
 use Rattle.verdict.proofs.StepTests.{resolves-left, kind-of-resolve, factors-kept, factors-deleted, not-rising, resolve-signs, factor-signs}
@@ -88,7 +88,7 @@ module _ (S : State) (H : StateOk 4096 S) (k : ℕ) (r : Record) where
             isRight = N .isRight;
             clause = resolve (nextClause S) (x .0) (fieldB r) (y .0) ns (c .0);
             added = sym (c .3);
-            resolvent = is-resolvent (rowOf S) (termOf S) law (x .0) (y .0) L R (fieldB r) ns (x .1 .0) (x .1 .1) (atoms (y .1)) (N .isLeftLiteral) (N .areRightLiterals ∙ ap some (N .signs)) one (N .rises) (c .0) (held S, c .1, c .2) Y (nextClause S);
+            resolvent = is-resolvent (rowOf S) (termOf S) law (x .0) (y .0) L R (fieldB r) ns (x .1 .0) (x .1 .1) (atoms (y .1)) (N .isLeftLiteral) (N .areRightLiterals ∙ ap some (N .signs)) one (N .rises) (c .0) (S .total, c .1, c .2) Y (nextClause S);
           }
 
   pub factor-added : (Y : Type 0) (T : State) → kindOfRecord r ≡ factorKind → step S k r ≡ stands T → FactorAdded Y S k r T
@@ -105,7 +105,7 @@ module _ (S : State) (H : StateOk 4096 S) (k : ℕ) (r : Record) where
             isParent = N .isParent;
             clause = factor (nextClause S) (x .0) (fieldB r) (fieldC r) (c .0);
             added = sym (c .3);
-            factored = is-factor (rowOf S) (termOf S) law (x .0) (order-of 4096 S H (fieldA r) (x .0) (N .isParent) .valid) (fieldB r) (fieldC r) (x .1 .0) (x .1 .1) (y .1 .1) (N .isKept) (N .isDeleted ∙ ap (λ (b : Bool). some (b, y .1 .1)) (N .signs)) one (c .0) (held S, c .1, c .2) (N .different) Y (nextClause S);
+            factored = is-factor (rowOf S) (termOf S) law (x .0) (order-of 4096 S H (fieldA r) (x .0) (N .isParent) .valid) (fieldB r) (fieldC r) (x .1 .0) (x .1 .1) (y .1 .1) (N .isKept) (N .isDeleted ∙ ap (λ (b : Bool). some (b, y .1 .1)) (N .signs)) one (c .0) (S .total, c .1, c .2) (N .different) Y (nextClause S);
           }
 
   -- The atoms of a resolve as pairs of terms.
@@ -123,7 +123,7 @@ module _ (S : State) (H : StateOk 4096 S) (k : ℕ) (r : Record) where
       let l = literal-named S (fieldA r) (fieldB r) x p in
       let m = literals-named S (fieldC r) (rightNumbers kind r) y q in
       subst (NoUnifier Y) (pairs-of-atoms x (y .0) (y .1))
-      (no-resolvent (rowOf S) (termOf S) law (x .0) (y .0) (order-of 4096 S H (fieldA r) (x .0) (l .0) .valid) (order-of 4096 S H (fieldC r) (y .0) (m .0) .valid) (fieldB r) (rightNumbers kind r) (x .1 .0) (x .1 .1) (atoms (y .1)) (l .1) (m .1 ∙ ap some s) Y (held S) f)
+      (no-resolvent (rowOf S) (termOf S) law (x .0) (y .0) (order-of 4096 S H (fieldA r) (x .0) (l .0) .valid) (order-of 4096 S H (fieldC r) (y .0) (m .0) .valid) (fieldB r) (rightNumbers kind r) (x .1 .0) (x .1 .1) (atoms (y .1)) (l .1) (m .1 ∙ ap some s) Y (S .total) f)
 
   pub factor-no-unifier : (Y : Type 0) (x y : Derivation × Literal) → leftOf S r ≡ some x → deletedOf S r ≡ some y → y .1 .0 ≡ x .1 .0 → (unifyFactor S x y ≡ failed clash) ⊎ (unifyFactor S x y ≡ failed occurs)
       → NoUnifier Y ((atomOf S (x .0) (x .1), atomOf S (y .0) (y .1)) ∷ [])
@@ -133,7 +133,7 @@ module _ (S : State) (H : StateOk 4096 S) (k : ℕ) (r : Record) where
       let e = same-parent S r x y p q in
       let n = subst (λ (c : Derivation). numbered (literals c) (fieldC r) ≡ some (y .1)) e (m .1) in
       subst (λ (c : Derivation). NoUnifier Y ((atomOf S (x .0) (x .1), writtenOut (termOf S) (substitution (termOf S) c) (y .1 .1)) ∷ [])) (sym e)
-      (no-factor (rowOf S) (termOf S) law (x .0) (order-of 4096 S H (fieldA r) (x .0) (l .0) .valid) (fieldB r) (fieldC r) (x .1 .0) (x .1 .1) (y .1 .1) (l .1) (n ∙ ap (λ (b : Bool). some (b, y .1 .1)) s) Y (held S) f)
+      (no-factor (rowOf S) (termOf S) law (x .0) (order-of 4096 S H (fieldA r) (x .0) (l .0) .valid) (fieldB r) (fieldC r) (x .1 .0) (x .1 .1) (y .1 .1) (l .1) (n ∙ ap (λ (b : Bool). some (b, y .1 .1)) s) Y (S .total) f)
 
   -- Atoms whose outlines clash.
   pub one-clashes : (l m : Literal) → outlinesAgree (rowOf S) l (m ∷ []) ≡ false → outlinesClash (rowOf S) (l .1 .0) (m .1 .0) ≡ true

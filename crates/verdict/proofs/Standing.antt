@@ -1,6 +1,6 @@
 -- What stands is in order: rows over symbols at their arities, and clauses whose bindings are unification's, over such rows, with
 -- chains of links no longer than the bindings held.
-use mathlib.Core.Path.{_≡_, refl, subst}
+use mathlib.Core.Path.{_≡_, refl, ap, subst}
 use mathlib.Core.Bool.{Bool, true, false}
 use mathlib.Core.Option.{Option, none, some}
 use mathlib.Core.List.{List, [], _∷_, _++_}
@@ -26,8 +26,9 @@ use Rattle.derivation.proofs.Literals.{each-numbered-all, leb-false-lt}
 use Rattle.derivation.proofs.Validity.{Valid, pairs-kept, lookup-in}
 use Rattle.verdict.specs.Demands.{InputsOf}
 use Rattle.verdict.specs.Refusal.{mostLiterals, mostIndex}
-use Rattle.verdict.specs.State.{arities, State, emptyState, withSymbol, withRow, withClause, entry, rowsOf, derivations, arityOf, clauseOf, rowOf, held}
+use Rattle.verdict.specs.State.{arities, State, emptyState, withSymbol, withRow, withClause, entry, rowsOf, derivations, arityOf, clauseOf, rowOf}
 use Rattle.verdict.specs.Step.{atoms, unifyResolve, unifyFactor}
+use Rattle.verdict.specs.Tables.{bindingsOf}
 use Rattle.verdict.proofs.Inversions.{not-equal, entry-more, entry-each}
 
 abbrev pub ChainsEnd : List Row → ℕ → Environment → Type 0
@@ -44,26 +45,10 @@ pub record InOrder (ws : List Row) (h : ℕ) (c : Derivation) : Type 0 where
 pub record StateOk (n : ℕ) (S : State) : Type 0 where
   pub rowsOk : RowsOk (arityOf S) (rowsOf S)
   pub few : length (arities S) ≤ n
-  pub heldOk : held S ≤ mostBindings
-  pub clausesOk : Each (InOrder (rowsOf S) (held S)) (derivations S)
+  pub totalOk : S .total ≡ bindingsOf (derivations S)
+  pub heldOk : S .total ≤ mostBindings
+  pub clausesOk : Each (InOrder (rowsOf S) (S .total)) (derivations S)
   pub inputsOk : Each (λ (c : Derivation). InputsOf (derivations S) (uses c)) (derivations S)
-
--- How many bindings are held.
-pub held-start : held emptyState ≡ 0
-unfolding held
-held-start = refl
-
-pub held-symbol : (S : State) (k a : ℕ) → held (withSymbol S k a) ≡ held S
-unfolding held
-held-symbol S k a = refl
-
-pub held-row : (S : State) (k : ℕ) (w : Row) → held (withRow S k w) ≡ held S
-unfolding held
-held-row S k w = refl
-
-pub held-clause : (S : State) (k : ℕ) (c : Derivation) → held (withClause S k c) ≡ held S + length (ownBindings c)
-unfolding held
-held-clause S k c = refl
 
 -- The limits leave room for what the proofs need.
 links-enough : mostBindings ≤ mostLinks
@@ -150,8 +135,9 @@ module _ (n : ℕ) (S : State) (H : StateOk n S) where
   symbol-added k a = record {
     rowsOk = rows-more (arityOf S) (arityOf (withSymbol S k a)) (λ s j q. entry-more a (arities S) s j q) ws (H .rowsOk);
     few = let z = H .few in omega arith;
-    heldOk = rw (held-symbol S k a) (H .heldOk);
-    clausesOk = rw (held-symbol S k a) (H .clausesOk);
+    totalOk = H .totalOk;
+    heldOk = H .heldOk;
+    clausesOk = H .clausesOk;
     inputsOk = H .inputsOk;
   }
 
@@ -159,54 +145,56 @@ module _ (n : ℕ) (S : State) (H : StateOk n S) where
   row-added k w R = record {
     rowsOk = (R, H .rowsOk);
     few = let z = H .few in omega arith;
-    heldOk = rw (held-row S k w) (H .heldOk);
-    clausesOk = rw (held-row S k w) (each-more (InOrder ws (held S)) (InOrder (w ∷ ws) (held S)) (λ c h. order-more (arityOf S) w ws (H .rowsOk) R (held S) c h) (derivations S) (H .clausesOk));
+    totalOk = H .totalOk;
+    heldOk = H .heldOk;
+    clausesOk = each-more (InOrder ws (S .total)) (InOrder (w ∷ ws) (S .total)) (λ c h. order-more (arityOf S) w ws (H .rowsOk) R (S .total) c h) (derivations S) (H .clausesOk);
     inputsOk = H .inputsOk;
   }
 
-  pub clause-entered : (k : ℕ) (c : Derivation) → held S + length (ownBindings c) ≤ mostBindings → InOrder ws (held S + length (ownBindings c)) c → InputsOf (c ∷ derivations S) (uses c) → StateOk (suc n) (withClause S k c)
+  pub clause-entered : (k : ℕ) (c : Derivation) → S .total + length (ownBindings c) ≤ mostBindings → InOrder ws (S .total + length (ownBindings c)) c → InputsOf (c ∷ derivations S) (uses c) → StateOk (suc n) (withClause S k c)
   clause-entered k c l o i = record {
     rowsOk = H .rowsOk;
     few = let z = H .few in omega arith;
-    heldOk = rw (held-clause S k c) l;
-    clausesOk = rw (held-clause S k c) (o, each-more (InOrder ws (held S)) (InOrder ws (held S + length (ownBindings c))) (λ d h. order-held ws (held S) (held S + length (ownBindings c)) (omega arith) d h) (derivations S) (H .clausesOk));
+    totalOk = ap (λ (x : ℕ). x + length (ownBindings c)) (H .totalOk);
+    heldOk = l;
+    clausesOk = (o, each-more (InOrder ws (S .total)) (InOrder ws (S .total + length (ownBindings c))) (λ d h. order-held ws (S .total) (S .total + length (ownBindings c)) (omega arith) d h) (derivations S) (H .clausesOk));
     inputsOk = (i, each-more (λ (d : Derivation). InputsOf (derivations S) (uses d)) (λ (d : Derivation). InputsOf (c ∷ derivations S) (uses d)) (λ d h. inputs-kept c (derivations S) (uses d) h) (derivations S) (H .inputsOk));
   }
 
-  pub order-of : (i : ℕ) (c : Derivation) → clauseOf S i ≡ some c → InOrder (rowsOf S) (held S) c
-  order-of i c q = entry-each (InOrder ws (held S)) (derivations S) (H .clausesOk) i c q
+  pub order-of : (i : ℕ) (c : Derivation) → clauseOf S i ≡ some c → InOrder (rowsOf S) (S .total) c
+  order-of i c q = entry-each (InOrder ws (S .total)) (derivations S) (H .clausesOk) i c q
 
   pub inputs-of : (i : ℕ) (c : Derivation) → clauseOf S i ≡ some c → InputsOf (derivations S) (uses c)
   inputs-of i c q = entry-each (λ (c : Derivation). InputsOf (derivations S) (uses c)) (derivations S) (H .inputsOk) i c q
 
-  pub known-of : (c : Derivation) → InOrder (rowsOf S) (held S) c → KnownEnvironment (Under (length (rowsOf S))) (lookup c)
+  pub known-of : (c : Derivation) → InOrder (rowsOf S) (S .total) c → KnownEnvironment (Under (length (rowsOf S))) (lookup c)
   known-of c o = known-lookup (Under (length ws)) row row (λ r l. refl) below c (o .valid) (o .known)
 
-  pub held-links : held S ≤ mostLinks
+  pub held-links : S .total ≤ mostLinks
   held-links = omega (arith, H .heldOk, links-enough)
 
   -- Unification over this state never loses its way, and what it adds keeps chains short.
-  pub room : (bs : List Binding) → noRoom (held S) bs ≡ false → held S + length bs < mostLinks
-  room bs q = omega (arith, leb-false-lt mostBindings (held S + length bs) q, links-enough)
+  pub room : (bs : List Binding) → noRoom (S .total) bs ≡ false → S .total + length bs < mostLinks
+  room bs q = omega (arith, leb-false-lt mostBindings (S .total + length bs) q, links-enough)
 
   abbrev pub ChainsAfter : Environment → Outcome → Type 0
-  ChainsAfter base o = ChainEnd (λ r. r < length (rowsOf S)) (Known (Under (length (rowsOf S)))) (rowOf S) (known-variable (Under (length (rowsOf S))) (rowOf S) (rowOf S) (λ r l. refl) below) (known-arguments (Under (length (rowsOf S))) (rowOf S) (rowOf S) (λ r l. refl) below) mostLinks (noRoom (held S)) base (held S) room o
+  ChainsAfter base o = ChainEnd (λ r. r < length (rowsOf S)) (Known (Under (length (rowsOf S)))) (rowOf S) (known-variable (Under (length (rowsOf S))) (rowOf S) (rowOf S) (λ r l. refl) below) (known-arguments (Under (length (rowsOf S))) (rowOf S) (rowOf S) (λ r l. refl) below) mostLinks (noRoom (S .total)) base (S .total) room o
 
-  unify-chains : (base : Environment) (ps : List Pair) → ChainsEnd ws (held S) base → KnownEnvironment (Under (length ws)) base → KeptPairs (Known (Under (length ws))) (Known (Under (length ws))) ps → ChainsAfter base (unify row (held S) base ps)
+  unify-chains : (base : Environment) (ps : List Pair) → ChainsEnd ws (S .total) base → KnownEnvironment (Under (length ws)) base → KeptPairs (Known (Under (length ws))) (Known (Under (length ws))) ps → ChainsAfter base (unify row (S .total) base ps)
   unify-chains base ps c κ a =
-      chain-run (λ r. r < length ws) (Known (Under (length ws))) row (known-variable (Under (length ws)) row row (λ r l. refl) below) (known-arguments (Under (length ws)) row row (λ r l. refl) below) mostLinks (noRoom (held S)) base (held S) room mostWork (unifying [] ps) (κ, a)
+      chain-run (λ r. r < length ws) (Known (Under (length ws))) row (known-variable (Under (length ws)) row row (λ r l. refl) below) (known-arguments (Under (length ws)) row row (λ r l. refl) below) mostLinks (noRoom (S .total)) base (S .total) room mostWork (unifying [] ps) (κ, a)
       (rw add-zero (c, omega (arith, H .heldOk, links-enough)))
 
-  pub resolve-chains : (x : Derivation × Literal) (y : Derivation × List Literal) → InOrder (rowsOf S) (held S) (x .0) → InOrder (rowsOf S) (held S) (y .0) → (a : ℕ) (ns : List ℕ) → numbered (literals (x .0)) a ≡ some (x .1) → numberedAll (literals (y .0)) ns ≡ some (y .1)
+  pub resolve-chains : (x : Derivation × Literal) (y : Derivation × List Literal) → InOrder (rowsOf S) (S .total) (x .0) → InOrder (rowsOf S) (S .total) (y .0) → (a : ℕ) (ns : List ℕ) → numbered (literals (x .0)) a ≡ some (x .1) → numberedAll (literals (y .0)) ns ≡ some (y .1)
       → ChainsAfter (joined (maximumIndex (x .0)) (lookup (x .0)) (lookup (y .0))) (unifyResolve S x y)
   resolve-chains x y X Y a ns p q =
       unify-chains (joined (maximumIndex (x .0)) (lookup (x .0)) (lookup (y .0))) (pairsWith (maximumIndex (x .0)) (x .1 .1) (atoms (y .1)))
-      (short-joined (λ r. r < length ws) row (maximumIndex (x .0)) (maximumIndex (y .0)) (lookup (x .0)) (lookup (y .0)) (lookup-in row (x .0) (X .valid)) (lookup-in row (y .0) (Y .valid)) (held S) (X .chains) (Y .chains))
+      (short-joined (λ r. r < length ws) row (maximumIndex (x .0)) (maximumIndex (y .0)) (lookup (x .0)) (lookup (y .0)) (lookup-in row (x .0) (X .valid)) (lookup-in row (y .0) (Y .valid)) (S .total) (X .chains) (Y .chains))
       (known-joined (Under (length ws)) (maximumIndex (x .0)) (lookup (x .0)) (lookup (y .0)) (known-of (x .0) X) (known-of (y .0) Y))
       (pairs-kept (Known (Under (length ws))) (Known (Under (length ws))) (maximumIndex (x .0)) (x .1 .1) (atoms (y .1)) (known-numbered (Under (length ws)) (x .0) (X .known) a (x .1) p)
       (each-map (KnownLiteral (Under (length ws))) (λ (d : Expression). d .0 < length ws) (λ l. l .1) (λ l k. k) (y .1) (each-numbered-all (KnownLiteral (Under (length ws))) (literals (y .0)) ns (y .1) q (known-literals (Under (length ws)) (y .0) (Y .known)))))
 
-  pub factor-chains : (x y : Derivation × Literal) → InOrder (rowsOf S) (held S) (x .0) → (a b : ℕ) → numbered (literals (x .0)) a ≡ some (x .1) → numbered (literals (x .0)) b ≡ some (y .1) → ChainsAfter (lookup (x .0)) (unifyFactor S x y)
+  pub factor-chains : (x y : Derivation × Literal) → InOrder (rowsOf S) (S .total) (x .0) → (a b : ℕ) → numbered (literals (x .0)) a ≡ some (x .1) → numbered (literals (x .0)) b ≡ some (y .1) → ChainsAfter (lookup (x .0)) (unifyFactor S x y)
   factor-chains x y X a b p q =
       unify-chains (lookup (x .0)) ((x .1 .1, y .1 .1) ∷ []) (X .chains) (known-of (x .0) X)
       (known-numbered (Under (length ws)) (x .0) (X .known) a (x .1) p, known-numbered (Under (length ws)) (x .0) (X .known) b (y .1) q, tt)

@@ -20,7 +20,7 @@ use Rattle.unification.proofs.Tests.{to-T, both-true, some-injective}
 use Rattle.derivation.specs.Derivation.{literals, input, Literal, RowLiteral, inputLiterals, Derivation, resolve, factor, numbered, numberedAll, StrictlyRising, pairsWith, placed, maximumIndex, joined, lookup, uses}
 use Rattle.derivation.proofs.Validity.{Valid, signed}
 use Rattle.verdict.specs.Refusal.{tests, mostLiterals, mostIndex, kindOfRecord, zeros, argumentRows, leftOf, rightNumbers, rightOf, deletedOf, hasArity, allBelow, equalSigns, oppositeSigns, factorSigns, resultFits}
-use Rattle.verdict.specs.State.{State, rowsOf, derivations, arityOf, clauseOf, rowOf, earliestOf, recordOfRow, held, nextClause}
+use Rattle.verdict.specs.State.{State, rowsOf, derivations, arityOf, clauseOf, rowOf, earliestOf, recordOfRow, nextClause}
 use Rattle.verdict.specs.Step.{stands, step, addClause, atoms, unifyResolve, unifyFactor, newApplication, newLiterals, enterResolvent, enter}
 use Rattle.verdict.proofs.Inversions.{tests-passed, stands-same, step-stands, named-stands, literal-named, literals-named, has-arity, all-below, rows-below, all-opposite, strictly-rising, equal-signs, not-equal, entry-new, clause-added, PassedResolve, PassedFactor, Passed}
 use Rattle.verdict.proofs.Standing.{StateOk, literals-enough, index-enough, inputs-append, inputs-kept, no-chains, symbol-added, row-added, clause-entered, order-of, inputs-of, ChainsAfter, resolve-chains, factor-chains}
@@ -88,13 +88,13 @@ module _ (n : ℕ) (S : State) (H : StateOk n S) (k : ℕ) (r : Record) (T : Sta
   valid-resolve ns x y N bs m u = (
     order-of n S H (fieldA r) (x .0) (N .isLeft) .valid,
     order-of n S H (fieldC r) (y .0) (N .isRight) .valid,
-    (x .1 .0, x .1 .1, atoms (y .1), N .isLeftLiteral, N .areRightLiterals ∙ ap some (N .signs), N .rises, (held S, m, u)),
+    (x .1 .0, x .1 .1, atoms (y .1), N .isLeftLiteral, N .areRightLiterals ∙ ap some (N .signs), N .rises, (S .total, m, u)),
   )
 
   pub valid-factor : (x y : Derivation × Literal) → NamedFactor S r x y → (bs : List Binding) (m : ℕ) → unifyFactor S x y ≡ unified bs m → Valid (rowOf S) (factor (nextClause S) (x .0) (fieldB r) (fieldC r) bs)
   valid-factor x y N bs m u = (
     order-of n S H (fieldA r) (x .0) (N .isParent) .valid,
-    (x .1 .0, x .1 .1, y .1 .1, N .isKept, N .isDeleted ∙ ap (λ (b : Bool). some (b, y .1 .1)) (N .signs), N .different, (held S, m, u)),
+    (x .1 .0, x .1 .1, y .1 .1, N .isKept, N .isDeleted ∙ ap (λ (b : Bool). some (b, y .1 .1)) (N .signs), N .different, (S .total, m, u)),
   )
 
   resolve-entered : (ns : List ℕ) (x : Derivation × Literal) (y : Derivation × List Literal) → NamedResolve S r ns x y → addClause S k (resolve (nextClause S) (x .0) (fieldB r) (y .0) ns) (unifyResolve S x y) ≡ stands T → StateOk (suc n) T
@@ -108,8 +108,8 @@ module _ (n : ℕ) (S : State) (H : StateOk n S) (k : ℕ) (r : Record) (T : Sta
       (record { valid = valid-resolve ns x y N (c .0) (c .1) (c .2); known = (X .known, Y .known); chains = z .0; literalsFit = N .literalsFit; indexFits = N .indexFits })
       (inputs-kept new (derivations S) (uses (x .0) ++ uses (y .0)) (inputs-append (derivations S) (uses (x .0)) (uses (y .0)) (inputs-of n S H (fieldA r) (x .0) (N .isLeft)) (inputs-of n S H (fieldC r) (y .0) (N .isRight)))))
     where
-      room-left : (bs : List Binding) (m : ℕ) → unifyResolve S x y ≡ unified bs m → held S + length bs ≤ mostBindings
-      room-left bs m u = bindings-fit (rowOf S) (held S) (joined (maximumIndex (x .0)) (lookup (x .0)) (lookup (y .0))) (pairsWith (maximumIndex (x .0)) (x .1 .1) (atoms (y .1))) bs m u (H .heldOk)
+      room-left : (bs : List Binding) (m : ℕ) → unifyResolve S x y ≡ unified bs m → S .total + length bs ≤ mostBindings
+      room-left bs m u = bindings-fit (rowOf S) (S .total) (joined (maximumIndex (x .0)) (lookup (x .0)) (lookup (y .0))) (pairsWith (maximumIndex (x .0)) (x .1 .1) (atoms (y .1))) bs m u (H .heldOk)
 
   factor-entered : (x y : Derivation × Literal) → NamedFactor S r x y → addClause S k (factor (nextClause S) (x .0) (fieldB r) (fieldC r)) (unifyFactor S x y) ≡ stands T → StateOk (suc n) T
   factor-entered x y N q =
@@ -121,8 +121,8 @@ module _ (n : ℕ) (S : State) (H : StateOk n S) (k : ℕ) (r : Record) (T : Sta
       (record { valid = valid-factor x y N (c .0) (c .1) (c .2); known = X .known; chains = z .0; literalsFit = N .literalsFit; indexFits = N .indexFits })
       (inputs-kept new (derivations S) (uses (x .0)) (inputs-of n S H (fieldA r) (x .0) (N .isParent))))
     where
-      room-left : (bs : List Binding) (m : ℕ) → unifyFactor S x y ≡ unified bs m → held S + length bs ≤ mostBindings
-      room-left bs m u = bindings-fit (rowOf S) (held S) (lookup (x .0)) ((x .1 .1, y .1 .1) ∷ []) bs m u (H .heldOk)
+      room-left : (bs : List Binding) (m : ℕ) → unifyFactor S x y ≡ unified bs m → S .total + length bs ≤ mostBindings
+      room-left bs m u = bindings-fit (rowOf S) (S .total) (lookup (x .0)) ((x .1 .1, y .1 .1) ∷ []) bs m u (H .heldOk)
 
   argument-count : length (r .fields) ≡ 7 → r .count ≤ 6 → length (argumentRows r) ≡ r .count
   argument-count l h = simp (length-take, length-drop) (omega arith)
@@ -157,7 +157,7 @@ module _ (n : ℕ) (S : State) (H : StateOk n S) (k : ℕ) (r : Record) (T : Sta
       let f = few-literals (leb→le (r .count) 7 (to-T (leb (r .count) 7) (c .0))) in
       let h = H .heldOk in
       subst (StateOk (suc n)) (stands-same q) (clause-entered n S H k (input (nextClause S) (newLiterals S r)) (omega arith)
-      (record { valid = tt; known = literals-below (inputLiterals r) (rows-below (length ws) (inputLiterals r) (a .there)); chains = no-chains ws (held S + 0) (lookup (input (nextClause S) (newLiterals S r))) (λ x. refl); literalsFit = omega (arith, literals-enough, f); indexFits = index-enough })
+      (record { valid = tt; known = literals-below (inputLiterals r) (rows-below (length ws) (inputLiterals r) (a .there)); chains = no-chains ws (S .total + 0) (lookup (input (nextClause S) (newLiterals S r))) (λ x. refl); literalsFit = omega (arith, literals-enough, f); indexFits = index-enough })
       (entry-new (input (nextClause S) (newLiterals S r)) (derivations S), tt))
   entered resolveKind l a q = resolvent-entered resolveKind a q
   entered severalKind l a q = resolvent-entered severalKind a q

@@ -16,8 +16,8 @@ use Rattle.unification.specs.Nodes.{part}
 use Rattle.unification.proofs.Tests.{to-T, some-not-none, some-injective}
 use Rattle.derivation.specs.Derivation.{input, RowLiteral, literalOf, Derivation, resolve, factor, ownBindings, clauseNumber}
 use Rattle.derivation.specs.Stored.{literalNumber, cellsOfOrigin, originList, originCode, rightCells, originNumbers, literalsCell, Cells, Stored, storedInput, storedResolve, storedFactor}
-use Rattle.verdict.specs.State.{entry, bindingsOf}
-use Rattle.verdict.specs.Tables.{cellsOfClause, clauseCells, cellsOfBindings, bindingCells}
+use Rattle.verdict.specs.State.{entry}
+use Rattle.verdict.specs.Tables.{cellsOfClause, clauseCells, cellsOfBindings, bindingCells, bindingsOf}
 use Rattle.verdict.proofs.Acceptance.{cells-length}
 use Rattle.verdict.proofs.Inversions.{entry-below, entry-more}
 use Rattle.verdict.proofs.Sources.{SourceOf, Sourced, earlier, source-of, earlier-length, number-of}

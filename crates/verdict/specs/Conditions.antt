@@ -14,7 +14,7 @@ use Rattle.unification.specs.Outlines.{ClashFound}
 use Rattle.unification.specs.Row.{variable}
 use Rattle.unification.specs.Unification.{mostLinks, Failure, clash, occurs, overwork, full, Pair, unifying}
 use Rattle.derivation.specs.Derivation.{literals, Literal, Derivation, numbered, without, numberedAll, withoutAll, pairsWith, maximumIndex, joined, lookup}
-use Rattle.verdict.specs.State.{State, arityOf, clauseOf, rowOf, held}
+use Rattle.verdict.specs.State.{State, arityOf, clauseOf, rowOf}
 use Rattle.verdict.specs.Tables.{Tables}
 
 -- x is an element of a list.
@@ -135,7 +135,7 @@ pub data OutlinesClash (S : State) (r : Record) : Type 0 where
 -- 10 to 13: unification of the literals, in the parents' environments as one, fails as `Failing` states it: with 16,384 units of work,
 -- and room for bindings while fewer than 8,192 are held, those of earlier clauses included.
 abbrev pub Fails : State → Environment → List Pair → Failure → Type 0
-Fails S ρ pairs f = Failing (rowOf S) mostLinks (λ bs. leb 8192 (held S + length bs)) ρ 16384 (unifying [] pairs) f
+Fails S ρ pairs f = Failing (rowOf S) mostLinks (λ bs. leb 8192 (S .total + length bs)) ρ 16384 (unifying [] pairs) f
 
 pub data StepFails (S : State) (r : Record) (f : Failure) : Type 0 where
   resolveFails : {left right : Derivation} {l : Literal} {ns : List ℕ} {ms : List Literal} → Resolves S r left right l ns ms

@@ -10,5 +10,6 @@ pub mod Demands
 pub mod Outlines
 pub mod Repeats
 pub mod Several
+pub mod Total
 pub mod Cases
 pub mod Edges

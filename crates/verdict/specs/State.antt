@@ -10,24 +10,27 @@ use Rattle.unification.specs.Row.{Row, rowAt, termAt}
 use Rattle.unification.specs.Term.{Term}
 use Rattle.derivation.specs.Derivation.{Derivation, ownBindings}
 
--- Symbols with their arities, rows, and clauses, each with the number of its record; a repeated row with that of the earliest equal one.
+-- Symbols with their arities, rows, and clauses, each with the number of its record; a repeated row with that of the earliest equal one. And
+-- document 02, Q-4: the running total of bindings, which goes from record to record.
 pub record State : Type 0 where
   pub symbols : List (ℕ × ℕ)
   pub rows : List (ℕ × Row)
   pub clauses : List (ℕ × Derivation)
+  pub total : ℕ
 
 -- Before any record.
 abbrev pub emptyState : State
-emptyState = record { symbols = []; rows = []; clauses = [] }
+emptyState = record { symbols = []; rows = []; clauses = []; total = 0 }
 
 abbrev pub withSymbol : State → ℕ → ℕ → State
-withSymbol S k arity = record { symbols = (k, arity) ∷ S .symbols; rows = S .rows; clauses = S .clauses }
+withSymbol S k arity = record { symbols = (k, arity) ∷ S .symbols; rows = S .rows; clauses = S .clauses; total = S .total }
 
 abbrev pub withRow : State → ℕ → Row → State
-withRow S k row = record { symbols = S .symbols; rows = (k, row) ∷ S .rows; clauses = S .clauses }
+withRow S k row = record { symbols = S .symbols; rows = (k, row) ∷ S .rows; clauses = S .clauses; total = S .total }
 
+-- A clause. The total grows by the bindings that its step has made, which for an input clause are none; no other record adds to it.
 abbrev pub withClause : State → ℕ → Derivation → State
-withClause S k c = record { symbols = S .symbols; rows = S .rows; clauses = (k, c) ∷ S .clauses }
+withClause S k c = record { symbols = S .symbols; rows = S .rows; clauses = (k, c) ∷ S .clauses; total = S .total + length (ownBindings c) }
 
 -- The element numbered n of a list that has the newest first.
 abbrev pub entry {ℓ} : {A : Type ℓ} → List A → ℕ → Option A
@@ -68,11 +71,3 @@ earliestOf S r = earliestRow (rowsOf S) r
 
 abbrev pub recordOfRow : State → ℕ → Row → ℕ
 recordOfRow S k w = elim (earliestEqual w (rowsOf S)) [ none ↦ k | some q ↦ orSame k (entry (map (λ u. u .0) (S .rows)) q) ]
-
--- How many bindings the clauses hold: the sum of what their steps added.
-abbrev pub bindingsOf : List Derivation → ℕ
-bindingsOf [] = 0
-bindingsOf (c ∷ cs) = bindingsOf cs + length (ownBindings c)
-
-unfoldable pub held : State → ℕ
-held S = bindingsOf (derivations S)

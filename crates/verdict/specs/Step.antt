@@ -9,7 +9,7 @@ use Rattle.unification.specs.Row.{variable, Row, application, Expression}
 use Rattle.unification.specs.Unification.{unify, Outcome, unified, failed}
 use Rattle.derivation.specs.Derivation.{input, Literal, RowLiteral, inputLiterals, Derivation, resolve, factor, pairsWith, maximumIndex, joined, lookup}
 use Rattle.verdict.specs.Refusal.{tests, outlineTests, Reason, unification, badKind, notThere, kindOfRecord, leftOf, rightNumbers, rightOf, deletedOf, argumentRows}
-use Rattle.verdict.specs.State.{State, withSymbol, withRow, withClause, rowOf, earliestOf, recordOfRow, held, nextClause}
+use Rattle.verdict.specs.State.{State, withSymbol, withRow, withClause, rowOf, earliestOf, recordOfRow, nextClause}
 
 -- A record that stands gives the next state; a refused one its reason.
 pub data Result : Type 0 where
@@ -37,10 +37,10 @@ atoms ls = map (λ l. l .1) ls
 
 abbrev pub unifyResolve : State → Derivation × Literal → Derivation × List Literal → Outcome
 unifyResolve S x y =
-    unify (rowOf S) (held S) (joined (maximumIndex (x .0)) (lookup (x .0)) (lookup (y .0))) (pairsWith (maximumIndex (x .0)) (x .1 .1) (atoms (y .1)))
+    unify (rowOf S) (S .total) (joined (maximumIndex (x .0)) (lookup (x .0)) (lookup (y .0))) (pairsWith (maximumIndex (x .0)) (x .1 .1) (atoms (y .1)))
 
 abbrev pub unifyFactor : State → Derivation × Literal → Derivation × Literal → Outcome
-unifyFactor S x y = unify (rowOf S) (held S) (lookup (x .0)) ((x .1 .1, y .1 .1) ∷ [])
+unifyFactor S x y = unify (rowOf S) (S .total) (lookup (x .0)) ((x .1 .1, y .1 .1) ∷ [])
 
 -- A step on what it names; the tests before have shown that it exists.
 abbrev pub onNamed : {A B : Type 0} → (A → B → Result) → Option A → Option B → Result

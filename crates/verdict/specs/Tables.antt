@@ -1,10 +1,10 @@
 -- Document 01, "Verdict, tables and refusals": the four tables as the check leaves them.
 use mathlib.Core.List.{List, [], _∷_, _++_, map, reverse}
-use Prim.Native.Nat.{ℕ, _-_}
+use Prim.Native.Nat.{ℕ, _+_, _-_}
 use lib.ListN.{length, drop, replicate}
 use Rattle.unification.specs.Environment.{Binding}
 use Rattle.derivation.specs.Derivation.{literals, Derivation, maximumIndex, ownBindings}
-use Rattle.verdict.specs.State.{State, derivations, bindingsOf}
+use Rattle.verdict.specs.State.{State, derivations}
 use Rattle.verdict.specs.Step.{stateOf}
 use Rattle.verdict.specs.Verdict.{Lengths, named, Reading, untouched, readTo, reading}
 
@@ -24,6 +24,11 @@ symbolCells S = reverse (map (λ s. s .0) (S .symbols))
 
 abbrev pub rowCells : State → List ℕ
 rowCells S = reverse (map (λ w. w .0) (S .rows))
+
+-- The bindings of some clauses, counted: where those of the next clause begin.
+abbrev pub bindingsOf : List Derivation → ℕ
+bindingsOf [] = 0
+bindingsOf (c ∷ cs) = bindingsOf cs + length (ownBindings c)
 
 -- Five cells a clause: record, literal count, maximum index, first binding, number of bindings.
 abbrev pub cellsOfClause : ℕ → ℕ → Derivation → List ℕ

@@ -9,7 +9,7 @@ use lib.ListN.{length}
 use Rattle.record.specs.Record.{pick, records}
 use Rattle.derivation.specs.Derivation.{literals, Derivation}
 use Rattle.verdict.specs.Refusal.{Reason, badLength, shortTable, reasonNumber}
-use Rattle.verdict.specs.State.{State, emptyState, derivations, held}
+use Rattle.verdict.specs.State.{State, emptyState, derivations}
 use Rattle.verdict.specs.Step.{read, Ending, allStand, refusedAt, stateOf}
 
 -- The verdict, with its numbers: 0 open; 1 accepted, and the clause; 2 refused, the reason and the record.
@@ -58,7 +58,7 @@ verdictOf (allStand S) = standing (firstEmpty everyClause (derivations S))
 verdictOf (refusedAt S reason k) = refusal reason k
 
 abbrev pub answerOf : Verdict → State → Answer
-answerOf v S = record { verdict = v; symbols = length (S .symbols); rows = length (S .rows); clauses = length (S .clauses); bindings = held S }
+answerOf v S = record { verdict = v; symbols = length (S .symbols); rows = length (S .rows); clauses = length (S .clauses); bindings = S .total }
 
 -- The lengths that the four tables must have at least.
 pub record Lengths : Type 0 where

@@ -51,7 +51,7 @@ pub struct Answer {
     pub rows: u16,
     /// How many clauses.
     pub clauses: u16,
-    /// How many bindings.
+    /// How many bindings: the sum of the clauses' fifth cells.
     pub bindings: u16,
 }
 
