@@ -21,6 +21,7 @@ use Rattle.verdict.proofs.OutlinesShown.{outlines-shown}
 use Rattle.verdict.proofs.RepeatsShown.{repeats-shown}
 use Rattle.verdict.proofs.SeveralShown.{several-shown}
 use Rattle.verdict.proofs.TotalShown.{bindings-held}
+use Rattle.verdict.proofs.LiftingShown.{nothing-lost}
 use Rattle.verdict.proofs.Demanded.{check-length, check-tables, check-reads, tables-length, tables-short, tables-read, demand1, demand2, demand3}
 use borrow.Author.Tests.{not-false, not-true}
 use Rattle.answer.specs.declared.Answer.{Answer}
@@ -41,6 +42,7 @@ module _ (F : List ℕ) (t : Tables) (a : Answer) (here : Tables) (isAnswer : an
     repeats = repeats-shown F;
     several = several-shown F;
     held = bindings-held F t;
+    lifting = nothing-lost F;
   }
 
 pub readable : (F : List ℕ) (t : Tables) (b : Bool) → b ≡ fittingLength (length F) → not b ≡ false → (d : Bool) → d ≡ longEnough (lengthsOf t) → not d ≡ false → Readable F t

@@ -7,6 +7,7 @@ use lib.ListN.{length}
 use Rattle.unification.specs.Row.{Variable}
 use Rattle.derivation.specs.Stored.{originTableOf}
 use Rattle.verdict.specs.Demands.{Demand1, Demand2, Demand3}
+use Rattle.verdict.specs.Lifting.{NothingLost}
 use Rattle.verdict.specs.Outlines.{OutlinesBeforeUnification}
 use Rattle.verdict.specs.Repeats.{RepeatedRows}
 use Rattle.verdict.specs.Several.{SeveralLiterals}
@@ -38,6 +39,8 @@ pub record Checked (file : List ℕ) (before : Tables) (a : Answer) (after : Tab
   pub several : SeveralLiterals file
   -- Document 02, Q-4.
   pub held : BindingsHeld file before
+  -- Document 02, Q-7.
+  pub lifting : NothingLost file
 
 -- A node table, a table of origins and an array of values that the caller lends, whatever they hold.
 pub record Workspace : Type 0 where

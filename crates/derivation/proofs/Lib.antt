@@ -5,6 +5,7 @@ pub mod Substitutions
 pub mod Values
 pub mod Unifiers
 pub mod Resolvents
+pub mod Lifting
 pub mod Chains
 pub mod Forms
 pub mod Known

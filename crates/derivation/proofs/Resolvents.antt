@@ -46,7 +46,7 @@ module _ (term : ℕ → Term ℕ) where
 
 module _ (row : ℕ → Row) (term : ℕ → Term ℕ) (termLaw : (r : ℕ) → term r ≡ rowTerm term r (row r)) where
   -- The variables of a written-out clause have indices up to its maximum index.
-  clause-in : (c : Derivation) → Valid row c → (ls : List Literal) → Each (LiteralIn (maximumIndex c)) ls → ClauseVariables (λ x. In (maximumIndex c) (x .1)) (map (writtenLiteral term (substitution term c)) ls)
+  pub clause-in : (c : Derivation) → Valid row c → (ls : List Literal) → Each (LiteralIn (maximumIndex c)) ls → ClauseVariables (λ x. In (maximumIndex c) (x .1)) (map (writtenLiteral term (substitution term c)) ls)
   clause-in c K [] h = tt
   clause-in c K (l ∷ ls) h = (
     variables-more (λ y. In (maximumIndex c) (y .1) × (lookup c y ≡ none)) (λ y. In (maximumIndex c) (y .1)) (λ y p. p .0) (writtenOut term (substitution term c) (l .1))

@@ -22,3 +22,4 @@ pub mod Replacing
 pub mod RepeatsShown
 pub mod SeveralShown
 pub mod TotalShown
+pub mod LiftingShown

@@ -11,5 +11,6 @@ pub mod Outlines
 pub mod Repeats
 pub mod Several
 pub mod Total
+pub mod Lifting
 pub mod Cases
 pub mod Edges
