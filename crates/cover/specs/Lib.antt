@@ -1,0 +1,4 @@
+pub mod Covering
+pub mod Matching
+pub mod Pairs
+pub mod Searching
