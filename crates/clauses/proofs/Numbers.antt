@@ -204,7 +204,7 @@ raise-named-twice m k none = refl
 raise-named-twice m k (some l) = let z : m + (k + l .1 .1) ≡ m + k + l .1 .1 = omega arith in ap (λ (i : ℕ). some (l .0, (l .1 .0, i))) z
 
 -- The seven numbers of an origin by number.
-numbered-origin : (O : List ℕ) (p n : ℕ) → 1 ≤ n → n ≤ 7 → numbered (originNumbers O p) n ≡ some (part O p (n - 1))
+pub numbered-origin : (O : List ℕ) (p n : ℕ) → 1 ≤ n → n ≤ 7 → numbered (originNumbers O p) n ≡ some (part O p (n - 1))
 numbered-origin O p zero l h = absurd (omega arith)
 numbered-origin O p (suc zero) l h = refl
 numbered-origin O p (suc (suc zero)) l h = refl

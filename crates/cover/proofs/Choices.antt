@@ -14,6 +14,7 @@ use Rattle.unification.specs.Nodes.{part, HasRow}
 use Rattle.unification.specs.Term.{Term, var, apply}
 use Rattle.unification.proofs.Tests.{to-T, from-T, both-true, true-not-false, some-not-none, some-injective}
 use Rattle.derivation.specs.Derivation.{RowLiteral, literalOf, numbered}
+use Rattle.cover.specs.Comparing.{numbersFrom}
 use Rattle.cover.specs.Covering.{Substitution, Turns, Works, NotAfter}
 use Rattle.cover.specs.Pairs.{bit, isPair, leftNumber, rightNumber, Pairs, agreeAt, agreeFrom, goTogether, tableFilled}
 use Rattle.cover.specs.Searching.{pairChosen, fitsFrom, fits, searched}
@@ -74,10 +75,12 @@ each-fits T X i (suc m) j h = together (eqb (getD T (64 * pairChosen X j + pairC
 
 -- The table has for every two pairs whether they go together.
 pub table-length : (F W : List ℕ) (k : ℕ) (T : List ℕ) → length (tableFilled F W k T) ≡ length T
+unfolding tableFilled
 table-length F W zero T = refl
 table-length F W (suc x) T = length-set (tableFilled F W x T) x (bit (goTogether F W (x / 64) (x % 64))) ∙ table-length F W x T
 
 pub table-cell : (F W : List ℕ) (k : ℕ) (T : List ℕ) → k ≤ length T → (x : ℕ) → x < k → getD (tableFilled F W k T) x 0 ≡ bit (goTogether F W (x / 64) (x % 64))
+unfolding tableFilled
 table-cell F W zero T l x b = absurd (omega arith)
 table-cell F W (suc k) T l x b = try (same-or-not x k) (λ c. table-cell F W k T (omega arith) x c)
   where
@@ -94,11 +97,6 @@ bit-true true h = refl
 bit-true false h = absurd (true-not-false h refl)
 
 -- ── Choices as lists ──
-
--- k numbers of a list, from i on.
-abbrev pub numbersFrom : List ℕ → ℕ → ℕ → List ℕ
-numbersFrom X i zero = []
-numbersFrom X i (suc k) = getD X i 0 ∷ numbersFrom X (suc i) k
 
 pub numbers-length : (X : List ℕ) (i k : ℕ) → length (numbersFrom X i k) ≡ k
 numbers-length X i zero = refl

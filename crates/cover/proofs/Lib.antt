@@ -4,3 +4,9 @@ pub mod Earliest
 pub mod PairLaws
 pub mod Choices
 pub mod ImageSteps
+pub mod Truth
+pub mod SearchSteps
+pub mod PairSteps
+pub mod StateTerms
+pub mod Comparisons
+pub mod CompareSteps

@@ -122,7 +122,8 @@ module _ (N O : List ℕ) (term : ℕ → Term ℕ) (H : TermsOf N term) (c d kc
     pub clear : (z : ℕ) → 64 * k ≤ z → getD (P .notes) z 0 ≡ 0
     pub came : (p : ℕ) (l : p < 64) → p < k → PairCame p l (eqb (getD (P .found) p 0) 1) (P .notes)
 
-  pairs-came : (k : ℕ) → k ≤ 64 → (P : Pairs) → AllCame 0 P → AllCame k (pairsMatched N O c d kc kd k P)
+  pub pairs-came : (k : ℕ) → k ≤ 64 → (P : Pairs) → AllCame 0 P → AllCame k (pairsMatched N O c d kc kd k P)
+  unfolding pairsMatched
   pairs-came zero b P A = A
   pairs-came (suc k) b P A = next (pairsMatched N O c d kc kd k P) (pairs-came k (omega arith) P A)
     where

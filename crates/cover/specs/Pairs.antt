@@ -38,7 +38,7 @@ pub record Pairs : Type 0 where
 abbrev pub foundPair : ℕ → List ℕ → Bool × List ℕ → Pairs
 foundPair p F X = record { found = set F p (bit (X .0)); notes = X .1 }
 
-abbrev pub pairsMatched : List ℕ → List ℕ → ℕ → ℕ → ℕ → ℕ → ℕ → Pairs → Pairs
+unfoldable pub pairsMatched : List ℕ → List ℕ → ℕ → ℕ → ℕ → ℕ → ℕ → Pairs → Pairs
 pairsMatched N O c d kc kd zero P = P
 pairsMatched N O c d kc kd (suc p) P =
     foundPair p (pairsMatched N O c d kc kd p P .found) (pairMatched N O c d kc kd p (pairsMatched N O c d kc kd p P .notes))
@@ -56,6 +56,6 @@ abbrev pub goTogether : List ℕ → List ℕ → ℕ → ℕ → Bool
 goTogether F W p q = eqb (getD F p 0) 1 && (eqb (getD F q 0) 1 && agreeFrom W p q 64 0)
 
 -- The table of that: cell 64 × p + q; the first k cells of it are filled.
-abbrev pub tableFilled : List ℕ → List ℕ → ℕ → List ℕ → List ℕ
+unfoldable pub tableFilled : List ℕ → List ℕ → ℕ → List ℕ → List ℕ
 tableFilled F W zero T = T
 tableFilled F W (suc x) T = set (tableFilled F W x T) x (bit (goTogether F W (x / 64) (x % 64)))

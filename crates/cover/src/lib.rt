@@ -1,2 +1,41 @@
-// Which input clause covers which. `Covering` in specs/ has what that means; `Matching`, `Pairs` and `Searching` say how this program goes about it.
-pub mod images;
+// Which input clause covers which. In specs/, `Covering` has what that means, and `Answering` and `Contract` what this crate promises; `Matching`,
+// `Pairs`, `Searching` and `Comparing` say how the parts of this program go about it.
+mod compare;
+pub mod covering;
+mod images;
+mod pairs;
+mod search;
+
+use checker::check_with;
+use compare::compare;
+use covering::Covering;
+ghost use Rattle.entry.specs.Progress.{tablesWith};
+ghost use Rattle.cover.specs.Contract.{CoversAnswered};
+
+// Whether input clause c of a file covers input clause d. The file is checked first, and the tables are left as the check leaves them.
+pub fn covers(
+    file: &[u8],
+    symbols: &mut [u16],
+    rows: &mut [u16],
+    clauses: &mut [u16],
+    bindings: &mut [u16],
+    c: u16,
+    d: u16,
+) -> Covering
+    ensures { λ r. ⌜ CoversAnswered (now (file .entry)) (tablesWith (now (symbols .entry)) (now (rows .entry)) (now (clauses .entry)) (now (bindings .entry))) c d r (tablesWith (now (symbols .exit)) (now (rows .exit)) (now (clauses .exit)) (now (bindings .exit))) ⌝ }
+{
+    let mut nodes = [0u16; 32768];
+    let mut origins = [0u16; 32768];
+    let mut values = [0u16; 524416];
+    let a = check_with(
+        file,
+        symbols,
+        rows,
+        clauses,
+        bindings,
+        &mut nodes,
+        &mut origins,
+        &mut values,
+    );
+    compare(clauses, &nodes, &origins, a, c, d)
+}

@@ -243,7 +243,7 @@ module _ (ws : List Row) (fit : Each RowFits ws) (N : List ℕ) (table : NodeTab
   from-length r n zero = refl
   from-length r n (suc m) = ap suc (from-length r (suc n) m)
 
-  argument-at : (r n m k : ℕ) → k < m → (P : ℕ → Type 0) → Each P (argumentsFrom N r m n) → P (part N r (n + k))
+  pub argument-at : (r n m k : ℕ) → k < m → (P : ℕ → Type 0) → Each P (argumentsFrom N r m n) → P (part N r (n + k))
   argument-at r n zero k l P h = absurd (omega arith)
   argument-at r n (suc m) zero l P h = rw add-zero (h .0)
   argument-at r n (suc m) (suc k) l P h = let z : n + suc k ≡ suc n + k = omega arith in rw z (argument-at r (suc n) m k (omega arith) P (h .1))

@@ -31,7 +31,8 @@ use Rattle.terms.proofs.Positions.{wrote-inside, wrote-position, wrote-bytes}
 use Rattle.lines.proofs.LineTexts.{line-short}
 use Rattle.readout.proofs.PieceLaws.{AllWithin, pieces-hold}
 use Rattle.readout.proofs.PieceRuns.{SoFar, so-far-none, so-far-all, so-far-stopped, so-far-more}
-use Rattle.readout.proofs.UnitLaws.{stateLeft, lines-left, clauses-given, unit-count}
+use Rattle.answer.proofs.GivenNumbers.{stateLeft, clauses-given}
+use Rattle.readout.proofs.UnitLaws.{lines-left, unit-count}
 use Rattle.readout.proofs.UnitWriting.{after-again}
 
 -- The lines of a file fit into the buffer, the first two together as well.

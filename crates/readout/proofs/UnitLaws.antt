@@ -12,13 +12,10 @@ use borrow.Author.Tests.{eqb-true, ne-eqb}
 use Rattle.record.specs.Record.{pick}
 use Rattle.derivation.specs.Derivation.{Derivation}
 use Rattle.verdict.specs.State.{State, derivations, entry, clauseOf}
-use Rattle.verdict.specs.Verdict.{Verdict, accepted, open′, refusal, verdictNumbers, answerNumbers, check, Lengths, reading, stateGiven}
+use Rattle.verdict.specs.Verdict.{check, Lengths}
 use Rattle.verdict.proofs.Inversions.{entry-below}
 use Rattle.unification.proofs.Tests.{some-injective}
-use Rattle.answer.specs.Given.{verdictGiven, answerGiven}
-use Rattle.answer.specs.declared.Answer.{Answer}
-use Rattle.answer.specs.declared.Verdict as given
-use Rattle.answer.specs.declared.Verdict.the-variants as given-variants
+use Rattle.answer.proofs.GivenNumbers.{stateLeft}
 use Rattle.readout.specs.Pieces.{units}
 use Rattle.verdict.specs.Readout.{verdictLine, clauseLine, clauseLines, linesOf, readoutLines}
 use Rattle.readout.specs.Units.{unitsWithin, unitAt}
@@ -41,57 +38,10 @@ clause-line-at S (e ∷ ds) n d q = try (eqb n (length ds)) refl q (λ r. clause
         ∙ ap₂ (clauseLine S) (sym (eqb-true n (length ds) p)) (some-injective r)
     try false p r ih = List·getD-append (clauseLines S ds) (clauseLine S (length ds) e ∷ []) [] n (omega (arith, entry-below ds n d r, clause-lines-length S ds)) ∙ ih r
 
--- The state that a check leaves.
-abbrev pub stateLeft : List ℕ → Lengths → State
-stateLeft file lengths = stateGiven (reading file lengths)
-
 -- The lines of a file are those of the verdict and the state that its check leaves.
 pub lines-left : (F : List ℕ) (lengths : Lengths) → readoutLines F lengths ≡ linesOf (check F lengths .verdict) (stateLeft F lengths)
 unfolding readoutLines check
 lines-left F lengths = refl
-
-counts-left : (F : List ℕ) (lengths : Lengths) → check F lengths .clauses ≡ length (stateLeft F lengths .clauses)
-unfolding check
-counts-left F lengths = refl
-
--- The verdict's numbers and the counts, taken apart.
-rest-given : (v : given.Verdict) (xs : List ℕ) → drop 3 (verdictGiven v ++ xs) ≡ xs
-rest-given given-variants.Open xs = refl
-rest-given (given-variants.Accepted n) xs = refl
-rest-given (given-variants.Refused q k) xs = refl
-
-rest-numbers : (v : Verdict) (xs : List ℕ) → drop 3 (verdictNumbers v ++ xs) ≡ xs
-rest-numbers (accepted n) xs = refl
-rest-numbers open′ xs = refl
-rest-numbers (refusal reason k) xs = refl
-
-abbrev three : List ℕ → List ℕ
-three l = getD l 0 0 ∷ getD l 1 0 ∷ getD l 2 0 ∷ []
-
-three-given : (v : given.Verdict) (xs : List ℕ) → three (verdictGiven v ++ xs) ≡ verdictGiven v
-three-given given-variants.Open xs = refl
-three-given (given-variants.Accepted n) xs = refl
-three-given (given-variants.Refused q k) xs = refl
-
-three-numbers : (v : Verdict) (xs : List ℕ) → three (verdictNumbers v ++ xs) ≡ verdictNumbers v
-three-numbers (accepted n) xs = refl
-three-numbers open′ xs = refl
-three-numbers (refusal reason k) xs = refl
-
-module _ (F : List ℕ) (lengths : Lengths) (a : Answer) (isAnswer : answerGiven a ≡ answerNumbers (check F lengths)) where
-  pub verdict-given : verdictGiven (a .verdict) ≡ verdictNumbers (check F lengths .verdict)
-  verdict-given =
-      sym (three-given (a .verdict) (a .symbols ∷ a .rows ∷ a .clauses ∷ a .bindings ∷ []))
-      ∙ ap three isAnswer
-      ∙ three-numbers (check F lengths .verdict) (check F lengths .symbols ∷ check F lengths .rows ∷ check F lengths .clauses ∷ check F lengths .bindings ∷ [])
-
-  pub clauses-given : a .clauses ≡ length (stateLeft F lengths .clauses)
-  clauses-given =
-      ap (λ (l : List ℕ). getD l 2 0)
-      (sym (rest-given (a .verdict) (a .symbols ∷ a .rows ∷ a .clauses ∷ a .bindings ∷ []))
-      ∙ ap (drop 3) isAnswer
-      ∙ rest-numbers (check F lengths .verdict) (check F lengths .symbols ∷ check F lengths .rows ∷ check F lengths .clauses ∷ check F lengths .bindings ∷ []))
-      ∙ counts-left F lengths
 
 -- Units of a line and the lines after it.
 units-one : (v : List ℕ) (ls : List (List ℕ)) → length ls ≡ 0 → getD (units (v ∷ ls)) 0 [] ≡ v

@@ -23,7 +23,8 @@ use Rattle.terms.specs.Writing.{Wrote, Sized}
 use Rattle.lines.proofs.LineTexts.{ClauseThere, clause-there, read-again}
 use Rattle.terms.proofs.Positions.{wrote-then}
 use Rattle.readout.proofs.VerdictTexts.{verdict-line}
-use Rattle.readout.proofs.UnitLaws.{stateLeft, verdict-given, clauses-given, unit-alone, unit-first, unit-other}
+use Rattle.answer.proofs.GivenNumbers.{stateLeft, verdict-given, clauses-given}
+use Rattle.readout.proofs.UnitLaws.{unit-alone, unit-first, unit-other}
 
 -- How many units there are, by the test of the program.
 pub units-none : (c : ℕ) → c ≡ 0 → 1 ≡ unitsWithin c

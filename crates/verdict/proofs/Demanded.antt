@@ -205,7 +205,7 @@ module _ (file : List ℕ) (tables : Tables) where
       first (inl p) = second (either-false (four .0 && four .1) (four .2) p)
       first (inr p) = bindingsShort (leb-false-lt 32768 (length (tables .bindings)) p)
 
-  tables-fail : TableShort tables → longEnough (lengthsOf tables) ≡ false
+  pub tables-fail : TableShort tables → longEnough (lengthsOf tables) ≡ false
   tables-fail h = not-true (longEnough (lengthsOf tables)) (λ t.
       let c = both-true (four .0 && four .1 && four .2) (four .3) t in
       let b = both-true (four .0 && four .1) (four .2) (c .0) in
@@ -218,7 +218,7 @@ module _ (file : List ℕ) (tables : Tables) where
       by (clausesShort l) a b c d = omega arith
       by (bindingsShort l) a b c d = omega arith
 
-  long-enough : ¬ TableShort tables → longEnough (lengthsOf tables) ≡ true
+  pub long-enough : ¬ TableShort tables → longEnough (lengthsOf tables) ≡ true
   long-enough h = try (longEnough (lengthsOf tables)) refl
     where
       try : (b : Bool) → longEnough (lengthsOf tables) ≡ b → b ≡ true

@@ -1,0 +1,90 @@
+-- The ways out of the functions that compare two clauses, as the program takes them.
+use mathlib.Core.Path.{_≡_, refl, sym, ap, _∙_, subst}
+use mathlib.Core.Bool.{Bool, true, false, _&&_}
+use mathlib.Core.List.{List, [], _∷_, _++_}
+use Prim.Native.Nat.{ℕ, _≤_, _<_}
+use native.Mathlib.Omega.{arith}
+use lib.Dec.{eqb, ltb, ltb→lt, lt→ltb}
+use lib.ListN.{length, replicate}
+use Rattle.unification.proofs.Tests.{to-T, from-T}
+use Rattle.derivation.specs.Stored.{originCode, literalsCell}
+use Rattle.entry.specs.Progress.{tablesWith}
+use Rattle.checker.specs.Contract.{workspaceWith, CheckedWith}
+use Rattle.answer.specs.declared.Answer as answer
+use Rattle.cover.specs.Comparing.{coveringGiven, numbersFrom, comparisonNumbers, comparisonFrom, comparison, verdictStands, isInput, AfterCheck, Compared}
+use Rattle.cover.specs.Contract.{CoversAnswered}
+use Rattle.cover.specs.Pairs.{Pairs, pairsMatched, tableFilled}
+use Rattle.cover.specs.Searching.{searched}
+use Rattle.cover.specs.declared.covering.Covering as given
+use Rattle.cover.proofs.Comparisons.{refused-covering, refused-nothing, left-nothing, right-nothing, few-left, few-right, compared}
+
+-- What the search has come to, in the tables that were filled before it.
+pub chosen-from : (N O : List ℕ) (c d kc kd : ℕ) (F W T X F′ W′ T′ : List ℕ) (b : Bool) (X′ : List ℕ) → record { found = F′; notes = W′ } ≡ pairsMatched N O c d kc kd 64 (record { found = F; notes = W }) → T′ ≡ tableFilled F′ W′ 4096 T
+    → (b, X′) ≡ searched T′ kd kc 0 X → (b, X′) ≡ comparisonFrom N O c d kc kd F W T X
+chosen-from N O c d kc kd F W T X F′ W′ T′ b X′ p t s =
+    s ∙ ap (λ (U : List ℕ). searched U kd kc 0 X) (t ∙ ap (λ (P : Pairs). tableFilled (P .found) (P .notes) 4096 T) p)
+
+pub chosen-numbers : (L : List ℕ) (b : Bool) (X : List ℕ) (R : Bool × List ℕ) → (b, X) ≡ R → b ≡ true → L ≡ 1 ∷ 0 ∷ 0 ∷ numbersFrom X 0 7 → L ≡ comparisonNumbers R
+chosen-numbers L b X R e t q = q ∙ ap (λ (z : Bool). comparisonNumbers (z, X)) (sym t) ∙ ap comparisonNumbers e
+
+pub no-numbers : (L : List ℕ) (b : Bool) (X : List ℕ) (R : Bool × List ℕ) → (b, X) ≡ R → b ≡ false → L ≡ 0 ∷ 0 ∷ 0 ∷ replicate 7 0 → L ≡ comparisonNumbers R
+no-numbers L b X R e t q = q ∙ ap (λ (z : Bool). comparisonNumbers (z, X)) (sym t) ∙ ap comparisonNumbers e
+
+pub own-tables : (L N O : List ℕ) (c d kc kd : ℕ) → L ≡ comparisonNumbers (comparisonFrom N O c d kc kd (replicate 64 0) (replicate 4096 0) (replicate 4096 0) (replicate 8 0)) → L ≡ comparisonNumbers (comparison N O c d kc kd)
+unfolding comparison
+own-tables L N O c d kc kd q = q
+
+-- A clause past the last, and one whose code is looked at.
+pub past-last : (O : List ℕ) (count c : ℕ) → count ≤ c → false ≡ isInput O count c
+past-last O count c q = try (ltb c count) refl
+  where
+    try : (b : Bool) → ltb c count ≡ b → false ≡ (b && eqb (originCode O c) 1)
+    try false e = refl
+    try true e = let l = ltb→lt c count (to-T (ltb c count) e) in absurd (omega arith)
+
+pub code-looked-at : (O : List ℕ) (count c code : ℕ) → c < count → code ≡ originCode O c → eqb code 1 ≡ isInput O count c
+code-looked-at O count c code q e = rw (from-T (ltb c count) (lt→ltb c count q), e) refl
+
+module _ (CL N O : List ℕ) (a : answer.Answer) (c d : ℕ) (b : Bool) (t : b ≡ verdictStands (a .verdict)) (s : b ≡ true) where
+  -- What comparing the literals asks.
+  pub choose-ready : AfterCheck CL N O a → (x : Bool) → x ≡ isInput O (a .clauses) c → x ≡ true → (y : Bool) → y ≡ isInput O (a .clauses) d → y ≡ true → (kc kd : ℕ) → kc ≡ literalsCell CL c → kd ≡ literalsCell CL d
+      → (length N ≡ 32768) × (length O ≡ 32768) × (kc ≤ 7) × (kd ≤ 7)
+  choose-ready R x p f y q g kc kd k l = (
+    R .checked .nodeRoom,
+    R .checked .originRoom,
+    subst (λ (n : ℕ). n ≤ 7) (sym k) (few-left CL N O a c d R (sym t ∙ s) (sym p ∙ f) (sym q ∙ g)),
+    subst (λ (n : ℕ). n ≤ 7) (sym l) (few-right CL N O a c d R (sym t ∙ s) (sym p ∙ f) (sym q ∙ g)),
+  )
+
+-- The ways of comparing.
+module _ (CL N O : List ℕ) (a : answer.Answer) (c d : ℕ) (r : given.Covering) where
+  pub not-standing : coveringGiven r ≡ 2 ∷ 15 ∷ 0 ∷ replicate 7 0 → (b : Bool) → b ≡ verdictStands (a .verdict) → b ≡ false → Compared CL N O a c d r
+  not-standing e b t f = record { covering = λ R. refused-covering (R .file) (R .before) c d r e (refused-nothing CL N O a c d R (sym t ∙ f)) }
+
+  module _ (b : Bool) (t : b ≡ verdictStands (a .verdict)) (s : b ≡ true) where
+    pub not-input-left : coveringGiven r ≡ 2 ∷ 15 ∷ 0 ∷ replicate 7 0 → (x : Bool) → x ≡ isInput O (a .clauses) c → x ≡ false → Compared CL N O a c d r
+    not-input-left e x p f = record { covering = λ R. refused-covering (R .file) (R .before) c d r e (left-nothing CL N O a c d R (sym t ∙ s) (sym p ∙ f)) }
+
+    pub not-input-right : coveringGiven r ≡ 2 ∷ 15 ∷ 0 ∷ replicate 7 0 → (x : Bool) → x ≡ isInput O (a .clauses) d → x ≡ false → Compared CL N O a c d r
+    not-input-right e x p f = record { covering = λ R. refused-covering (R .file) (R .before) c d r e (right-nothing CL N O a c d R (sym t ∙ s) (sym p ∙ f)) }
+
+    pub both-input : (x : Bool) → x ≡ isInput O (a .clauses) c → x ≡ true → (y : Bool) → y ≡ isInput O (a .clauses) d → y ≡ true → (kc kd : ℕ) → kc ≡ literalsCell CL c → kd ≡ literalsCell CL d
+        → coveringGiven r ≡ comparisonNumbers (comparison N O c d kc kd) → Compared CL N O a c d r
+    both-input x p f y q g kc kd k l e = record {
+      covering = λ R. compared CL N O a c d R (sym t ∙ s) (sym p ∙ f) (sym q ∙ g) r (rw (k, l) at e);
+    }
+
+-- What the check leaves is what comparing asks for.
+pub covers-answered : (F s₀ r₀ C₀ B₀ N₀ O₀ A₀ s₁ r₁ C₁ B₁ N₁ O₁ A₁ : List ℕ) (a : answer.Answer) (c d : ℕ) (r : given.Covering) → CheckedWith F (tablesWith s₀ r₀ C₀ B₀) (workspaceWith N₀ O₀ A₀) a (tablesWith s₁ r₁ C₁ B₁) (workspaceWith N₁ O₁ A₁)
+    → Compared C₁ N₁ O₁ a c d r → CoversAnswered F (tablesWith s₀ r₀ C₀ B₀) c d r (tablesWith s₁ r₁ C₁ B₁)
+covers-answered F s₀ r₀ C₀ B₀ N₀ O₀ A₀ s₁ r₁ C₁ B₁ N₁ O₁ A₁ a c d r K G =
+    let X = G .covering (record { file = F; before = tablesWith s₀ r₀ C₀ B₀; lent = workspaceWith N₀ O₀ A₀; symbols = s₁; rows = r₁; bindings = B₁; values = A₁; checked = K }) in
+    record {
+      answer = X .answer;
+      numbers = X .numbers;
+      answered = X .answered;
+      symbols = K .checked .symbols;
+      rows = K .checked .rows;
+      clauses = K .checked .clauses;
+      bindings = K .checked .bindings;
+    }

@@ -1,0 +1,290 @@
+-- The ways in which two clauses are compared after a check, and that each gives the answer that is due.
+use mathlib.Core.Path.{_≡_, refl, sym, ap, ap₂, _∙_, subst}
+use mathlib.Core.Logic.{_⊎_, inl, inr}
+use mathlib.Core.Bool.{Bool, true, false, _&&_}
+use mathlib.Core.Option.{Option, none, some}
+use mathlib.Core.List.{List, [], _∷_, _++_}
+use Prim.Native.Nat.{ℕ, zero, suc, _+_, _-_, _*_, _/_, _%_, _≤_, _<_}
+use native.Mathlib.Omega.{arith}
+use lib.Dec.{eqb, ltb, ltb→lt, lt→ltb}
+use lib.ListN.{length, getD, replicate, length-replicate, length-map}
+use Rattle.record.specs.Record.{recordCount}
+use Rattle.unification.specs.Nodes.{part, HasRow}
+use Rattle.unification.specs.Term.{Term}
+use Rattle.unification.proofs.Tests.{to-T, from-T, both-true, true-not-false, some-injective}
+use Rattle.derivation.specs.Derivation.{input, RowLiteral, Derivation}
+use Rattle.derivation.specs.Ground.{Assignment}
+use Rattle.derivation.specs.Stored.{originCode, literalsCell}
+use Rattle.verdict.specs.Repeats.{termByNumbers}
+use Rattle.verdict.specs.Conditions.{TableShort}
+use Rattle.verdict.specs.Refusal.{Reason, reasonNumber}
+use Rattle.verdict.specs.State.{State, rowsOf, derivations, clauseOf, entry}
+use Rattle.verdict.specs.Step.{allStand, stateOf}
+use Rattle.verdict.specs.Tables.{Tables, lengthsOf, tablesAfter}
+use Rattle.verdict.specs.Verdict.{Verdict, accepted, open′, refusal, verdictNumbers, answerNumbers, check, Answer as Checked, Lengths, longEnough, fittingLength, ending, Stands, reading, standing, firstEmpty, everyClause, stateGiven, verdictOf}
+use Rattle.verdict.proofs.Demanded.{not-refused, stands-check, tables-fail, long-enough}
+use Rattle.verdict.proofs.Inversions.{entry-some}
+use Rattle.verdict.proofs.Reading.{ending-stands, reading-records}
+use Rattle.answer.specs.Given.{verdictGiven, answerGiven}
+use Rattle.answer.specs.declared.Answer as answer
+use Rattle.answer.specs.declared.Verdict as verdict
+use Rattle.answer.specs.declared.Verdict.the-variants as verdicts
+use Rattle.answer.proofs.GivenNumbers.{stateLeft, verdict-given, clauses-given}
+use Rattle.entry.specs.Progress.{Kept, ReadTo, tablesWith}
+use Rattle.checker.specs.Contract.{workspaceWith, CheckedWith}
+use Rattle.cover.specs.Answering.{Answer, covers, coversNot, refusedWith, tenNumbers, Comparable, termIn, Answered}
+use Rattle.cover.specs.Comparing.{outcomeNumbers, coveringGiven, numbersFrom, comparisonNumbers, comparisonFrom, comparison, verdictStands, isInput, AfterCheck, CoveringOf, Compared}
+use Rattle.cover.specs.Covering.{Substitution, Works, AllInstancesTrue, NotAfter}
+use Rattle.cover.specs.Pairs.{Pairs, pairsMatched, tableFilled}
+use Rattle.cover.specs.Searching.{searched}
+use Rattle.cover.specs.declared.covering.Covering as given
+use Rattle.cover.proofs.Choices.{numbers-length, LiteralsAs, table-cell, Decided, decided}
+use Rattle.cover.proofs.Earliest.{Came, search-came}
+use Rattle.cover.proofs.PairLaws.{together, equal-test, AllCame, pairs-came}
+use Rattle.cover.proofs.Solutions.{TermsOf}
+use Rattle.cover.proofs.StateTerms.{terms-of, InputHere, input-here, input-found}
+use Rattle.cover.proofs.Taking.{equal-to}
+use Rattle.cover.proofs.Truth.{covered-true}
+
+zeros-at : (n i : ℕ) → _≡_ {A = ℕ} (getD (replicate n 0) i 0) 0
+zeros-at zero i = refl
+zeros-at (suc n) zero = refl
+zeros-at (suc n) (suc i) = zeros-at n i
+
+-- ── The seven numbers ──
+
+zeros-from : (X : List ℕ) (i m : ℕ) → ((j : ℕ) → i ≤ j → getD X j 0 ≡ 0) → numbersFrom X i m ≡ replicate m 0
+zeros-from X i zero h = refl
+zeros-from X i (suc m) h = ap₂ (λ (x : ℕ) (xs : List ℕ). x ∷ xs) (h i (omega arith)) (zeros-from X (suc i) m (λ j l. h j (omega arith)))
+
+-- Numbers up to k, and zeros after them.
+numbers-padded : (X : List ℕ) (i k m : ℕ) → ((j : ℕ) → i + k ≤ j → getD X j 0 ≡ 0) → numbersFrom X i (k + m) ≡ numbersFrom X i k ++ replicate m 0
+numbers-padded X i zero m h = let z : 0 + m ≡ m = omega arith in ap (numbersFrom X i) z ∙ zeros-from X i m (λ j l. h j (omega arith))
+numbers-padded X i (suc k) m h = let z : suc k + m ≡ suc (k + m) = omega arith in ap (numbersFrom X i) z ∙ ap (λ (xs : List ℕ). getD X i 0 ∷ xs) (numbers-padded X (suc i) k m (λ j l. h j (omega arith)))
+
+-- The answer that the search has come to.
+abbrev pub answerFrom : ℕ → Bool × List ℕ → Answer
+answerFrom k (true, X) = covers (numbersFrom X 0 k)
+answerFrom k (false, X) = coversNot
+
+pub numbers-of : (k : ℕ) → k ≤ 7 → (R : Bool × List ℕ) → ((j : ℕ) → k ≤ j → getD (R .1) j 0 ≡ 0) → comparisonNumbers R ≡ tenNumbers (answerFrom k R)
+numbers-of k l (true, X) h =
+    let e : 7 ≡ k + (7 - k) = omega arith in
+    ap (λ (xs : List ℕ). 1 ∷ 0 ∷ 0 ∷ xs)
+    (ap (numbersFrom X 0) e ∙ numbers-padded X 0 k (7 - k) (λ j b. h j (omega arith)) ∙ ap (λ (m : ℕ). numbersFrom X 0 k ++ replicate (7 - m) 0) (sym (numbers-length X 0 k)))
+numbers-of k l (false, X) h = refl
+
+-- ── Two clauses with their literals ──
+
+module _ (N O : List ℕ) (term : ℕ → Term ℕ) (H : TermsOf N term) (c d kc kd : ℕ) (rowsLeft : (i : ℕ) → i < kc → HasRow N (part O c i / 2)) (rowsRight : (i : ℕ) → i < kd → HasRow N (part O d i / 2))
+    (fewC : kc ≤ 7) (fewD : kd ≤ 7) (C D : List RowLiteral) (isC : LiteralsAs (part O c) kc C) (isD : LiteralsAs (part O d) kd D) where
+  -- What a comparison decides.
+  pub record Settled (R : Bool × List ℕ) : Type 0 where
+    pub works : R .0 ≡ true → (σ : Substitution) × Works term σ C D (numbersFrom (R .1) 0 kc)
+    pub least : R .0 ≡ true → (τ : Substitution) (ms : List ℕ) → Works term τ C D ms → NotAfter (numbersFrom (R .1) 0 kc) ms
+    pub none : R .0 ≡ false → (τ : Substitution) (ms : List ℕ) → Works term τ C D ms → ⊥
+    pub past : (j : ℕ) → kc ≤ j → getD (R .1) j 0 ≡ 0
+
+  none-yet : (F W : List ℕ) → length F ≡ 64 → length W ≡ 4096 → ((z : ℕ) → getD W z 0 ≡ 0) → AllCame N O term H c d kc kd rowsLeft rowsRight 0 (record { found = F; notes = W })
+  none-yet F W l m h = record {
+    foundLong = l;
+    notesLong = m;
+    there = λ z w e. let q : _≡_ {A = ℕ} 0 (suc w) = sym (h z) ∙ e in absurd (omega arith);
+    clear = λ z b. h z;
+    came = λ p b k. absurd (omega arith);
+  }
+
+  settled-from : (F W T X : List ℕ) → length F ≡ 64 → length W ≡ 4096 → ((z : ℕ) → getD W z 0 ≡ 0) → length T ≡ 4096 → length X ≡ 8 → ((z : ℕ) → getD X z 0 ≡ 0) → Settled (comparisonFrom N O c d kc kd F W T X)
+  settled-from F W T X l m h t x z = with-pairs (pairsMatched N O c d kc kd 64 (record { found = F; notes = W })) (pairs-came N O term H c d kc kd rowsLeft rowsRight 64 (omega arith) (record { found = F; notes = W }) (none-yet F W l m h))
+    where
+      with-pairs : (P : Pairs) → AllCame N O term H c d kc kd rowsLeft rowsRight 64 P → Settled (searched (tableFilled (P .found) (P .notes) 4096 T) kd kc 0 X)
+      with-pairs P A =
+          let G = decided N O term H c d kc kd rowsLeft rowsRight fewC fewD P A (tableFilled (P .found) (P .notes) 4096 T) (λ y b. table-cell (P .found) (P .notes) 4096 T (omega arith) y b) C D isC isD X (omega arith) in
+          record {
+            works = G .works;
+            least = G .least;
+            none = G .none;
+            past = λ j b. sym (search-came (tableFilled (P .found) (P .notes) 4096 T) kd kc 0 X (omega arith) .past j (omega arith)) ∙ z j;
+          }
+
+  pub settled : Settled (comparison N O c d kc kd)
+  unfolding comparison
+  settled = settled-from (replicate 64 0) (replicate 4096 0) (replicate 4096 0) (replicate 8 0) (length-replicate {A = ℕ} 64 0) (length-replicate {A = ℕ} 4096 0) (zeros-at 4096) (length-replicate {A = ℕ} 4096 0) (length-replicate {A = ℕ} 8 0) (zeros-at 8)
+
+-- ── After a check ──
+
+-- The verdict of a file that is not refused, and of one that is.
+stands-not-refused : (v : verdict.Verdict) (w : Verdict) → verdictGiven v ≡ verdictNumbers w → verdictStands v ≡ true → (q : Reason) (k : ℕ) → ¬ (w ≡ refusal q k)
+stands-not-refused verdicts.Open w e t q k f = let z : _≡_ {A = ℕ} 0 2 = ap (λ (l : List ℕ). getD l 0 0) (e ∙ ap verdictNumbers f) in omega arith
+stands-not-refused (verdicts.Accepted n) w e t q k f = let z : _≡_ {A = ℕ} 1 2 = ap (λ (l : List ℕ). getD l 0 0) (e ∙ ap verdictNumbers f) in omega arith
+stands-not-refused (verdicts.Refused r j) w e t q k f = true-not-false t refl
+
+refused-not-standing : (v : verdict.Verdict) (o : Option ℕ) → verdictGiven v ≡ verdictNumbers (standing o) → verdictStands v ≡ false → ⊥
+refused-not-standing verdicts.Open o e t = true-not-false refl t
+refused-not-standing (verdicts.Accepted n) o e t = true-not-false refl t
+refused-not-standing (verdicts.Refused r j) none e t = let z : _≡_ {A = ℕ} 2 0 = ap (λ (l : List ℕ). getD l 0 0) e in omega arith
+refused-not-standing (verdicts.Refused r j) (some n) e t = let z : _≡_ {A = ℕ} 2 1 = ap (λ (l : List ℕ). getD l 0 0) e in omega arith
+
+-- Nothing to compare: the answer is the refusal.
+nothing-due : (file : List ℕ) (before : Tables) (c d : ℕ) → ((S : State) (C D : List RowLiteral) → ¬ Comparable file before c d S C D) → Answered file before c d (refusedWith 15 0)
+nothing-due file before c d h = record {
+  refusedIf = λ k. refl;
+  refusedOnly = λ n k e. h;
+  yesIf = λ S C D K. absurd (h S C D K);
+  yesOnly = λ S C D K. absurd (h S C D K);
+  earliest = λ S C D K. absurd (h S C D K);
+  noIf = λ S C D K. absurd (h S C D K);
+  noOnly = λ S C D K. absurd (h S C D K);
+  truth = λ S C D K. absurd (h S C D K);
+}
+
+pub refused-covering : (file : List ℕ) (before : Tables) (c d : ℕ) (r : given.Covering) → coveringGiven r ≡ 2 ∷ 15 ∷ 0 ∷ replicate 7 0 → ((S : State) (C D : List RowLiteral) → ¬ Comparable file before c d S C D) → CoveringOf file before c d r
+refused-covering file before c d r e h = record { answer = refusedWith 15 0; numbers = e; answered = nothing-due file before c d h }
+
+input-parts : {i j : ℕ} {ls ms : List RowLiteral} → _≡_ {A = Option Derivation} (some (input i ls)) (some (input j ms)) → ls ≡ ms
+input-parts e = cc
+
+covers-parts : {ns ms : List ℕ} → covers ns ≡ covers ms → ns ≡ ms
+covers-parts e = cc
+
+not-covers : {ns : List ℕ} → coversNot ≡ covers ns → ⊥
+not-covers e = let z : _≡_ {A = ℕ} 0 1 = cc in omega arith
+
+not-refused-yes : {ns : List ℕ} {n k : ℕ} → covers ns ≡ refusedWith n k → ⊥
+not-refused-yes e = let z : _≡_ {A = ℕ} 0 1 = cc in omega arith
+
+not-refused-no : {n k : ℕ} → coversNot ≡ refusedWith n k → ⊥
+not-refused-no e = let z : _≡_ {A = ℕ} 0 1 = cc in omega arith
+
+-- What is due of one comparison is due of the file: there is one state and one list of literals for each clause.
+module _ (file : List ℕ) (before : Tables) (c d : ℕ) (S : State) (C D : List RowLiteral) (K : Comparable file before c d S C D) where
+  one-state : (T : State) → Stands file T → T ≡ S
+  one-state T st = ending-stands (sym (st .reads) ∙ K .stands .reads)
+
+  one-left : (T : State) (E G : List RowLiteral) → Comparable file before c d T E G → E ≡ C
+  one-left T E G L = input-parts (sym (L .isLeft) ∙ ap (λ (U : State). clauseOf U c) (one-state T (L .stands)) ∙ K .isLeft)
+
+  one-right : (T : State) (E G : List RowLiteral) → Comparable file before c d T E G → G ≡ D
+  one-right T E G L = input-parts (sym (L .isRight) ∙ ap (λ (U : State). clauseOf U d) (one-state T (L .stands)) ∙ K .isRight)
+
+  -- Works in one comparison, works in the other.
+  carried : (T : State) (E G : List RowLiteral) → Comparable file before c d T E G → (σ : Substitution) (ns : List ℕ) → Works (termIn T) σ E G ns → Works (termIn S) σ C D ns
+  carried T E G L σ ns h =
+      subst (λ (X : List RowLiteral). Works (termIn S) σ C X ns) (one-right T E G L)
+      (subst (λ (X : List RowLiteral). Works (termIn S) σ X G ns) (one-left T E G L)
+      (subst (λ (U : State). Works (termIn U) σ E G ns) (one-state T (L .stands)) h))
+
+  back : (T : State) (E G : List RowLiteral) → Comparable file before c d T E G → (σ : Substitution) (ns : List ℕ) → Works (termIn S) σ C D ns → Works (termIn T) σ E G ns
+  back T E G L σ ns h =
+      subst (λ (U : State). Works (termIn U) σ E G ns) (sym (one-state T (L .stands)))
+      (subst (λ (X : List RowLiteral). Works (termIn S) σ X G ns) (sym (one-left T E G L))
+      (subst (λ (X : List RowLiteral). Works (termIn S) σ C X ns) (sym (one-right T E G L)) h))
+
+  yes-due : (ns : List ℕ) → (σ : Substitution) × Works (termIn S) σ C D ns → ((τ : Substitution) (ms : List ℕ) → Works (termIn S) τ C D ms → NotAfter ns ms) → Answered file before c d (covers ns)
+  yes-due ns w least = record {
+    refusedIf = λ h. absurd (h S C D K);
+    refusedOnly = λ n k e. absurd (not-refused-yes e);
+    yesIf = λ T E G L σ ms h. (ns, refl);
+    yesOnly = λ T E G L ms e. (w .0, back T E G L (w .0) ms (subst (Works (termIn S) (w .0) C D) (covers-parts e) (w .1)));
+    earliest = λ T E G L ms e σ ks h. subst (λ (xs : List ℕ). NotAfter xs ks) (covers-parts e) (least σ ks (carried T E G L σ ks h));
+    noIf = λ T E G L h. absurd (h (w .0) ns (back T E G L (w .0) ns (w .1)));
+    noOnly = λ T E G L e. absurd (not-covers (sym e));
+    truth = λ T E G L ms e A all. covered-true (termIn T) A (w .0) E G ns (back T E G L (w .0) ns (w .1)) all;
+  }
+
+  no-due : ((τ : Substitution) (ms : List ℕ) → Works (termIn S) τ C D ms → ⊥) → Answered file before c d coversNot
+  no-due dead = record {
+    refusedIf = λ h. absurd (h S C D K);
+    refusedOnly = λ n k e. absurd (not-refused-no e);
+    yesIf = λ T E G L σ ms h. absurd (dead σ ms (carried T E G L σ ms h));
+    yesOnly = λ T E G L ms e. absurd (not-covers e);
+    earliest = λ T E G L ms e. absurd (not-covers e);
+    noIf = λ T E G L h. refl;
+    noOnly = λ T E G L e σ ms h. dead σ ms (carried T E G L σ ms h);
+    truth = λ T E G L ms e. absurd (not-covers e);
+  }
+
+-- ── The ways of the program ──
+
+module _ (CL N O : List ℕ) (a : answer.Answer) (c d : ℕ) (R : AfterCheck CL N O a) where
+  given-verdict : verdictGiven (a .verdict) ≡ verdictNumbers (check (R .file) (lengthsOf (R .before)) .verdict)
+  given-verdict = verdict-given (R .file) (lengthsOf (R .before)) a (R .checked .checked .answer)
+
+  -- The file does not stand.
+  pub refused-nothing : verdictStands (a .verdict) ≡ false → (S : State) (C D : List RowLiteral) → ¬ Comparable (R .file) (R .before) c d S C D
+  refused-nothing f S C D K =
+      refused-not-standing (a .verdict) (firstEmpty everyClause (derivations S)) (given-verdict ∙ ap (λ (x : Checked). verdictNumbers (x .verdict)) (stands-check (R .file) (R .before) S (K .stands) (long-enough (R .file) (R .before) (K .tablesLong)))) f
+
+  module _ (t : verdictStands (a .verdict) ≡ true) where
+    stood : (longEnough (lengthsOf (R .before)) ≡ true) × ((S : State) × Stands (R .file) S)
+    stood = not-refused (R .file) (R .before) (stands-not-refused (a .verdict) (check (R .file) (lengthsOf (R .before)) .verdict) given-verdict t)
+
+    abbrev left : State
+    left = stateOf (ending (R .file))
+
+    kept : ReadTo (R .file) (R .before) left (tablesWith (R .symbols) (R .rows) CL (R .bindings)) N O (R .values)
+    kept = R .checked .read (stood .1 .1 .fits) (stood .0)
+
+    is-left : stood .1 .0 ≡ left
+    is-left = sym (ap stateOf (stood .1 .1 .reads))
+
+    stands-left : Stands (R .file) left
+    stands-left = subst (Stands (R .file)) is-left (stood .1 .1)
+
+    count-left : a .clauses ≡ length (left .clauses)
+    count-left =
+        clauses-given (R .file) (lengthsOf (R .before)) a (R .checked .checked .answer)
+        ∙ ap (λ (x : State). length (x .clauses)) (ap stateGiven (reading-records (R .file) (lengthsOf (R .before)) (stood .1 .1 .fits) (stood .0)))
+
+    -- A clause that passes the test is an input clause, and conversely.
+    passed : (e : ℕ) → isInput O (a .clauses) e ≡ true → InputHere (kept .kept) (kept .few) e
+    passed e q =
+        let b = both-true (ltb e (a .clauses)) (eqb (originCode O e) 1) q in
+        let l = ltb→lt e (a .clauses) (to-T (ltb e (a .clauses)) (b .0)) in
+        let w = entry-some (derivations left) e (omega (arith, l, count-left, length-map (left .clauses) (λ (x : ℕ × Derivation). x .1))) in
+        input-here (kept .kept) (kept .few) e (w .0) (w .1) (equal-to (originCode O e) 1 (b .1))
+
+    passes : (e : ℕ) (ls : List RowLiteral) → clauseOf left e ≡ some (input e ls) → isInput O (a .clauses) e ≡ true
+    passes e ls q =
+        let w = input-found (kept .kept) (kept .few) e e ls q in
+        let l = w .0 in
+        together (ltb e (a .clauses)) (eqb (originCode O e) 1) (from-T (ltb e (a .clauses)) (lt→ltb e (a .clauses) (omega (arith, l, count-left)))) (equal-test (originCode O e) 1 (w .1))
+
+    -- A clause is not an input clause.
+    pub left-nothing : isInput O (a .clauses) c ≡ false → (S : State) (C D : List RowLiteral) → ¬ Comparable (R .file) (R .before) c d S C D
+    left-nothing f S C D K = true-not-false (passes c C (ap (λ (U : State). clauseOf U c) (ending-stands (sym (stands-left .reads) ∙ K .stands .reads)) ∙ K .isLeft)) f
+
+    pub right-nothing : isInput O (a .clauses) d ≡ false → (S : State) (C D : List RowLiteral) → ¬ Comparable (R .file) (R .before) c d S C D
+    right-nothing f S C D K = true-not-false (passes d D (ap (λ (U : State). clauseOf U d) (ending-stands (sym (stands-left .reads) ∙ K .stands .reads)) ∙ K .isRight)) f
+
+    -- Both are: what the search has come to is the answer.
+    module _ (p : isInput O (a .clauses) c ≡ true) (q : isInput O (a .clauses) d ≡ true) where
+      pub few-left : literalsCell CL c ≤ 7
+      few-left = passed c p .atMostSeven
+
+      pub few-right : literalsCell CL d ≤ 7
+      few-right = passed d q .atMostSeven
+
+      comparable : Comparable (R .file) (R .before) c d left (passed c p .literalsHere) (passed d q .literalsHere)
+      comparable = record { stands = stands-left; tablesLong = λ s. true-not-false (stood .0) (tables-fail (R .file) (R .before) s); isLeft = passed c p .isInput; isRight = passed d q .isInput }
+
+      all-settled : Settled N O (termIn left) (terms-of (kept .kept) (kept .few)) c d (literalsCell CL c) (literalsCell CL d) (passed c p .rows) (passed d q .rows) few-left few-right (passed c p .literalsHere) (passed d q .literalsHere) (passed c p .numbers) (passed d q .numbers)
+          (comparison N O c d (literalsCell CL c) (literalsCell CL d))
+      all-settled = settled N O (termIn left) (terms-of (kept .kept) (kept .few)) c d (literalsCell CL c) (literalsCell CL d) (passed c p .rows) (passed d q .rows) few-left few-right (passed c p .literalsHere) (passed d q .literalsHere) (passed c p .numbers) (passed d q .numbers)
+
+      pub compared : (r : given.Covering) → coveringGiven r ≡ comparisonNumbers (comparison N O c d (literalsCell CL c) (literalsCell CL d)) → CoveringOf (R .file) (R .before) c d r
+      compared r e = from (comparison N O c d (literalsCell CL c) (literalsCell CL d)) e all-settled
+        where
+          from : (X : Bool × List ℕ) → coveringGiven r ≡ comparisonNumbers X
+              → Settled N O (termIn left) (terms-of (kept .kept) (kept .few)) c d (literalsCell CL c) (literalsCell CL d) (passed c p .rows) (passed d q .rows) few-left few-right (passed c p .literalsHere) (passed d q .literalsHere) (passed c p .numbers) (passed d q .numbers) X
+              → CoveringOf (R .file) (R .before) c d r
+          from (true, X) f G = record {
+            answer = covers (numbersFrom X 0 (literalsCell CL c));
+            numbers = f ∙ numbers-of (literalsCell CL c) few-left (true, X) (G .past);
+            answered = yes-due (R .file) (R .before) c d left (passed c p .literalsHere) (passed d q .literalsHere) comparable (numbersFrom X 0 (literalsCell CL c)) (G .works refl) (G .least refl);
+          }
+          from (false, X) f G = record {
+            answer = coversNot;
+            numbers = f;
+            answered = no-due (R .file) (R .before) c d left (passed c p .literalsHere) (passed d q .literalsHere) comparable (G .none refl);
+          }

@@ -1,0 +1,79 @@
+-- How the program compares two clauses after a check: the contracts of its inner functions. Which ten numbers an answer of the program stands for is here
+-- too.
+use mathlib.Core.Path.{_≡_}
+use mathlib.Core.Bool.{Bool, true, false, _&&_}
+use mathlib.Core.List.{List, [], _∷_, _++_}
+use Prim.Native.Nat.{ℕ, zero, suc}
+use lib.Dec.{eqb, ltb}
+use lib.ListN.{getD, replicate}
+use Rattle.derivation.specs.Stored.{originCode}
+use Rattle.verdict.specs.Tables.{Tables}
+use Rattle.entry.specs.Progress.{tablesWith}
+use Rattle.checker.specs.Contract.{Workspace, workspaceWith, CheckedWith}
+use Rattle.answer.specs.declared.Answer as answer
+use Rattle.answer.specs.declared.Verdict as verdict
+use Rattle.answer.specs.declared.Verdict.the-variants as verdicts
+use Rattle.cover.specs.Answering.{Answer, tenNumbers, Answered}
+use Rattle.cover.specs.Pairs.{Pairs, pairsMatched, tableFilled}
+use Rattle.cover.specs.Searching.{searched}
+use Rattle.cover.specs.declared.covering.Covering.{Covering}
+use Rattle.cover.specs.declared.covering.Outcome.{Outcome}
+use Rattle.cover.specs.declared.covering.Outcome.the-variants.{Yes, No, Refused}
+
+-- The ten numbers of an answer, as the program gives it.
+abbrev pub outcomeNumbers : Outcome → List ℕ
+outcomeNumbers Yes = 1 ∷ 0 ∷ 0 ∷ []
+outcomeNumbers No = 0 ∷ 0 ∷ 0 ∷ []
+outcomeNumbers (Refused number k) = 2 ∷ number ∷ k ∷ []
+
+abbrev pub coveringGiven : Covering → List ℕ
+coveringGiven r =
+    outcomeNumbers (r .outcome) ++ (r .first ∷ r .second ∷ r .third ∷ r .fourth ∷ r .fifth ∷ r .sixth ∷ r .seventh ∷ [])
+
+-- k numbers of a list, from i on.
+abbrev pub numbersFrom : List ℕ → ℕ → ℕ → List ℕ
+numbersFrom X i zero = []
+numbersFrom X i (suc k) = getD X i 0 ∷ numbersFrom X (suc i) k
+
+-- What the search has come to, in numbers.
+abbrev pub comparisonNumbers : Bool × List ℕ → List ℕ
+comparisonNumbers (true, X) = 1 ∷ 0 ∷ 0 ∷ numbersFrom X 0 7
+comparisonNumbers (false, X) = 0 ∷ 0 ∷ 0 ∷ replicate 7 0
+
+-- The pairs matched, the table filled and searched, begun on tables that are lent; and on clear ones.
+abbrev pub comparisonFrom : List ℕ → List ℕ → ℕ → ℕ → ℕ → ℕ → List ℕ → List ℕ → List ℕ → List ℕ → Bool × List ℕ
+comparisonFrom N O c d kc kd F W T X =
+    let P = pairsMatched N O c d kc kd 64 (record { found = F; notes = W }) in
+    searched (tableFilled (P .found) (P .notes) 4096 T) kd kc 0 X
+
+unfoldable pub comparison : List ℕ → List ℕ → ℕ → ℕ → ℕ → ℕ → Bool × List ℕ
+comparison N O c d kc kd = comparisonFrom N O c d kc kd (replicate 64 0) (replicate 4096 0) (replicate 4096 0) (replicate 8 0)
+
+-- The tests before it.
+abbrev pub verdictStands : verdict.Verdict → Bool
+verdictStands verdicts.Open = true
+verdictStands (verdicts.Accepted n) = true
+verdictStands (verdicts.Refused number k) = false
+
+abbrev pub isInput : List ℕ → ℕ → ℕ → Bool
+isInput O count c = ltb c count && eqb (originCode O c) 1
+
+-- What is there after a check of some file: its answer, for some tables before it, with the workspace that it left.
+pub record AfterCheck (C N O : List ℕ) (a : answer.Answer) : Type 0 where
+  pub file : List ℕ
+  pub before : Tables
+  pub lent : Workspace
+  pub symbols : List ℕ
+  pub rows : List ℕ
+  pub bindings : List ℕ
+  pub values : List ℕ
+  pub checked : CheckedWith file before lent a (tablesWith symbols rows C bindings) (workspaceWith N O values)
+
+-- What comparing says, whichever file was checked and whichever tables there were before.
+pub record CoveringOf (file : List ℕ) (before : Tables) (c d : ℕ) (r : Covering) : Type 0 where
+  pub answer : Answer
+  pub numbers : coveringGiven r ≡ tenNumbers answer
+  pub answered : Answered file before c d answer
+
+pub record Compared (C N O : List ℕ) (a : answer.Answer) (c d : ℕ) (r : Covering) : Type 0 where
+  pub covering : (R : AfterCheck C N O a) → CoveringOf (R .file) (R .before) c d r

@@ -1,0 +1,19 @@
+-- The contract of `covers`: what it promises of every file, every four tables and every two clause numbers, with no condition on the call.
+use mathlib.Core.Path.{_≡_}
+use mathlib.Core.List.{List}
+use Prim.Native.Nat.{ℕ}
+use Rattle.verdict.specs.Tables.{Tables, tablesAfter}
+use Rattle.cover.specs.Answering.{Answer, tenNumbers, Answered}
+use Rattle.cover.specs.Comparing.{coveringGiven}
+use Rattle.cover.specs.declared.covering.Covering.{Covering}
+
+pub record CoversAnswered (file : List ℕ) (before : Tables) (c d : ℕ) (r : Covering) (after : Tables) : Type 0 where
+  -- The answer, by its ten numbers, and what is promised of it.
+  pub answer : Answer
+  pub numbers : coveringGiven r ≡ tenNumbers answer
+  pub answered : Answered file before c d answer
+  -- Each table, cell by cell, as the check leaves it.
+  pub symbols : after .symbols ≡ tablesAfter file before .symbols
+  pub rows : after .rows ≡ tablesAfter file before .rows
+  pub clauses : after .clauses ≡ tablesAfter file before .clauses
+  pub bindings : after .bindings ≡ tablesAfter file before .bindings
