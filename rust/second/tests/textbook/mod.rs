@@ -101,7 +101,7 @@ pub fn canonical(clause: &Clause) -> Clause {
 }
 
 /// The variables of a term as met.
-fn variables(term: &Term, into: &mut Vec<usize>) {
+pub fn variables(term: &Term, into: &mut Vec<usize>) {
     match term {
         Term::Variable(variable) => into.push(*variable),
         Term::Apply(_, arguments) => arguments.iter().for_each(|argument| variables(argument, into)),
