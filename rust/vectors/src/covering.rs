@@ -18,8 +18,8 @@ const ENOUGH: u16 = 2500;
 /// Variable numbers in use.
 const VARIABLES: usize = 6;
 
-/// The file of a seed: of some dozens of records, or with deep terms of up to some thousands. Few files have a derived clause
-/// at their end, and few a record that is refused.
+/// The file of a seed: of some dozens of records, or with deep terms of up to some thousands. Few files have a derived
+/// clause at their end, and few a record that is refused.
 pub fn covering_file(seed: u64) -> Vec<u8> {
     let mut clauses = Clauses::new(seed);
     clauses.terms();
@@ -178,8 +178,8 @@ impl Clauses {
         self.file.fields(kind::APPLICATION, arguments.len() as u8, &given)
     }
 
-    /// A clause made of an earlier one: its variables replaced, literals added, doubled, left out or spoiled, and their order
-    /// altered.
+    /// A clause made of an earlier one: its variables replaced, literals added, doubled, left out or spoiled, and their
+    /// order altered.
     fn related(&mut self) {
         let which = self.random.below(self.clauses.len());
         let renaming = self.random.one_in(4);
@@ -210,8 +210,8 @@ impl Clauses {
         }
     }
 
-    /// One alteration of a clause: mostly a literal more, at times one less, one again, one of another sign, or one with another
-    /// argument.
+    /// One alteration of a clause: mostly a literal more, at times one less, one again, one of another sign, or one with
+    /// another argument.
     fn alter(&mut self, literals: &mut Literals) {
         let place = self.random.below(literals.len());
         match self.random.below(8) {
