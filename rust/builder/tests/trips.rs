@@ -5,6 +5,8 @@ mod pages;
 use pages::{cells, hexadecimal, indented, section, stored, text};
 use yestrwyn_types::record::{kind, read};
 
+#[path = "../examples/trips/covers.rs"]
+mod covers;
 #[path = "../examples/trips/curfew.rs"]
 mod curfew;
 #[path = "../examples/trips/duty.rs"]
@@ -41,7 +43,7 @@ fn verdicts() {
         .collect();
     assert_eq!(
         lines,
-        ["accepted 11", "accepted 15", "accepted 9", "accepted 3", "refused 8 at 22", "accepted 4"]
+        ["accepted 11", "accepted 15", "accepted 9", "accepted 3", "open", "refused 8 at 22", "accepted 4"]
     );
 }
 
@@ -86,6 +88,26 @@ fn sheets_cannot_do_without_a_factor_or_several_literals() {
     let counts =
         [kind::INPUT, kind::RESOLVE, kind::FACTOR, kind::RESOLVE_SEVERAL].map(|kind| of_kind(kind).count());
     assert_eq!(counts, [2, 0, 0, 2]);
+}
+
+#[test]
+fn the_page_says_which_rule_covers_which() {
+    let file = covers::file().expect("the file is built");
+    // Every two of the three rules, and a clause that is not there.
+    let pairs = (0..3).flat_map(|c| (0..3).map(move |d| (c, d))).chain([(0, 3)]);
+    let asked: Vec<(String, String)> = pairs
+        .map(|(c, d)| {
+            let numbers = yestrwyn_second::covers(&file, c, d).numbers().map(|number| number.to_string());
+            (format!("clauses {c} and {d}"), format!("`{}`", numbers.join(" ")))
+        })
+        .collect();
+    let page = text("examples/README.md");
+    let told = cells(section(&page, "covers")).filter(|row| row.0.starts_with("clauses "));
+    assert_eq!(told.map(|(two, numbers)| (two.into(), numbers.into())).collect::<Vec<_>>(), asked);
+    // Of two different rules only the general curfew covers another.
+    let yes = asked.iter().filter(|(_, numbers)| numbers.starts_with("`1 ")).map(|(two, _)| two.as_str());
+    let covering = ["clauses 0 and 0", "clauses 0 and 1", "clauses 1 and 1", "clauses 2 and 2"];
+    assert_eq!(yes.collect::<Vec<_>>(), covering);
 }
 
 #[test]

@@ -14,7 +14,7 @@ mod check;
 mod service;
 
 /// The stored examples.
-const EXAMPLES: [&str; 6] = ["curfew", "duty", "permit", "refused", "sheets", "two_steps"];
+const EXAMPLES: [&str; 7] = ["covers", "curfew", "duty", "permit", "refused", "sheets", "two_steps"];
 
 /// A path from the root of the repository.
 fn path(from_root: &str) -> PathBuf {

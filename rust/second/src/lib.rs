@@ -2,14 +2,16 @@
 //!
 //! A file holds symbols, rows (shared terms), input clauses, and resolution and factoring steps.
 //! [`check()`] answers whether every record stands and whether some clause is empty, and fills four
-//! tables; [`readout()`] writes every clause in plain symbols. Derived clauses are never written
-//! out: a clause is its parents and the bindings that its own unification added.
+//! tables; [`readout()`] writes every clause in plain symbols; [`covers()`] answers whether one input
+//! clause covers another. Derived clauses are never written out: a clause is its parents and the
+//! bindings that its own unification added.
 
 #![forbid(unsafe_code)]
 
 pub mod check;
 pub mod checker;
 pub mod clause;
+pub mod cover;
 pub mod earliest;
 pub mod environment;
 pub mod expression;
@@ -19,4 +21,5 @@ pub mod readout;
 pub mod unify;
 
 pub use check::{check, check_counting, check_into, StepWork};
+pub use cover::{covers, covers_into};
 pub use readout::{readout, readout_into, write_readout};

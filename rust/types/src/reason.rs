@@ -1,9 +1,9 @@
-//! Why a file is refused.
+//! Why a file or a question about it is refused.
 
 use std::error::Error;
 use std::fmt;
 
-/// Why a file is refused. The format may get further numbers, so a match needs a last arm; treat what
+/// Why a file or a question about it is refused. The format may get further numbers, so a match needs a last arm; treat what
 /// it catches as a refusal too.
 #[non_exhaustive]
 #[derive(Clone, Copy, PartialEq, Eq, Hash, Debug)]
@@ -37,12 +37,15 @@ pub enum Reason {
     Bindings,
     /// The right literals of a step do not strictly rise. This comes after 5 and before 8.
     Order,
+    /// Two clauses are not compared: the file does not stand, or one of them is not an input clause of it. No check gives
+    /// this, only the question whether one clause covers another.
+    NoComparison,
     /// A number that this version does not know: a refusal all the same.
     Other(u16),
 }
 
 /// The reasons that have a name, from number 1 on.
-const NAMED: [Reason; 14] = [
+const NAMED: [Reason; 15] = [
     Reason::Length,
     Reason::Table,
     Reason::Kind,
@@ -57,6 +60,7 @@ const NAMED: [Reason; 14] = [
     Reason::Work,
     Reason::Bindings,
     Reason::Order,
+    Reason::NoComparison,
 ];
 
 impl Reason {
@@ -77,6 +81,7 @@ impl Reason {
             Reason::Work => 12,
             Reason::Bindings => 13,
             Reason::Order => 14,
+            Reason::NoComparison => 15,
             Reason::Other(number) => number,
         }
     }
@@ -109,6 +114,7 @@ impl fmt::Display for Reason {
             Reason::Work => "the step would do more than 16,384 work",
             Reason::Bindings => "a binding is to be added and 8,192 are held",
             Reason::Order => "the right literals of the step do not strictly rise",
+            Reason::NoComparison => "the file does not stand, or a clause named is not an input clause of it",
             Reason::Other(number) => return write!(out, "reason {number}"),
         })
     }

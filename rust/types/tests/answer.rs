@@ -1,17 +1,19 @@
 //! Answers, verdicts and reasons as numbers and as text.
 
-use yestrwyn_types::{Answer, Cells, Reason, Tables, Verdict, LENGTHS};
+use yestrwyn_types::{Answer, Cells, Covering, Outcome, Reason, Tables, Verdict, LENGTHS};
 
 #[test]
 fn reasons_are_their_numbers() {
     for number in 0..100 {
         let reason = Reason::from_number(number);
         assert_eq!(reason.number(), number);
-        assert_eq!(matches!(reason, Reason::Other(_)), !(1..=14).contains(&number), "{reason:?}");
+        assert_eq!(matches!(reason, Reason::Other(_)), !(1..=15).contains(&number), "{reason:?}");
     }
     assert_eq!(Reason::Clash.to_string(), "two different symbols meet");
     assert_eq!(Reason::Order.to_string(), "the right literals of the step do not strictly rise");
-    assert_eq!(Reason::Other(15).to_string(), "reason 15");
+    let nothing = "the file does not stand, or a clause named is not an input clause of it";
+    assert_eq!(Reason::NoComparison.to_string(), nothing);
+    assert_eq!(Reason::Other(16).to_string(), "reason 16");
 }
 
 #[test]
@@ -24,6 +26,20 @@ fn answers_are_their_numbers() {
     // Nothing that is not said to be open or accepted is taken for it.
     let odd = Answer::from_numbers([3, 1, 0, 0, 0, 0, 0]);
     assert!(matches!(odd.verdict, Verdict::Refused { .. }) && !odd.verdict.is_accepted());
+}
+
+#[test]
+fn coverings_are_their_numbers() {
+    assert_eq!(Covering::yes([2, 1, 2, 0, 0, 0, 0]).numbers(), [1, 0, 0, 2, 1, 2, 0, 0, 0, 0]);
+    assert_eq!(Covering::no().numbers(), [0; 10]);
+    assert_eq!(Covering::refused().numbers(), [2, 15, 0, 0, 0, 0, 0, 0, 0, 0]);
+    for covering in [Covering::yes([7; 7]), Covering::yes([0; 7]), Covering::no(), Covering::refused()] {
+        assert_eq!(Covering::from_numbers(covering.numbers()), covering);
+    }
+    // Nothing that is not said to be a yes is taken for it.
+    let odd = Covering::from_numbers([3, 1, 0, 1, 0, 0, 0, 0, 0, 0]);
+    assert!(matches!(odd.outcome, Outcome::Refused { .. }) && !odd.is_yes());
+    assert!(Covering::yes([0; 7]).is_yes() && !Covering::no().is_yes());
 }
 
 #[test]

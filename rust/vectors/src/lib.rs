@@ -5,6 +5,7 @@
 
 pub mod alone;
 pub mod clashing;
+pub mod covering;
 pub mod examples;
 pub mod outcome;
 pub mod random;
@@ -14,5 +15,6 @@ pub mod sketch;
 pub mod stored;
 
 pub use clashing::{clashing_file, clashing_several_file};
+pub use covering::covering_file;
 pub use random::{damage, random_file, random_file_of, several_file, several_file_of};
 pub use repeating::repeating_file;

@@ -1,4 +1,4 @@
-//! Four trips without a lawful plan, written as proof files: copy one to begin a planner's writer.
+//! Four trips without a lawful plan and a small rulebook, written as proof files: copy one to begin a planner's writer.
 //!
 //!     cargo run --example trips
 //!
@@ -9,6 +9,7 @@ use std::error::Error;
 use std::fs;
 use std::path::Path;
 
+mod covers;
 mod curfew;
 mod duty;
 mod files;
