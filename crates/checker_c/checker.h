@@ -1,9 +1,10 @@
-/* The check of a resolution-proof file, the same for services, and the readout.
+/* The check of a resolution-proof file, the same for services, the readout, and
+ * which input clause covers which.
  *
  * Link with libchecker_c.a. All functions are proved to meet their contracts,
  * for every file and whatever else they are lent (specs/Exported.antt,
- * specs/ExportedWith.antt, specs/ExportedReadout.antt). They never fail, never
- * block, ask for no memory and keep nothing between calls.
+ * specs/ExportedWith.antt, specs/ExportedReadout.antt, specs/ExportedCovers.antt).
+ * They never fail, never block, ask for no memory and keep nothing between calls.
  *
  * That they come to an end asks for a stack of 8 MiB: call them on a thread
  * that has that much left. An ordinary file takes less than 1.5 MiB of it, and
@@ -20,7 +21,7 @@
 extern "C" {
 #endif
 
-/* The least lengths of the tables, of the answer and of the progress, in
+/* The least lengths of the tables, of the two answers and of the progress, in
  * cells. */
 #define CHECKER_SYMBOLS 4096
 #define CHECKER_ROWS 4096
@@ -28,6 +29,7 @@ extern "C" {
 #define CHECKER_BINDINGS 32768
 #define CHECKER_ANSWER 7
 #define CHECKER_PROGRESS 3
+#define CHECKER_COVERING 10
 
 /* The lengths of the three parts of a workspace, in cells. */
 #define CHECKER_NODES 32768
@@ -154,6 +156,44 @@ void checker_readout(const uint8_t *file, size_t file_len,
                      uint16_t clause,
                      uint8_t *output, size_t output_len,
                      uint64_t *progress, size_t progress_len);
+
+/* Whether input clause c of a file covers input clause d: one substitution for
+ * the variables of c turns every literal of c into a literal of d, signs
+ * included. The variables of d stand as constants, and are not those of c, even
+ * under one number. With a yes, wherever all variable-free instances of c are
+ * true, all those of d are: d says nothing that c does not.
+ *
+ *   file, symbols, rows, clauses, bindings
+ *             as for checker_check; the file is checked first, and the tables
+ *             are left as that leaves them
+ *   c, d      numbers of input clauses, from 0
+ *   answer    ten numbers; at least 10 cells
+ *
+ * What is said there of lengths and pointers holds here too, and none of the
+ * six parts may overlap another.
+ *
+ * The numbers of the answer:
+ *   answer[0]  0 no, 1 yes, 2 refused
+ *   answer[1]  refused: the reason, which is 15; otherwise 0
+ *   answer[2]  refused: the record, which is 0; otherwise 0
+ *   answer[3] to answer[9]
+ *              yes: for each literal of c, from the first, the number of the
+ *              literal of d that it is turned into, from 1, and zeros after
+ *              them; of all choices that work the earliest, compared from the
+ *              first literal of c on. Otherwise zeros
+ *
+ * Refused are files that do not stand, whatever the check's own reason, tables
+ * that are too short, and clauses that do not exist or are no input clauses.
+ *
+ * If answer has fewer than 10 cells, nothing at all is touched. Cells of answer
+ * past the tenth are left alone. */
+void checker_covers(const uint8_t *file, size_t file_len,
+                    uint16_t c, uint16_t d,
+                    uint16_t *symbols, size_t symbols_len,
+                    uint16_t *rows, size_t rows_len,
+                    uint16_t *clauses, size_t clauses_len,
+                    uint16_t *bindings, size_t bindings_len,
+                    uint16_t *answer, size_t answer_len);
 
 #ifdef __cplusplus
 }

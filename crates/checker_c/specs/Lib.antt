@@ -1,3 +1,4 @@
 pub mod Exported
 pub mod ExportedReadout
 pub mod ExportedWith
+pub mod ExportedCovers

@@ -1,11 +1,15 @@
-// The check of a proof file and its readout for C. The definitions are in specs/: `Exported` says what `checker_check` promises,
-// `ExportedWith` what `checker_check_with` and `ExportedReadout` what `checker_readout` does, and checker.h has their declarations.
+// The check of a proof file, its readout and which clause covers which, for C. The definitions are in specs/: `Exported` says what
+// `checker_check` promises, `ExportedWith` what `checker_check_with`, `ExportedReadout` what `checker_readout` and `ExportedCovers` what
+// `checker_covers` does, and checker.h has their declarations.
 mod cells;
+mod covering;
 mod progress;
 
 use cells::put;
 use checker::check;
 use checker::check_with;
+use cover::covers;
+use covering::put_covering;
 use following::nodes::Nodes;
 use following::nodes::Origins;
 use following::values::ValueCells;
@@ -16,6 +20,7 @@ ghost use Rattle.checker.specs.Contract.{workspaceWith};
 ghost use Rattle.checker_c.specs.Exported.{Exported};
 ghost use Rattle.checker_c.specs.ExportedWith.{ExportedWith};
 ghost use Rattle.checker_c.specs.ExportedReadout.{ExportedReadout};
+ghost use Rattle.checker_c.specs.ExportedCovers.{ExportedCovers};
 
 // The check of a file, with the answer in seven cells. Where `answer` has fewer, nothing is touched.
 #[no_mangle]
@@ -86,4 +91,25 @@ pub extern "C" fn checker_readout(
     }
     let p = readout_piece(file, symbols, rows, clauses, bindings, clause, output);
     put_progress(p, progress);
+}
+
+// Whether input clause c of a file covers input clause d, with the answer in ten cells. Where `answer` has fewer, nothing is touched.
+#[no_mangle]
+pub extern "C" fn checker_covers(
+    file: &[u8],
+    c: u16,
+    d: u16,
+    symbols: &mut [u16],
+    rows: &mut [u16],
+    clauses: &mut [u16],
+    bindings: &mut [u16],
+    answer: &mut [u16],
+)
+    ensures { λ _. ⌜ ExportedCovers (now (file .entry)) (tablesWith (now (symbols .entry)) (now (rows .entry)) (now (clauses .entry)) (now (bindings .entry))) c d (now (answer .entry)) (tablesWith (now (symbols .exit)) (now (rows .exit)) (now (clauses .exit)) (now (bindings .exit))) (now (answer .exit)) ⌝ }
+{
+    if answer.len() < 10 {
+        return;
+    }
+    let r = covers(file, symbols, rows, clauses, bindings, c, d);
+    put_covering(r, answer);
 }
