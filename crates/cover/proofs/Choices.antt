@@ -16,8 +16,8 @@ use Rattle.unification.proofs.Tests.{to-T, from-T, both-true, true-not-false, s
 use Rattle.derivation.specs.Derivation.{RowLiteral, literalOf, numbered}
 use Rattle.cover.specs.Comparing.{numbersFrom}
 use Rattle.cover.specs.Covering.{Substitution, Turns, Works, NotAfter}
-use Rattle.cover.specs.Pairs.{bit, isPair, leftNumber, rightNumber, Pairs, agreeAt, agreeFrom, goTogether, tableFilled}
-use Rattle.cover.specs.Searching.{pairChosen, fitsFrom, fits, searched}
+use Rattle.matching.specs.Pairs.{bit, isPair, leftNumber, rightNumber, Pairs, agreeAt, agreeFrom, goTogether, tableFilled}
+use Rattle.matching.specs.Searching.{pairChosen, fitsFrom, fits, searched}
 use Rattle.cover.proofs.Earliest.{SameTo, NotAfterFrom, FitFrom, Came, search-came}
 use Rattle.cover.proofs.PairLaws.{together, equal-test, PairTurns, PairCame, AllCame, room}
 use Rattle.cover.proofs.Solutions.{TermsOf, Noted}

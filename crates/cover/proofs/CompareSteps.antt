@@ -13,8 +13,8 @@ use Rattle.checker.specs.Contract.{workspaceWith, CheckedWith}
 use Rattle.answer.specs.declared.Answer as answer
 use Rattle.cover.specs.Comparing.{coveringGiven, numbersFrom, comparisonNumbers, comparisonFrom, comparison, verdictStands, isInput, AfterCheck, Compared}
 use Rattle.cover.specs.Contract.{CoversAnswered}
-use Rattle.cover.specs.Pairs.{Pairs, pairsMatched, tableFilled}
-use Rattle.cover.specs.Searching.{searched}
+use Rattle.matching.specs.Pairs.{Pairs, pairsMatched, tableFilled}
+use Rattle.matching.specs.Searching.{searched}
 use Rattle.cover.specs.declared.covering.Covering as given
 use Rattle.cover.proofs.Comparisons.{refused-covering, refused-nothing, left-nothing, right-nothing, few-left, few-right, compared}
 

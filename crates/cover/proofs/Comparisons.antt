@@ -35,8 +35,8 @@ use Rattle.checker.specs.Contract.{workspaceWith, CheckedWith}
 use Rattle.cover.specs.Answering.{Answer, covers, coversNot, refusedWith, tenNumbers, Comparable, termIn, Answered}
 use Rattle.cover.specs.Comparing.{outcomeNumbers, coveringGiven, numbersFrom, comparisonNumbers, comparisonFrom, comparison, verdictStands, isInput, AfterCheck, CoveringOf, Compared}
 use Rattle.cover.specs.Covering.{Substitution, Works, AllInstancesTrue, NotAfter}
-use Rattle.cover.specs.Pairs.{Pairs, pairsMatched, tableFilled}
-use Rattle.cover.specs.Searching.{searched}
+use Rattle.matching.specs.Pairs.{Pairs, pairsMatched, tableFilled}
+use Rattle.matching.specs.Searching.{searched}
 use Rattle.cover.specs.declared.covering.Covering as given
 use Rattle.cover.proofs.Choices.{numbers-length, LiteralsAs, table-cell, Decided, decided}
 use Rattle.cover.proofs.Earliest.{Came, search-came}

@@ -10,7 +10,7 @@ use lib.ListN.{length, getD, set, length-set}
 use lib.Seq.{getD-set-same, getD-set-other}
 use Rattle.record.specs.Record.{pick}
 use Rattle.unification.proofs.Tests.{true-not-false}
-use Rattle.cover.specs.Searching.{pairChosen, fitsFrom, fits, orNext, tried, searched}
+use Rattle.matching.specs.Searching.{pairChosen, fitsFrom, fits, orNext, tried, searched}
 use Rattle.cover.proofs.Taking.{same-or-not}
 
 -- Two choices have the same numbers below i.

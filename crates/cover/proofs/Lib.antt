@@ -3,10 +3,7 @@ pub mod Solutions
 pub mod Earliest
 pub mod PairLaws
 pub mod Choices
-pub mod ImageSteps
 pub mod Truth
-pub mod SearchSteps
-pub mod PairSteps
 pub mod StateTerms
 pub mod Comparisons
 pub mod CompareSteps

@@ -14,8 +14,8 @@ use Rattle.unification.specs.Term.{Term, apply}
 use Rattle.unification.proofs.Tests.{to-T, from-T, both-true, true-not-false}
 use Rattle.derivation.specs.Derivation.{RowLiteral, literalOf}
 use Rattle.cover.specs.Covering.{Substitution, Turns}
-use Rattle.cover.specs.Matching.{atomsMatched}
-use Rattle.cover.specs.Pairs.{bit, isPair, leftNumber, rightNumber, numbersMatched, pairMatched, Pairs, foundPair, pairsMatched, agreeAt, agreeFrom, goTogether, tableFilled}
+use Rattle.matching.specs.Matching.{atomsMatched}
+use Rattle.matching.specs.Pairs.{bit, isPair, leftNumber, rightNumber, numbersMatched, pairMatched, Pairs, foundPair, pairsMatched, agreeAt, agreeFrom, goTogether, tableFilled}
 use Rattle.cover.proofs.Solutions.{TermsOf, Equation, Noted, AtomsCame, atoms-came}
 use Rattle.cover.proofs.Taking.{equal-to, differs, same-or-not, Holds}
 

@@ -15,7 +15,7 @@ use Rattle.unification.specs.Row.{argumentTerms}
 use Rattle.unification.specs.Term.{Term, Terms, var, app, nil, cons, apply, applyAll}
 use Rattle.unification.proofs.Tests.{to-T, from-T, both-true, true-not-false}
 use Rattle.cover.specs.Covering.{Substitution}
-use Rattle.cover.specs.Matching.{andThen, imaged, sameHead, argumentsImaged, Images, withNotes, withRows, rowMatched, ifImaged, rowsMatched, notesOf, atomsMatched}
+use Rattle.matching.specs.Matching.{andThen, imaged, sameHead, argumentsImaged, Images, withNotes, withRows, rowMatched, ifImaged, rowsMatched, notesOf, atomsMatched}
 use Rattle.cover.proofs.Taking.{equal-to, differs, same-or-not, Holds, Taken, taken}
 
 -- The node table N has the rows whose terms, over variable numbers, `term` gives: rows name earlier rows, and equal terms are equal rows.

@@ -11,7 +11,7 @@ use lib.Seq.{getD-set-same, getD-set-other}
 use Rattle.record.specs.Record.{pick}
 use Rattle.unification.proofs.Tests.{to-T, from-T, true-not-false}
 use Rattle.cover.specs.Covering.{Substitution}
-use Rattle.cover.specs.Matching.{imaged}
+use Rattle.matching.specs.Matching.{imaged}
 
 pub equal-to : (a b : ℕ) → eqb a b ≡ true → a ≡ b
 equal-to a b q = eqb→eq a b (to-T (eqb a b) q)

@@ -14,8 +14,8 @@ use Rattle.answer.specs.declared.Answer as answer
 use Rattle.answer.specs.declared.Verdict as verdict
 use Rattle.answer.specs.declared.Verdict.the-variants as verdicts
 use Rattle.cover.specs.Answering.{Answer, tenNumbers, Answered}
-use Rattle.cover.specs.Pairs.{Pairs, pairsMatched, tableFilled}
-use Rattle.cover.specs.Searching.{searched}
+use Rattle.matching.specs.Pairs.{Pairs, pairsMatched, tableFilled}
+use Rattle.matching.specs.Searching.{searched}
 use Rattle.cover.specs.declared.covering.Covering.{Covering}
 use Rattle.cover.specs.declared.covering.Outcome.{Outcome}
 use Rattle.cover.specs.declared.covering.Outcome.the-variants.{Yes, No, Refused}

@@ -1,6 +1,6 @@
 // The answer: an outcome, and seven numbers beside it.
-use super::search::Choice;
-use super::search::chosen;
+use matching::search::Choice;
+use matching::search::chosen;
 ghost use mathlib.Core.Path.{_≡_};
 ghost use mathlib.Core.List.{_∷_, _++_};
 ghost use lib.ListN.{length, replicate};

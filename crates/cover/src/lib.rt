@@ -1,10 +1,7 @@
-// Which input clause covers which. In specs/, `Covering` has what that means, and `Answering` and `Contract` what this crate promises; `Matching`,
-// `Pairs`, `Searching` and `Comparing` say how the parts of this program go about it.
+// Which input clause covers which. In specs/, `Covering` has what that means, and `Answering` and `Contract` what this crate promises; `Comparing` says
+// how the parts of this program go about it. Literals are matched and choices searched by the crate matching.
 mod compare;
 pub mod covering;
-mod images;
-mod pairs;
-mod search;
 
 use checker::check_with;
 use compare::compare;

@@ -4,7 +4,7 @@ use Rattle.cover.proofs.covering.with_choice.Statement.{statement}
 use Rattle.cover.proofs.covering.with_choice.Tie as tie
 use Rattle.cover.proofs.covering.with_choice.Reads as reads
 use Rattle.cover.proofs.covering.with_choice.Lts as lts
-use Rattle.cover.proofs.search.chosen.Reads as chosen-reads
+use Rattle.matching.proofs.search.chosen.Reads as chosen-reads
 
 chosen-requires : tie.Need-chosen-requires
 chosen-requires c κs = search needs

@@ -1,0 +1,3 @@
+pub mod ImageSteps
+pub mod PairSteps
+pub mod SearchSteps

@@ -1,0 +1,3 @@
+pub mod Matching
+pub mod Pairs
+pub mod Searching

@@ -1,0 +1,152 @@
+// All pairs of a literal of C and one of D: which match, what is noted of their variables, and which two go together.
+use super::images::Notes;
+use super::images::image;
+use super::images::match_atoms;
+use following::nodes::Nodes;
+use following::nodes::Origins;
+use following::nodes::part_of;
+ghost use mathlib.Core.Path.{_≡_};
+ghost use Prim.Native.Nat.{_<_};
+ghost use lib.ListN.{length, getD};
+ghost use Rattle.matching.specs.Pairs.{bit, numbersMatched, pairMatched, pairsMatched, agreeAt, agreeFrom, goTogether, tableFilled};
+
+// For each pair 1 if its literals match, else 0.
+pub type Found = [u16; 64];
+
+// For every two pairs 1 if they go together, else 0: cell 64 × p + q.
+pub type Together = [u16; 4096];
+
+// 1 for true.
+fn bit_of(b: bool) -> u16
+    ensures { λ r. ⌜ r ≡ bit b ⌝ }
+{
+    if b { 1 } else { 0 }
+}
+
+// Whether two literals match, by their numbers: 2 × row, plus 1 if positive. Signs come first.
+fn match_numbers(nodes: &Nodes, notes: &mut Notes, p: u16, x: u16, z: u16) -> bool
+    requires { ⌜ (length (now nodes) ≡ 32768) × (length (now notes) ≡ 4096) × (p < 64) ⌝ }
+    ensures { λ b. ⌜ ((b, now (notes .exit)) ≡ numbersMatched (now (nodes .entry)) p x z (now (notes .entry))) × (length (now (notes .exit)) ≡ 4096) ⌝ }
+{
+    if x % 2 != z % 2 {
+        return false;
+    }
+    match_atoms(
+        nodes,
+        notes,
+        64 * (p as usize),
+        (x / 2) as u32,
+        (z / 2) as u32,
+    )
+}
+
+// Whether pair 8 × i + n is one, with literal i of C, from 0, and literal n of D, from 1, and whether these match.
+fn match_pair(
+    nodes: &Nodes,
+    origins: &Origins,
+    notes: &mut Notes,
+    c: u16,
+    d: u16,
+    kc: u16,
+    kd: u16,
+    p: u16,
+) -> bool
+    requires { ⌜ (length (now nodes) ≡ 32768) × (length (now origins) ≡ 32768) × (length (now notes) ≡ 4096) × (p < 64) ⌝ }
+    ensures { λ b. ⌜ ((b, now (notes .exit)) ≡ pairMatched (now (nodes .entry)) (now (origins .entry)) c d kc kd p (now (notes .entry))) × (length (now (notes .exit)) ≡ 4096) ⌝ }
+{
+    let i = p / 8;
+    let n = p % 8;
+    if i >= kc {
+        return false;
+    }
+    if n == 0 {
+        return false;
+    }
+    if n > kd {
+        return false;
+    }
+    match_numbers(
+        nodes,
+        notes,
+        p,
+        part_of(origins, c, i),
+        part_of(origins, d, n - 1),
+    )
+}
+
+// All pairs.
+pub fn match_pairs(
+    nodes: &Nodes,
+    origins: &Origins,
+    found: &mut Found,
+    notes: &mut Notes,
+    c: u16,
+    d: u16,
+    kc: u16,
+    kd: u16,
+)
+    requires { ⌜ (length (now nodes) ≡ 32768) × (length (now origins) ≡ 32768) × (length (now found) ≡ 64) × (length (now notes) ≡ 4096) ⌝ }
+    ensures { λ _. ⌜ (record { found = now (found .exit); notes = now (notes .exit) } ≡ pairsMatched (now (nodes .entry)) (now (origins .entry)) c d kc kd 64 (record { found = now (found .entry); notes = now (notes .entry) })) × (length (now (found .exit)) ≡ 64) × (length (now (notes .exit)) ≡ 4096) ⌝ }
+{
+    let mut p: u16 = 0;
+    while p < 64 {
+        let b = match_pair(nodes, origins, notes, c, d, kc, kd, p);
+        found[p as usize] = bit_of(b);
+        p += 1;
+    }
+}
+
+// Whether a variable has no two images: x and y, each 0 for none.
+fn agree_at(x: u32, y: u32) -> bool
+    ensures { λ b. ⌜ b ≡ agreeAt x y ⌝ }
+{
+    if x == 0 {
+        return true;
+    }
+    if y == 0 {
+        return true;
+    }
+    x == y
+}
+
+// Whether the notes of two pairs agree at every variable.
+fn agree(notes: &Notes, p: usize, q: usize) -> bool
+    requires { ⌜ (length (now notes) ≡ 4096) × (p < 64) × (q < 64) ⌝ }
+    ensures { λ b. ⌜ b ≡ agreeFrom (now (notes .entry)) p q 64 0 ⌝ }
+{
+    let mut v: usize = 0;
+    while v < 64 {
+        if !agree_at(image(notes, 64 * p + v), image(notes, 64 * q + v)) {
+            return false;
+        }
+        v += 1;
+    }
+    true
+}
+
+// Whether two pairs go together: both match, and their notes agree.
+fn go_together(found: &Found, notes: &Notes, p: usize, q: usize) -> bool
+    requires { ⌜ (length (now found) ≡ 64) × (length (now notes) ≡ 4096) × (p < 64) × (q < 64) ⌝ }
+    ensures { λ b. ⌜ b ≡ goTogether (now (found .entry)) (now (notes .entry)) p q ⌝ }
+{
+    if found[p] != 1 {
+        return false;
+    }
+    if found[q] != 1 {
+        return false;
+    }
+    agree(notes, p, q)
+}
+
+// The table of that.
+pub fn fill_table(found: &Found, notes: &Notes, table: &mut Together)
+    requires { ⌜ (length (now found) ≡ 64) × (length (now notes) ≡ 4096) × (length (now table) ≡ 4096) ⌝ }
+    ensures { λ _. ⌜ (now (table .exit) ≡ tableFilled (now (found .entry)) (now (notes .entry)) 4096 (now (table .entry))) × (length (now (table .exit)) ≡ 4096) ⌝ }
+{
+    let mut x: usize = 0;
+    while x < 4096 {
+        let b = go_together(found, notes, x / 64, x % 64);
+        table[x] = bit_of(b);
+        x += 1;
+    }
+}
