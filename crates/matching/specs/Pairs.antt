@@ -1,9 +1,10 @@
 -- The pairs of a literal of C and one of D, as the program numbers and compares them. No promise of the crate needs this file.
+use mathlib.Core.Path.{_≡_}
 use mathlib.Core.Bool.{Bool, true, false, _&&_}
 use mathlib.Core.List.{List}
 use Prim.Native.Nat.{ℕ, zero, suc, _+_, _-_, _*_, _/_, _%_}
 use lib.Dec.{eqb, leb, ltb}
-use lib.ListN.{getD, set}
+use lib.ListN.{length, getD, set}
 use Rattle.record.specs.Record.{pick}
 use Rattle.unification.specs.Nodes.{part}
 use Rattle.matching.specs.Matching.{atomsMatched}
@@ -59,3 +60,15 @@ goTogether F W p q = eqb (getD F p 0) 1 && (eqb (getD F q 0) 1 && agreeFrom W p 
 unfoldable pub tableFilled : List ℕ → List ℕ → ℕ → List ℕ → List ℕ
 tableFilled F W zero T = T
 tableFilled F W (suc x) T = set (tableFilled F W x T) x (bit (goTogether F W (x / 64) (x % 64)))
+
+-- What matching all pairs and filling the table ask: the lengths of what they are lent.
+pub record PairTables (N O F W : List ℕ) : Type 0 where
+  pub nodes : length N ≡ 32768
+  pub origins : length O ≡ 32768
+  pub found : length F ≡ 64
+  pub notes : length W ≡ 4096
+
+pub record TogetherTables (F W T : List ℕ) : Type 0 where
+  pub found : length F ≡ 64
+  pub notes : length W ≡ 4096
+  pub table : length T ≡ 4096

@@ -1,9 +1,10 @@
 -- The search for the earliest choice in the table of pairs. No promise of the crate needs this file.
+use mathlib.Core.Path.{_≡_}
 use mathlib.Core.Bool.{Bool, true, false, _&&_}
 use mathlib.Core.List.{List}
-use Prim.Native.Nat.{ℕ, zero, suc, _+_, _*_}
+use Prim.Native.Nat.{ℕ, zero, suc, _+_, _*_, _<_}
 use lib.Dec.{eqb}
-use lib.ListN.{getD, set}
+use lib.ListN.{length, getD, set}
 use Rattle.record.specs.Record.{pick}
 
 -- A choice is a list with literal i's number in cell i; its pair is 8 × i + that number.
@@ -34,3 +35,10 @@ tried T i after (suc m) n X =
 abbrev pub searched : List ℕ → ℕ → ℕ → ℕ → List ℕ → Bool × List ℕ
 searched T kd zero i X = (true, X)
 searched T kd (suc k) i X = tried T i (λ Y. searched T kd k (suc i) Y) kd 1 X
+
+-- What the search asks for the `left` literals from i on: at most seven literals on either side.
+pub record Searchable (T X : List ℕ) (kd left i : ℕ) : Type 0 where
+  pub table : length T ≡ 4096
+  pub choice : length X ≡ 8
+  pub room : i + left < 9
+  pub few : kd < 8

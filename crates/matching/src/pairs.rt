@@ -8,7 +8,7 @@ use following::nodes::part_of;
 ghost use mathlib.Core.Path.{_≡_};
 ghost use Prim.Native.Nat.{_<_};
 ghost use lib.ListN.{length, getD};
-ghost use Rattle.matching.specs.Pairs.{bit, numbersMatched, pairMatched, pairsMatched, agreeAt, agreeFrom, goTogether, tableFilled};
+ghost use Rattle.matching.specs.Pairs.{bit, numbersMatched, pairMatched, pairsMatched, agreeAt, agreeFrom, goTogether, tableFilled, PairTables, TogetherTables};
 
 // For each pair 1 if its literals match, else 0.
 pub type Found = [u16; 64];
@@ -85,7 +85,7 @@ pub fn match_pairs(
     kc: u16,
     kd: u16,
 )
-    requires { ⌜ (length (now nodes) ≡ 32768) × (length (now origins) ≡ 32768) × (length (now found) ≡ 64) × (length (now notes) ≡ 4096) ⌝ }
+    requires { ⌜ PairTables (now nodes) (now origins) (now found) (now notes) ⌝ }
     ensures { λ _. ⌜ (record { found = now (found .exit); notes = now (notes .exit) } ≡ pairsMatched (now (nodes .entry)) (now (origins .entry)) c d kc kd 64 (record { found = now (found .entry); notes = now (notes .entry) })) × (length (now (found .exit)) ≡ 64) × (length (now (notes .exit)) ≡ 4096) ⌝ }
 {
     let mut p: u16 = 0;
@@ -140,7 +140,7 @@ fn go_together(found: &Found, notes: &Notes, p: usize, q: usize) -> bool
 
 // The table of that.
 pub fn fill_table(found: &Found, notes: &Notes, table: &mut Together)
-    requires { ⌜ (length (now found) ≡ 64) × (length (now notes) ≡ 4096) × (length (now table) ≡ 4096) ⌝ }
+    requires { ⌜ TogetherTables (now found) (now notes) (now table) ⌝ }
     ensures { λ _. ⌜ (now (table .exit) ≡ tableFilled (now (found .entry)) (now (notes .entry)) 4096 (now (table .entry))) × (length (now (table .exit)) ≡ 4096) ⌝ }
 {
     let mut x: usize = 0;

@@ -3,7 +3,7 @@ use super::pairs::Together;
 ghost use mathlib.Core.Path.{_≡_};
 ghost use Prim.Native.Nat.{_+_, _<_};
 ghost use lib.ListN.{length, getD, set};
-ghost use Rattle.matching.specs.Searching.{pairChosen, fits, searched};
+ghost use Rattle.matching.specs.Searching.{pairChosen, fits, searched, Searchable};
 
 // A choice: in cell i the number that literal i of C, from 0, goes to.
 pub type Choice = [u16; 8];
@@ -51,7 +51,7 @@ fn fits_before(table: &Together, choice: &Choice, i: u16) -> bool
 
 // So many literals from i on get the earliest numbers that fit.
 pub fn search(table: &Together, choice: &mut Choice, kd: u16, left: u16, i: u16) -> bool
-    requires { ⌜ (length (now table) ≡ 4096) × (length (now choice) ≡ 8) × (i + left < 9) × (kd < 8) ⌝ }
+    requires { ⌜ Searchable (now table) (now choice) kd left i ⌝ }
     ensures { λ b. ⌜ ((b, now (choice .exit)) ≡ searched (now (table .entry)) kd left i (now (choice .entry))) × (length (now (choice .exit)) ≡ 8) ⌝ }
 {
     if left == 0 {

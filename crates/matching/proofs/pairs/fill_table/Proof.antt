@@ -19,11 +19,11 @@ abbrev μ-loop : tie.MeasureT-loop
 
 loop-holds : tie.Need-loop-holds Inv-loop μ-loop
 loop-holds c =
-    (omega arith, c .pre .2, filled-none (c .args .found .now) (c .args .notes .now) (c .args .table .now))
+    (omega arith, c .pre .table, filled-none (c .args .found .now) (c .args .notes .now) (c .args .table .now))
 
 go-together-requires : tie.Need-go-together-requires Inv-loop μ-loop
 go-together-requires c κs =
-    (c .before .before .pre .0, c .before .before .pre .1, pair-below (c .before .loop .x) (c .loop-test .taken), below-64 (c .before .loop .x))
+    (c .before .before .pre .found, c .before .before .pre .notes, pair-below (c .before .loop .x) (c .loop-test .taken), below-64 (c .before .loop .x))
 
 bit-of-requires : tie.Need-bit-of-requires Inv-loop μ-loop
 bit-of-requires c κs = search needs

@@ -19,11 +19,11 @@ abbrev μ-loop : tie.MeasureT-loop
 
 loop-holds : tie.Need-loop-holds Inv-loop μ-loop
 loop-holds c =
-    (omega arith, c .pre .2, c .pre .3, pairs-none (c .args .nodes .now) (c .args .origins .now) (c .args .c) (c .args .d) (c .args .kc) (c .args .kd) (pairsOf (c .args .found .now) (c .args .notes .now)))
+    (omega arith, c .pre .found, c .pre .notes, pairs-none (c .args .nodes .now) (c .args .origins .now) (c .args .c) (c .args .d) (c .args .kc) (c .args .kd) (pairsOf (c .args .found .now) (c .args .notes .now)))
 
 match-pair-requires : tie.Need-match-pair-requires Inv-loop μ-loop
 match-pair-requires c κs =
-    (c .before .before .before .pre .0, c .before .before .before .pre .1, c .before .before .loop .inv .2, c .before .loop-test .taken)
+    (c .before .before .before .pre .nodes, c .before .before .before .pre .origins, c .before .before .loop .inv .2, c .before .loop-test .taken)
 
 bit-of-requires : tie.Need-bit-of-requires Inv-loop μ-loop
 bit-of-requires c κs = search needs

@@ -42,7 +42,7 @@ search-returns : (t : ℕ) → search-lts.Need-returns (
   search′.Post,
 ) (search-at t) search′.Post search-Inv-loop search-μ-loop
 search-returns t c =
-    (search-none _ _ _ _ _ (c .if1 .taken), c .before .pre .1 .1)
+    (search-none _ _ _ _ _ (c .if1 .taken), c .before .pre .1 .choice)
 
 search-loop-holds : (t : ℕ) → search-lts.Need-loop-holds (
   fits-before-reads.Asked,
@@ -51,7 +51,7 @@ search-loop-holds : (t : ℕ) → search-lts.Need-loop-holds (
   search′.Post,
 ) (search-at t) search′.Post search-Inv-loop search-μ-loop
 search-loop-holds t c =
-    (omega arith, omega arith, c .before .pre .1 .1, search-begins (c .before .args .table .now) (c .before .args .kd) (c .before .args .left) (c .before .args .i) (c .before .args .choice .now) (c .if1 .left))
+    (omega arith, omega arith, c .before .pre .1 .choice, search-begins (c .before .args .table .now) (c .before .args .kd) (c .before .args .left) (c .before .args .i) (c .before .args .choice .now) (c .if1 .left))
 
 search-mul-choice : (t : ℕ) → search-lts.Need-mul-choice (
   fits-before-reads.Asked,
@@ -76,7 +76,7 @@ search-fits-before-requires : (t : ℕ) → search-lts.Need-fits-before-requires
   search′.Post,
 ) (search-at t) search′.Post search-Inv-loop search-μ-loop
 search-fits-before-requires t c κs =
-    (c .before .before .before .before .pre .1 .0, simp length-set (c .before .before .loop .inv .2), omega (arith, c .before .before .before .before .pre .1 .2, c .before .before .before .if1 .left))
+    (c .before .before .before .before .pre .1 .table, simp length-set (c .before .before .loop .inv .2), omega (arith, c .before .before .before .before .pre .1 .room, c .before .before .before .if1 .left))
 
 search-sub-search : (t : ℕ) → search-lts.Need-sub-search (
   fits-before-reads.Asked,
@@ -94,7 +94,7 @@ search-add-search : (t : ℕ) → search-lts.Need-add-search (
   search′.Post,
 ) (search-at t) search′.Post search-Inv-loop search-μ-loop
 search-add-search t c =
-    omega (arith, c .before .before .before .before .before .before .before .pre .1 .2)
+    omega (arith, c .before .before .before .before .before .before .before .pre .1 .room)
 
 search-search-requires : (t : ℕ) → search-lts.Need-search-requires (
   fits-before-reads.Asked,
@@ -103,7 +103,7 @@ search-search-requires : (t : ℕ) → search-lts.Need-search-requires (
   search′.Post,
 ) (search-at t) search′.Post search-Inv-loop search-μ-loop
 search-search-requires t c κs =
-    (omega (arith, c .before .before .before .before .before .before .before .pre .0, c .before .before .before .before .before .before .if1 .left), (c .before .before .before .before .before .before .before .pre .1 .0, simp length-set (c .before .before .before .before .before .loop .inv .2), omega (arith, c .before .before .before .before .before .before .before .pre .1 .2, c .before .before .before .before .before .before .if1 .left), c .before .before .before .before .before .before .before .pre .1 .3))
+    (omega (arith, c .before .before .before .before .before .before .before .pre .0, c .before .before .before .before .before .before .if1 .left), record { table = c .before .before .before .before .before .before .before .pre .1 .table; choice = simp length-set (c .before .before .before .before .before .loop .inv .2); room = omega (arith, c .before .before .before .before .before .before .before .pre .1 .room, c .before .before .before .before .before .before .if1 .left); few = c .before .before .before .before .before .before .before .pre .1 .few })
 
 search-returns-2 : (t : ℕ) → search-lts.Need-returns-2 (
   fits-before-reads.Asked,
@@ -121,7 +121,7 @@ search-add-n : (t : ℕ) → search-lts.Need-add-n (
   search′.Post,
 ) (search-at t) search′.Post search-Inv-loop search-μ-loop
 search-add-n t c =
-    omega (arith, c .before .before .before .loop-test .taken, c .before .before .before .before .before .before .pre .1 .3)
+    omega (arith, c .before .before .before .loop-test .taken, c .before .before .before .before .before .before .pre .1 .few)
 
 search-loop-less : (t : ℕ) → search-lts.Need-loop-less (
   fits-before-reads.Asked,
