@@ -5,7 +5,7 @@ use Prim.Native.Nat.{ℕ, _<_, _≤_}
 use native.Mathlib.Omega.{arith}
 use lib.ListN.{length, drop, set, length-set}
 use Rattle.verdict.specs.Tables.{Tables}
-use Rattle.cover.specs.Comparing.{outcomeNumbers, coveringGiven}
+use Rattle.cover.specs.Given.{outcomeNumbers, coveringGiven}
 use Rattle.cover.specs.Contract.{CoversAnswered}
 use Rattle.cover.specs.declared.covering.Covering.{Covering}
 use Rattle.cover.specs.declared.covering.Outcome.{Outcome}

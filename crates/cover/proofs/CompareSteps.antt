@@ -11,7 +11,8 @@ use Rattle.derivation.specs.Stored.{originCode, literalsCell}
 use Rattle.entry.specs.Progress.{tablesWith}
 use Rattle.checker.specs.Contract.{workspaceWith, CheckedWith}
 use Rattle.answer.specs.declared.Answer as answer
-use Rattle.cover.specs.Comparing.{coveringGiven, numbersFrom, comparisonNumbers, comparisonFrom, comparison, verdictStands, isInput, AfterCheck, Compared}
+use Rattle.cover.specs.Comparing.{numbersFrom, comparisonNumbers, comparisonFrom, comparison, verdictStands, isInput, AfterCheck, Compared}
+use Rattle.cover.specs.Given.{coveringGiven}
 use Rattle.cover.specs.Contract.{CoversAnswered}
 use Rattle.matching.specs.Pairs.{Pairs, pairsMatched, tableFilled}
 use Rattle.matching.specs.Searching.{searched}

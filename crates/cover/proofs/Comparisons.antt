@@ -33,7 +33,8 @@ use Rattle.answer.proofs.GivenNumbers.{stateLeft, verdict-given, clauses-given}
 use Rattle.entry.specs.Progress.{Kept, ReadTo, tablesWith}
 use Rattle.checker.specs.Contract.{workspaceWith, CheckedWith}
 use Rattle.cover.specs.Answering.{Answer, covers, coversNot, refusedWith, tenNumbers, Comparable, termIn, Answered}
-use Rattle.cover.specs.Comparing.{outcomeNumbers, coveringGiven, numbersFrom, comparisonNumbers, comparisonFrom, comparison, verdictStands, isInput, AfterCheck, CoveringOf, Compared}
+use Rattle.cover.specs.Comparing.{numbersFrom, comparisonNumbers, comparisonFrom, comparison, verdictStands, isInput, AfterCheck, CoveringOf, Compared}
+use Rattle.cover.specs.Given.{outcomeNumbers, coveringGiven}
 use Rattle.cover.specs.Covering.{Substitution, Works, AllInstancesTrue, NotAfter}
 use Rattle.matching.specs.Pairs.{Pairs, pairsMatched, tableFilled}
 use Rattle.matching.specs.Searching.{searched}

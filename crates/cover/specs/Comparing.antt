@@ -1,5 +1,4 @@
--- How the program compares two clauses after a check: the contracts of its inner functions. Which ten numbers an answer of the program stands for is here
--- too.
+-- How the program compares two clauses after a check: the contracts of its inner functions. No promise of the crate needs this file.
 use mathlib.Core.Path.{_≡_}
 use mathlib.Core.Bool.{Bool, true, false, _&&_}
 use mathlib.Core.List.{List, [], _∷_, _++_}
@@ -14,21 +13,10 @@ use Rattle.answer.specs.declared.Answer as answer
 use Rattle.answer.specs.declared.Verdict as verdict
 use Rattle.answer.specs.declared.Verdict.the-variants as verdicts
 use Rattle.cover.specs.Answering.{Answer, tenNumbers, Answered}
+use Rattle.cover.specs.Given.{coveringGiven}
 use Rattle.matching.specs.Pairs.{Pairs, pairsMatched, tableFilled}
 use Rattle.matching.specs.Searching.{searched}
 use Rattle.cover.specs.declared.covering.Covering.{Covering}
-use Rattle.cover.specs.declared.covering.Outcome.{Outcome}
-use Rattle.cover.specs.declared.covering.Outcome.the-variants.{Yes, No, Refused}
-
--- The ten numbers of an answer, as the program gives it.
-abbrev pub outcomeNumbers : Outcome → List ℕ
-outcomeNumbers Yes = 1 ∷ 0 ∷ 0 ∷ []
-outcomeNumbers No = 0 ∷ 0 ∷ 0 ∷ []
-outcomeNumbers (Refused number k) = 2 ∷ number ∷ k ∷ []
-
-abbrev pub coveringGiven : Covering → List ℕ
-coveringGiven r =
-    outcomeNumbers (r .outcome) ++ (r .first ∷ r .second ∷ r .third ∷ r .fourth ∷ r .fifth ∷ r .sixth ∷ r .seventh ∷ [])
 
 -- k numbers of a list, from i on.
 abbrev pub numbersFrom : List ℕ → ℕ → ℕ → List ℕ

@@ -4,7 +4,7 @@ use mathlib.Core.List.{List}
 use Prim.Native.Nat.{ℕ}
 use Rattle.verdict.specs.Tables.{Tables, tablesAfter}
 use Rattle.cover.specs.Answering.{Answer, tenNumbers, Answered}
-use Rattle.cover.specs.Comparing.{coveringGiven}
+use Rattle.cover.specs.Given.{coveringGiven}
 use Rattle.cover.specs.declared.covering.Covering.{Covering}
 
 pub record CoversAnswered (file : List ℕ) (before : Tables) (c d : ℕ) (r : Covering) (after : Tables) : Type 0 where

@@ -1,4 +1,5 @@
 pub mod Covering
 pub mod Answering
+pub mod Given
 pub mod Comparing
 pub mod Contract

@@ -19,7 +19,8 @@ use matching::search::search;
 ghost use mathlib.Core.Path.{_≡_};
 ghost use Prim.Native.Nat.{_≤_};
 ghost use lib.ListN.{length};
-ghost use Rattle.cover.specs.Comparing.{coveringGiven, comparisonNumbers, comparisonFrom, comparison, isInput, verdictStands, AfterCheck, Compared};
+ghost use Rattle.cover.specs.Comparing.{comparisonNumbers, comparisonFrom, comparison, isInput, verdictStands, AfterCheck, Compared};
+ghost use Rattle.cover.specs.Given.{coveringGiven};
 
 // The literals of c against those of d, kc and kd of them, in tables that are clear.
 fn choose_in(

@@ -4,7 +4,8 @@ use matching::search::chosen;
 ghost use mathlib.Core.Path.{_≡_};
 ghost use mathlib.Core.List.{_∷_, _++_};
 ghost use lib.ListN.{length, replicate};
-ghost use Rattle.cover.specs.Comparing.{outcomeNumbers, coveringGiven, numbersFrom};
+ghost use Rattle.cover.specs.Comparing.{numbersFrom};
+ghost use Rattle.cover.specs.Given.{outcomeNumbers, coveringGiven};
 
 // C covers D; it does not; or there is nothing to compare: a number and a record.
 pub enum Outcome {

@@ -1,5 +1,5 @@
 use mathlib.Core.Path.{sym, ap}
-use Rattle.cover.specs.Comparing.{outcomeNumbers}
+use Rattle.cover.specs.Given.{outcomeNumbers}
 use borrow.Author.Needs.{needs}
 use Rattle.checker_c.proofs.covering.outcome_numbers.Statement.{statement}
 use Rattle.checker_c.proofs.covering.outcome_numbers.Tie as tie

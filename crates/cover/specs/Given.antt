@@ -1,0 +1,16 @@
+-- The answer as the program gives it, in the ten numbers of document 02, Q-5.
+use mathlib.Core.List.{List, [], _∷_, _++_}
+use Prim.Native.Nat.{ℕ}
+use Rattle.cover.specs.declared.covering.Covering.{Covering}
+use Rattle.cover.specs.declared.covering.Outcome.{Outcome}
+use Rattle.cover.specs.declared.covering.Outcome.the-variants.{Yes, No, Refused}
+
+-- The outcome's three numbers: 1 yes, 0 no, 2 refused, with the reason and the record; and the seven literals after them.
+abbrev pub outcomeNumbers : Outcome → List ℕ
+outcomeNumbers Yes = 1 ∷ 0 ∷ 0 ∷ []
+outcomeNumbers No = 0 ∷ 0 ∷ 0 ∷ []
+outcomeNumbers (Refused number k) = 2 ∷ number ∷ k ∷ []
+
+abbrev pub coveringGiven : Covering → List ℕ
+coveringGiven r =
+    outcomeNumbers (r .outcome) ++ (r .first ∷ r .second ∷ r .third ∷ r .fourth ∷ r .fifth ∷ r .sixth ∷ r .seventh ∷ [])
