@@ -12,6 +12,7 @@ pub record AnswerIn (file : List ℕ) (before : Tables) (c d : ℕ) (answerBefor
   pub answer : Answer
   pub numbers : answerAfter ≡ tenNumbers answer ++ drop 10 answerBefore
   pub answered : Answered file before c d answer
+  pub only : (other : Answer) → Answered file before c d other → other ≡ answer
 
 pub record ExportedCovers (file : List ℕ) (before : Tables) (c d : ℕ) (answerBefore : List ℕ) (after : Tables) (answerAfter : List ℕ) : Type 0 where
   -- An answer slice of fewer than ten cells: it and every table are left as they were.

@@ -2,26 +2,26 @@
 use mathlib.Core.Path.{_≡_, refl, sym, ap, ap₂, _∙_, subst}
 use mathlib.Core.Logic.{_⊎_, inl, inr}
 use mathlib.Core.Bool.{Bool, true, false, _&&_}
-use mathlib.Core.Option.{Option, none, some}
+use mathlib.Core.Option.{none, some}
 use mathlib.Core.List.{List, [], _∷_}
 use Prim.Native.Nat.{ℕ, zero, suc, _+_, _-_, _*_, _/_, _%_, _≤_, _<_}
 use native.Mathlib.Omega.{arith}
-use lib.Dec.{eqb, leb, ltb, leb→le, le→leb, ltb→lt, lt→ltb}
+use lib.Dec.{eqb, leb, ltb, le→leb, lt→ltb}
 use lib.ListN.{length, getD, set, length-set}
 use lib.Seq.{getD-set-same, getD-set-other}
 use Rattle.record.specs.Record.{pick}
 use Rattle.unification.specs.Nodes.{part, HasRow}
-use Rattle.unification.specs.Term.{Term, var, apply}
-use Rattle.unification.proofs.Tests.{to-T, from-T, both-true, true-not-false, some-not-none, some-injective}
+use Rattle.unification.specs.Term.{Term, var}
+use Rattle.unification.proofs.Tests.{from-T, both-true, true-not-false, some-not-none, some-injective}
 use Rattle.derivation.specs.Derivation.{RowLiteral, literalOf, numbered}
 use Rattle.cover.specs.Comparing.{numbersFrom}
 use Rattle.cover.specs.Covering.{Substitution, Turns, Works, NotAfter}
 use Rattle.matching.specs.Pairs.{bit, isPair, leftNumber, rightNumber, Pairs, agreeAt, agreeFrom, goTogether, tableFilled}
 use Rattle.matching.specs.Searching.{pairChosen, fitsFrom, fits, searched}
-use Rattle.cover.proofs.Earliest.{SameTo, NotAfterFrom, FitFrom, Came, search-came}
-use Rattle.cover.proofs.PairLaws.{together, equal-test, PairTurns, PairCame, AllCame, room}
-use Rattle.cover.proofs.Solutions.{TermsOf, Noted}
-use Rattle.cover.proofs.Taking.{equal-to, differs, same-or-not, Holds}
+use Rattle.cover.proofs.Earliest.{NotAfterFrom, FitFrom, Came, search-came}
+use Rattle.cover.proofs.PairLaws.{together, equal-test, AllCame}
+use Rattle.cover.proofs.Solutions.{TermsOf}
+use Rattle.cover.proofs.Taking.{equal-to, differs, same-or-not}
 
 -- ── The tests of the table ──
 

@@ -1,7 +1,7 @@
 -- The ways out of the functions that compare two clauses, as the program takes them.
 use mathlib.Core.Path.{_≡_, refl, sym, ap, _∙_, subst}
 use mathlib.Core.Bool.{Bool, true, false, _&&_}
-use mathlib.Core.List.{List, [], _∷_, _++_}
+use mathlib.Core.List.{List, _∷_}
 use Prim.Native.Nat.{ℕ, _≤_, _<_}
 use native.Mathlib.Omega.{arith}
 use lib.Dec.{eqb, ltb, ltb→lt, lt→ltb}
@@ -17,6 +17,7 @@ use Rattle.cover.specs.Contract.{CoversAnswered}
 use Rattle.matching.specs.Pairs.{Pairs, pairsMatched, tableFilled}
 use Rattle.matching.specs.Searching.{searched}
 use Rattle.cover.specs.declared.covering.Covering as given
+use Rattle.cover.proofs.OneAnswer.{one-answer}
 use Rattle.cover.proofs.Comparisons.{refused-covering, refused-nothing, left-nothing, right-nothing, few-left, few-right, compared}
 
 -- What the search has come to, in the tables that were filled before it.
@@ -84,6 +85,7 @@ covers-answered F s₀ r₀ C₀ B₀ N₀ O₀ A₀ s₁ r₁ C₁ B₁ N₁ O�
       answer = X .answer;
       numbers = X .numbers;
       answered = X .answered;
+      only = λ other A. one-answer F (tablesWith s₀ r₀ C₀ B₀) c d other (X .answer) A (X .answered);
       symbols = K .checked .symbols;
       rows = K .checked .rows;
       clauses = K .checked .clauses;

@@ -1,46 +1,40 @@
 -- The ways in which two clauses are compared after a check, and that each gives the answer that is due.
 use mathlib.Core.Path.{_≡_, refl, sym, ap, ap₂, _∙_, subst}
-use mathlib.Core.Logic.{_⊎_, inl, inr}
-use mathlib.Core.Bool.{Bool, true, false, _&&_}
+use mathlib.Core.Bool.{Bool, true, false}
 use mathlib.Core.Option.{Option, none, some}
-use mathlib.Core.List.{List, [], _∷_, _++_}
-use Prim.Native.Nat.{ℕ, zero, suc, _+_, _-_, _*_, _/_, _%_, _≤_, _<_}
+use mathlib.Core.List.{List, _∷_, _++_}
+use Prim.Native.Nat.{ℕ, zero, suc, _+_, _-_, _/_, _≤_, _<_}
 use native.Mathlib.Omega.{arith}
 use lib.Dec.{eqb, ltb, ltb→lt, lt→ltb}
 use lib.ListN.{length, getD, replicate, length-replicate, length-map}
-use Rattle.record.specs.Record.{recordCount}
 use Rattle.unification.specs.Nodes.{part, HasRow}
 use Rattle.unification.specs.Term.{Term}
-use Rattle.unification.proofs.Tests.{to-T, from-T, both-true, true-not-false, some-injective}
+use Rattle.unification.proofs.Tests.{to-T, from-T, both-true, true-not-false}
 use Rattle.derivation.specs.Derivation.{input, RowLiteral, Derivation}
-use Rattle.derivation.specs.Ground.{Assignment}
 use Rattle.derivation.specs.Stored.{originCode, literalsCell}
-use Rattle.verdict.specs.Repeats.{termByNumbers}
-use Rattle.verdict.specs.Conditions.{TableShort}
-use Rattle.verdict.specs.Refusal.{Reason, reasonNumber}
-use Rattle.verdict.specs.State.{State, rowsOf, derivations, clauseOf, entry}
-use Rattle.verdict.specs.Step.{allStand, stateOf}
-use Rattle.verdict.specs.Tables.{Tables, lengthsOf, tablesAfter}
-use Rattle.verdict.specs.Verdict.{Verdict, accepted, open′, refusal, verdictNumbers, answerNumbers, check, Answer as Checked, Lengths, longEnough, fittingLength, ending, Stands, reading, standing, firstEmpty, everyClause, stateGiven, verdictOf}
+use Rattle.verdict.specs.Refusal.{Reason}
+use Rattle.verdict.specs.State.{State, derivations, clauseOf}
+use Rattle.verdict.specs.Step.{stateOf}
+use Rattle.verdict.specs.Tables.{Tables, lengthsOf}
+use Rattle.verdict.specs.Verdict.{Verdict, refusal, verdictNumbers, check, Answer as Checked, longEnough, ending, Stands, standing, firstEmpty, everyClause, stateGiven}
 use Rattle.verdict.proofs.Demanded.{not-refused, stands-check, tables-fail, long-enough}
 use Rattle.verdict.proofs.Inversions.{entry-some}
 use Rattle.verdict.proofs.Reading.{ending-stands, reading-records}
-use Rattle.answer.specs.Given.{verdictGiven, answerGiven}
+use Rattle.answer.specs.Given.{verdictGiven}
 use Rattle.answer.specs.declared.Answer as answer
 use Rattle.answer.specs.declared.Verdict as verdict
 use Rattle.answer.specs.declared.Verdict.the-variants as verdicts
-use Rattle.answer.proofs.GivenNumbers.{stateLeft, verdict-given, clauses-given}
-use Rattle.entry.specs.Progress.{Kept, ReadTo, tablesWith}
-use Rattle.checker.specs.Contract.{workspaceWith, CheckedWith}
+use Rattle.answer.proofs.GivenNumbers.{verdict-given, clauses-given}
+use Rattle.entry.specs.Progress.{ReadTo, tablesWith}
 use Rattle.cover.specs.Answering.{Answer, covers, coversNot, refusedWith, tenNumbers, Comparable, termIn, Answered}
-use Rattle.cover.specs.Comparing.{numbersFrom, comparisonNumbers, comparisonFrom, comparison, verdictStands, isInput, AfterCheck, CoveringOf, Compared}
-use Rattle.cover.specs.Given.{outcomeNumbers, coveringGiven}
-use Rattle.cover.specs.Covering.{Substitution, Works, AllInstancesTrue, NotAfter}
+use Rattle.cover.specs.Comparing.{numbersFrom, comparisonNumbers, comparisonFrom, comparison, verdictStands, isInput, AfterCheck, CoveringOf}
+use Rattle.cover.specs.Given.{coveringGiven}
+use Rattle.cover.specs.Covering.{Substitution, Works, NotAfter}
 use Rattle.matching.specs.Pairs.{Pairs, pairsMatched, tableFilled}
 use Rattle.matching.specs.Searching.{searched}
 use Rattle.cover.specs.declared.covering.Covering as given
-use Rattle.cover.proofs.Choices.{numbers-length, LiteralsAs, table-cell, Decided, decided}
-use Rattle.cover.proofs.Earliest.{Came, search-came}
+use Rattle.cover.proofs.Choices.{numbers-length, LiteralsAs, table-cell, decided}
+use Rattle.cover.proofs.Earliest.{search-came}
 use Rattle.cover.proofs.PairLaws.{together, equal-test, AllCame, pairs-came}
 use Rattle.cover.proofs.Solutions.{TermsOf}
 use Rattle.cover.proofs.StateTerms.{terms-of, InputHere, input-here, input-found}
@@ -151,10 +145,10 @@ covers-parts e = cc
 not-covers : {ns : List ℕ} → coversNot ≡ covers ns → ⊥
 not-covers e = let z : _≡_ {A = ℕ} 0 1 = cc in omega arith
 
-not-refused-yes : {ns : List ℕ} {n k : ℕ} → covers ns ≡ refusedWith n k → ⊥
+pub not-refused-yes : {ns : List ℕ} {n k : ℕ} → covers ns ≡ refusedWith n k → ⊥
 not-refused-yes e = let z : _≡_ {A = ℕ} 0 1 = cc in omega arith
 
-not-refused-no : {n k : ℕ} → coversNot ≡ refusedWith n k → ⊥
+pub not-refused-no : {n k : ℕ} → coversNot ≡ refusedWith n k → ⊥
 not-refused-no e = let z : _≡_ {A = ℕ} 0 1 = cc in omega arith
 
 -- What is due of one comparison is due of the file: there is one state and one list of literals for each clause.

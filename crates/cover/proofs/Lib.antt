@@ -6,4 +6,5 @@ pub mod Choices
 pub mod Truth
 pub mod StateTerms
 pub mod Comparisons
+pub mod OneAnswer
 pub mod CompareSteps

@@ -1,22 +1,22 @@
 -- The pairs of literals: which match, by which substitutions, and which two go together.
-use mathlib.Core.Path.{_≡_, refl, sym, ap, ap₂, _∙_, subst}
+use mathlib.Core.Path.{_≡_, refl, sym, ap, _∙_, subst}
 use mathlib.Core.Logic.{_⊎_, inl, inr}
 use mathlib.Core.Bool.{Bool, true, false, _&&_}
 use mathlib.Core.List.{List}
 use Prim.Native.Nat.{ℕ, zero, suc, _+_, _-_, _*_, _/_, _%_, _≤_, _<_}
 use native.Mathlib.Omega.{arith}
-use lib.Dec.{eqb, leb, ltb, eqb-refl, leb→le, le→leb, ltb→lt, lt→ltb}
+use lib.Dec.{eqb, leb, ltb, eqb-refl, leb→le, ltb→lt}
 use lib.ListN.{length, getD, set, length-set}
 use lib.Seq.{getD-set-same, getD-set-other}
 use Rattle.record.specs.Record.{pick}
-use Rattle.unification.specs.Nodes.{part, HasRow, NodesOk}
-use Rattle.unification.specs.Term.{Term, apply}
+use Rattle.unification.specs.Nodes.{part, HasRow}
+use Rattle.unification.specs.Term.{Term}
 use Rattle.unification.proofs.Tests.{to-T, from-T, both-true, true-not-false}
-use Rattle.derivation.specs.Derivation.{RowLiteral, literalOf}
+use Rattle.derivation.specs.Derivation.{literalOf}
 use Rattle.cover.specs.Covering.{Substitution, Turns}
 use Rattle.matching.specs.Matching.{atomsMatched}
-use Rattle.matching.specs.Pairs.{bit, isPair, leftNumber, rightNumber, numbersMatched, pairMatched, Pairs, foundPair, pairsMatched, agreeAt, agreeFrom, goTogether, tableFilled}
-use Rattle.cover.proofs.Solutions.{TermsOf, Equation, Noted, AtomsCame, atoms-came}
+use Rattle.matching.specs.Pairs.{bit, isPair, leftNumber, rightNumber, numbersMatched, pairMatched, Pairs, foundPair, pairsMatched}
+use Rattle.cover.proofs.Solutions.{TermsOf, Noted, AtomsCame, atoms-came}
 use Rattle.cover.proofs.Taking.{equal-to, differs, same-or-not, Holds}
 
 -- Tests as what they are for.

@@ -2,18 +2,17 @@
 -- its noted image, or there is none.
 use mathlib.Core.Path.{_≡_, refl, sym, ap, ap₂, _∙_, subst}
 use mathlib.Core.Logic.{_⊎_, inl, inr}
-use mathlib.Core.Bool.{Bool, true, false, _&&_}
-use mathlib.Core.List.{List, [], _∷_}
+use mathlib.Core.Bool.{Bool, true, false}
+use mathlib.Core.List.{List}
 use Prim.Native.Nat.{ℕ, zero, suc, _+_, _-_, _*_, _≤_, _<_}
 use native.Mathlib.Omega.{arith}
-use lib.Dec.{eqb, eqb→eq, eqb-refl}
-use lib.ListN.{length, getD, set, replicate, getD-replicate, length-replicate}
-use lib.Seq.{getD-set-same, getD-set-other}
+use lib.Dec.{eqb, eqb-refl}
+use lib.ListN.{length, getD, set, replicate, length-replicate}
 use Rattle.record.specs.Record.{pick}
 use Rattle.unification.specs.Nodes.{isVariable, part, nodeArity, HasRow, hasRow, argumentsFrom, NodesOk}
 use Rattle.unification.specs.Row.{argumentTerms}
 use Rattle.unification.specs.Term.{Term, Terms, var, app, nil, cons, apply, applyAll}
-use Rattle.unification.proofs.Tests.{to-T, from-T, both-true, true-not-false}
+use Rattle.unification.proofs.Tests.{from-T, both-true, true-not-false}
 use Rattle.cover.specs.Covering.{Substitution}
 use Rattle.matching.specs.Matching.{andThen, imaged, sameHead, argumentsImaged, Images, withNotes, withRows, rowMatched, ifImaged, rowsMatched, notesOf, atomsMatched}
 use Rattle.cover.proofs.Taking.{equal-to, differs, same-or-not, Holds, Taken, taken}

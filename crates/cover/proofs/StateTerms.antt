@@ -14,7 +14,6 @@ use Rattle.unification.specs.Row.{variable, Row, application, rowAt}
 use Rattle.unification.proofs.Lists.{Each}
 use Rattle.unification.proofs.Repeats.{one-earliest}
 use Rattle.unification.proofs.Rows.{below-other}
-use Rattle.unification.proofs.Tests.{true-not-false}
 use Rattle.derivation.specs.Derivation.{literals, input, RowLiteral, literalOf, Derivation, numbered, placed}
 use Rattle.derivation.specs.Stored.{originCode, originNumbers, literalsCell, Stored, storedInput, storedResolve, storedFactor}
 use Rattle.derivation.proofs.Literals.{map-numbered, each-numbered}

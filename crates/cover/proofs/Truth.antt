@@ -1,6 +1,6 @@
 -- A clause that covers another is at least as strong: where all its variable-free instances are true, all those of the other are.
 use mathlib.Core.Path.{_≡_, refl, sym, ap, _∙_, subst}
-use mathlib.Core.Logic.{_⊎_, inl, inr}
+use mathlib.Core.Logic.{inl, inr}
 use mathlib.Core.Option.{some}
 use mathlib.Core.List.{List, [], _∷_}
 use Prim.Native.Nat.{ℕ, zero, suc}
@@ -9,7 +9,7 @@ use Rattle.unification.proofs.Terms.{apply-apply}
 use Rattle.unification.proofs.Tests.{some-not-none, some-injective}
 use Rattle.derivation.specs.Derivation.{RowLiteral, numbered}
 use Rattle.derivation.specs.Ground.{Ground, Assignment, SomeTrue}
-use Rattle.cover.specs.Covering.{Substitution, Turns, Works, instanceOf, AllInstancesTrue}
+use Rattle.cover.specs.Covering.{Substitution, Works, instanceOf, AllInstancesTrue}
 
 module _ (term : ℕ → Term ℕ) (A : Assignment) where
   -- A true literal makes an instance true.

@@ -1,7 +1,7 @@
 -- Document 02, Q-5: the answer to whether input clause c of a file covers input clause d, and what is promised of it.
 use mathlib.Core.Path.{_≡_}
 use mathlib.Core.Option.{some}
-use mathlib.Core.List.{List, [], _∷_, _++_}
+use mathlib.Core.List.{List, _∷_, _++_}
 use Prim.Native.Nat.{ℕ, _-_}
 use lib.ListN.{length, replicate}
 use Rattle.unification.specs.Term.{Term}

@@ -1,7 +1,7 @@
 -- How the program compares two clauses after a check: the contracts of its inner functions. No promise of the crate needs this file.
 use mathlib.Core.Path.{_≡_}
 use mathlib.Core.Bool.{Bool, true, false, _&&_}
-use mathlib.Core.List.{List, [], _∷_, _++_}
+use mathlib.Core.List.{List, [], _∷_}
 use Prim.Native.Nat.{ℕ, zero, suc}
 use lib.Dec.{eqb, ltb}
 use lib.ListN.{getD, replicate}
@@ -14,7 +14,7 @@ use Rattle.answer.specs.declared.Verdict as verdict
 use Rattle.answer.specs.declared.Verdict.the-variants as verdicts
 use Rattle.cover.specs.Answering.{Answer, tenNumbers, Answered}
 use Rattle.cover.specs.Given.{coveringGiven}
-use Rattle.matching.specs.Pairs.{Pairs, pairsMatched, tableFilled}
+use Rattle.matching.specs.Pairs.{pairsMatched, tableFilled}
 use Rattle.matching.specs.Searching.{searched}
 use Rattle.cover.specs.declared.covering.Covering.{Covering}
 

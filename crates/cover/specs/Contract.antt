@@ -12,6 +12,8 @@ pub record CoversAnswered (file : List ℕ) (before : Tables) (c d : ℕ) (r : C
   pub answer : Answer
   pub numbers : coveringGiven r ≡ tenNumbers answer
   pub answered : Answered file before c d answer
+  -- Of no other answer is all that true: every number is decided.
+  pub only : (other : Answer) → Answered file before c d other → other ≡ answer
   -- Each table, cell by cell, as the check leaves it.
   pub symbols : after .symbols ≡ tablesAfter file before .symbols
   pub rows : after .rows ≡ tablesAfter file before .rows

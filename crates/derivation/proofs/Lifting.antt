@@ -1,15 +1,15 @@
 -- Variable-free instances of two clauses are instances by one unifier, so that what they resolve to is an instance of the resolvent.
-use mathlib.Core.Path.{_≡_, refl, sym, ap, ap₂, _∙_, subst}
+use mathlib.Core.Path.{_≡_, refl, sym, ap, ap₂, _∙_}
 use mathlib.Core.Bool.{Bool, not}
-use mathlib.Core.Option.{none, some}
+use mathlib.Core.Option.{some}
 use mathlib.Core.List.{List, [], _∷_, _++_, map}
-use Prim.Native.Nat.{ℕ, zero, suc, _+_, _-_, _≤_, _<_}
+use Prim.Native.Nat.{ℕ, zero, suc, _+_, _-_, _≤_}
 use native.Mathlib.Omega.{arith}
 use lib.Dec.{leb}
 use Rattle.record.specs.Record.{pick}
 use Rattle.unification.specs.Row.{Variable}
-use Rattle.unification.specs.Term.{Term, apply, Variables}
-use Rattle.unification.specs.Unifier.{TermPair, Unifies}
+use Rattle.unification.specs.Term.{Term, apply}
+use Rattle.unification.specs.Unifier.{Unifies}
 use Rattle.unification.proofs.Lists.{map-map, map-append}
 use Rattle.unification.proofs.Terms.{apply-ext, apply-apply, apply-agree, variables-more}
 use Rattle.unification.proofs.Tests.{some-not-none, some-injective}

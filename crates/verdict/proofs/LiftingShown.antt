@@ -2,14 +2,14 @@
 -- one unifier of the named atoms, so (b) leaves no 10 or 11, and (a) makes it an instance of the most general one.
 use mathlib.Core.Path.{_≡_, refl, sym, ap, ap₂, _∙_, subst}
 use mathlib.Core.Bool.{Bool, not}
-use mathlib.Core.Option.{Option, some}
+use mathlib.Core.Option.{some}
 use mathlib.Core.List.{List, [], _∷_, map}
 use Prim.Native.Nat.{ℕ}
 use native.Mathlib.Omega.{arith}
-use Rattle.record.specs.Record.{Record, kindNumbered, fieldA, fieldB, fieldC}
+use Rattle.record.specs.Record.{Record, fieldA, fieldB, fieldC}
 use Rattle.unification.specs.Row.{Variable}
 use Rattle.unification.specs.Term.{Term, apply}
-use Rattle.unification.specs.Unifier.{TermPair, Unifies}
+use Rattle.unification.specs.Unifier.{Unifies}
 use Rattle.unification.proofs.Lists.{map-map}
 use Rattle.unification.proofs.Tests.{some-injective}
 use Rattle.derivation.specs.Derivation.{literals, Literal, Derivation, numbered, numberedAll, maximumIndex}
@@ -20,12 +20,11 @@ use Rattle.derivation.specs.Written.{written, substitution, renamed, writtenLit
 use Rattle.derivation.proofs.Lifting.{numbered-back, numbered-all-back, bothValues, unifies-all, left-under, rights-under, resolvent-lifted, factor-lifted}
 use Rattle.derivation.proofs.Literals.{In, literals-in}
 use Rattle.derivation.proofs.Resolvents.{clause-in}
-use Rattle.verdict.specs.Conditions.{OneOf, RightLiterals, Resolves, Factors}
-use Rattle.verdict.specs.Demands.{Reached, atomOf, StepAtoms, resolveAtoms, factorAtoms, ResolventAdded, FactorAdded}
+use Rattle.verdict.specs.Conditions.{RightLiterals, Resolves}
+use Rattle.verdict.specs.Demands.{Reached, atomOf, resolveAtoms, factorAtoms, ResolventAdded, FactorAdded}
 use Rattle.verdict.specs.Lifting.{NotLost, NothingLost}
-use Rattle.verdict.specs.Refusal.{Reason, reasonNumber}
 use Rattle.verdict.specs.State.{State, withClause, clauseOf, rowOf, termOf}
-use Rattle.verdict.specs.Step.{stands, refused, step}
+use Rattle.verdict.specs.Step.{step}
 use Rattle.verdict.proofs.Demanded.{demand2}
 use Rattle.verdict.proofs.Reading.{reached-ok, term-of-row}
 use Rattle.verdict.proofs.Standing.{order-of}
