@@ -6,6 +6,7 @@ pub mod compare;
 pub mod covers;
 pub mod files;
 pub mod pieces;
+pub mod questions;
 pub mod rounds;
 pub mod services;
 

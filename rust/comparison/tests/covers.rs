@@ -9,6 +9,7 @@ use yestrwyn::exported::covers_numbers;
 use yestrwyn::{covers, covers_here, covers_into, Cells, Covering, Tables, COVERING_CELLS, LENGTHS};
 use yestrwyn_comparison::compare::{file_of, lengths_of, Lengths};
 use yestrwyn_comparison::covers::{for_covering, Clauses, Coverings};
+use yestrwyn_comparison::questions::questions;
 use yestrwyn_vectors::examples::cases;
 use yestrwyn_vectors::random::SplitMix64;
 use yestrwyn_vectors::stored::groups;
@@ -88,6 +89,19 @@ fn random_and_damaged_files() {
         }
         let [no, yes, refused] = both.met;
         assert!(no > 3000 && yes > 2000 && refused > 3000, "{:?}", both.met);
+    });
+}
+
+#[test]
+fn comparisons_made_to_take_long() {
+    with_stack(|| {
+        let mut both = Both::default();
+        for question in questions() {
+            let [c, d] = question.clauses;
+            both.all(&question.name, &question.file, &[[c, d], [d, c], [c, c], [d, d]]);
+        }
+        let [no, yes, refused] = both.met;
+        assert!(no > 4 && yes > 8 && refused == 0, "{:?}", both.met);
     });
 }
 
