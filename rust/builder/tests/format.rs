@@ -7,6 +7,7 @@ use yestrwyn_types::limits::{
     ARITY, BINDINGS, BINDING_CELLS, CLAUSE_CELLS, FILE_BYTES, INDEX, INPUT_LITERALS, LITERALS, OUTLINE_PAIRS,
     READOUT_OCCURRENCES, RECORDS, RIGHT_LITERALS, ROW_CELLS, SYMBOL_CELLS, VARIABLES, WORK,
 };
+use yestrwyn_types::Reason;
 
 /// A number with a comma before its last three digits, if it has more.
 fn written(number: usize) -> String {
@@ -41,8 +42,9 @@ fn the_readout_of_the_worked_example_is_quoted() {
 fn every_refusal_has_its_line() {
     let guide = text("docs/FORMAT.md");
     let numbers: Vec<&str> = cells(section(&guide, "Refusals")).map(|row| row.0).skip(1).collect();
-    let right: Vec<String> = (1..=14).map(|number: u8| number.to_string()).collect();
-    assert_eq!(numbers, right);
+    // Those of the reasons that have a name.
+    let named = (0..=u16::MAX).filter(|&number| !matches!(Reason::from_number(number), Reason::Other(_)));
+    assert_eq!(numbers, named.map(|number| number.to_string()).collect::<Vec<_>>());
 }
 
 #[test]

@@ -7,8 +7,8 @@ use yestrwyn::exported::check_numbers;
 use yestrwyn_types::{Tables, ANSWER_CELLS, LENGTHS};
 use yestrwyn_vectors::random::SplitMix64;
 use yestrwyn_vectors::repeating::rows_at_random;
-use yestrwyn_vectors::{clashing_file, clashing_several_file, damage, random_file, random_file_of};
-use yestrwyn_vectors::{repeating_file, several_file, several_file_of};
+use yestrwyn_vectors::{clashing_file, clashing_several_file, covering_file, damage, random_file};
+use yestrwyn_vectors::{random_file_of, repeating_file, several_file, several_file_of};
 
 use crate::services::Services;
 
@@ -131,11 +131,11 @@ pub(crate) fn differ(part: &'static str, proved: &[u16], second: &[u16]) -> Resu
 }
 
 /// The file of a number within a run: random files, damaged ones, longer ones, clashing ones, ones with repeated
-/// rows, any bytes, and the same with steps on several right literals.
+/// rows, any bytes, the same with steps on several right literals, and files of clauses that cover one another.
 pub fn file_of(seed: u64) -> Vec<u8> {
     let mut random = SplitMix64::new(seed);
     let own = random.next_u64();
-    match random.below(28) {
+    match random.below(32) {
         0..=6 => random_file(own),
         7..=10 => damage(&random_file(own), random.next_u64()),
         11 | 12 => damage(&damage(&random_file(own), random.next_u64()), random.next_u64()),
@@ -151,7 +151,9 @@ pub fn file_of(seed: u64) -> Vec<u8> {
         24 => several_file_of(own, random.between(60, 300)),
         25 => rows_at_random(&several_file(own), random.next_u64()).file,
         26 => clashing_several_file(own),
-        _ => damage(&clashing_several_file(own), random.next_u64()),
+        27 => damage(&clashing_several_file(own), random.next_u64()),
+        28..=30 => covering_file(own),
+        _ => damage(&covering_file(own), random.next_u64()),
     }
 }
 

@@ -1,10 +1,12 @@
-//! The proved check, plain and for services, and the proved readout compared with the second implementation:
-//! every answer, every cell and every byte; and the time that they take.
+//! The proved check, plain and for services, the proved readout and which clause covers which, compared with the
+//! second implementation: every answer, every cell and every byte; and the time that they take.
 
 pub mod clock;
 pub mod compare;
+pub mod covers;
 pub mod files;
 pub mod pieces;
+pub mod questions;
 pub mod rounds;
 pub mod services;
 

@@ -16,14 +16,23 @@ pub struct Rounds {
 impl Rounds {
     /// Times both in every round; in every second round the other one goes first.
     pub fn take(mut ours: impl FnMut() -> Duration, mut theirs: impl FnMut() -> Duration) -> Rounds {
-        let mut rounds = Rounds { ours: Vec::new(), theirs: Vec::new() };
+        let [rounds] = Rounds::take_parts(|| [ours()], || [theirs()]);
+        rounds
+    }
+
+    /// The same where each is timed in several ways: the rounds of each way.
+    pub fn take_parts<const WAYS: usize>(
+        mut ours: impl FnMut() -> [Duration; WAYS],
+        mut theirs: impl FnMut() -> [Duration; WAYS],
+    ) -> [Rounds; WAYS] {
+        let mut rounds = [(); WAYS].map(|()| Rounds { ours: Vec::new(), theirs: Vec::new() });
         for round in 0..ROUNDS {
-            if round % 2 == 0 {
-                rounds.ours.push(ours());
-            }
-            rounds.theirs.push(theirs());
-            if round % 2 == 1 {
-                rounds.ours.push(ours());
+            let first = (round % 2 == 0).then(&mut ours);
+            let other = theirs();
+            let own = first.unwrap_or_else(&mut ours);
+            for (way, (own, other)) in rounds.iter_mut().zip(own.into_iter().zip(other)) {
+                way.ours.push(own);
+                way.theirs.push(other);
             }
         }
         rounds
@@ -47,8 +56,19 @@ impl Rounds {
         let [_, theirs] = self.least();
         let ratios = self.ratios();
         let (least, most) = (ratios[0], ratios[ratios.len() - 1]);
-        let middle = (ratios[(ratios.len() - 1) / 2] + ratios[ratios.len() / 2]) / 2.0;
-        format!("{} | {middle:.2} | {least:.2} to {most:.2}", shown(theirs))
+        format!("{} | {:.2} | {least:.2} to {most:.2}", shown(theirs), middle(&ratios))
+    }
+
+    /// Three cells of a table: the middle time of each, and the ratio of these. For times that are differences, of which
+    /// the least says little.
+    pub fn middles(&self) -> String {
+        let [ours, theirs] = [&self.ours, &self.theirs].map(|times| {
+            let mut seconds: Vec<f64> = times.iter().map(Duration::as_secs_f64).collect();
+            seconds.sort_by(f64::total_cmp);
+            middle(&seconds)
+        });
+        let [own, other] = [ours, theirs].map(|seconds| shown(Duration::from_secs_f64(seconds)));
+        format!("{own} | {other} | {:.2}", ours / theirs)
     }
 
     /// The rounds of several lines taken together, as one line.
@@ -58,6 +78,11 @@ impl Rounds {
         };
         Rounds { ours: total(|line| &line.ours), theirs: total(|line| &line.theirs) }
     }
+}
+
+/// The middle one of numbers that are in order, or the mean of the middle two.
+fn middle(numbers: &[f64]) -> f64 {
+    (numbers[(numbers.len() - 1) / 2] + numbers[numbers.len() / 2]) / 2.0
 }
 
 /// Four cells of a table: our time and those of [`Rounds::beside`].

@@ -3,11 +3,13 @@
 use std::mem::size_of;
 
 use yestrwyn::exported::{check_numbers, check_numbers_with, Arrays, Nodes, Origins, Values};
-use yestrwyn::exported::{readout_numbers, PROGRESS_CELLS};
+use yestrwyn::exported::{covers_numbers, readout_numbers, PROGRESS_CELLS};
 use yestrwyn::{Tables, LENGTHS};
 use yestrwyn_comparison::compare::file_of;
-use yestrwyn_types::{Cells, ANSWER_CELLS};
+use yestrwyn_comparison::covers::Clauses;
+use yestrwyn_types::{Cells, ANSWER_CELLS, COVERING_CELLS};
 use yestrwyn_vectors::examples::{cases, edges, published, refusals};
+use yestrwyn_vectors::random::SplitMix64;
 
 /// Cells before, between and after the parts.
 const MARGIN: usize = 40;
@@ -166,4 +168,26 @@ fn the_readout_stays_inside_what_it_was_lent() {
         }
     };
     yestrwyn::with_stack(read).expect("a thread");
+}
+
+#[test]
+fn covers_stays_inside_what_it_was_lent() {
+    let compare = || {
+        let mut random = SplitMix64::new(3);
+        for file in files() {
+            let lent = in_the_middle(&file);
+            for [c, d] in [Clauses::of(&file).some_two(&mut random), [0, 0]] {
+                let mut buffer = buffer();
+                let [symbols, rows, clauses, bindings, _] = parts(&mut buffer);
+                let mut tables = Tables { symbols, rows, clauses, bindings };
+                let mut answer = [7; COVERING_CELLS + 4];
+                let middle = 2..2 + COVERING_CELLS;
+                covers_numbers(&lent[64..64 + file.len()], c, d, &mut tables, &mut answer[middle.clone()]);
+                assert!(margins_hold(&buffer));
+                assert_eq!(answer[middle], yestrwyn_second::covers(&file, c, d).numbers());
+                assert_eq!((&answer[..2], &answer[2 + COVERING_CELLS..]), (&[7; 2][..], &[7; 2][..]));
+            }
+        }
+    };
+    yestrwyn::with_stack(compare).expect("a thread");
 }

@@ -6,10 +6,10 @@ use std::mem::size_of;
 use std::slice;
 
 use yestrwyn::exported::{check_numbers_with, Arrays, Nodes, Origins, Values};
-use yestrwyn::{check_here, readout_piece_here, Cells, Rest, Tables, ENOUGH, LENGTHS};
+use yestrwyn::{check_here, covers_here, readout_piece_here, Cells, Rest, Tables, ENOUGH, LENGTHS};
 use yestrwyn_types::ANSWER_CELLS;
 use yestrwyn_vectors::examples::{cases, deep, edges, published};
-use yestrwyn_vectors::random_file;
+use yestrwyn_vectors::{covering_file, random_file};
 
 const PAGE: usize = 4096;
 
@@ -71,7 +71,8 @@ enum Place {
     Last,
 }
 
-/// Checks and reads out a file that lies against an unreadable page, with tables that fill their pages.
+/// Checks a file that lies against an unreadable page, reads it out and compares its first clauses, with tables that fill
+/// their pages.
 fn same(name: &str, file: &[u8], place: Place) {
     let mut pages = Guarded::new(file.len());
     let free = pages.bytes().len() - file.len();
@@ -91,6 +92,10 @@ fn same(name: &str, file: &[u8], place: Place) {
     let text = yestrwyn_second::readout(file);
     assert!(text.starts_with(&output.bytes()[..piece.written]), "{name} {place:?}");
     assert_eq!(piece.rest == Rest::Complete, piece.written == text.len(), "{name} {place:?}");
+    for (c, d) in [(0, 0), (0, 1), (1, 0)] {
+        let covering = yestrwyn_second::covers(file, c, d);
+        assert_eq!(covers_here(lent, c, d, &mut tables), covering, "{c} and {d} of {name} {place:?}");
+    }
     let Tables { symbols, rows, clauses, bindings } = tables;
     let cells = [&second.symbols, &second.rows, &second.clauses, &second.bindings];
     assert!([symbols, rows, clauses, bindings].into_iter().eq(cells), "{name} {place:?}");
@@ -129,6 +134,7 @@ fn files_and_tables_beside_unreadable_pages() {
         }
         for seed in 0..200 {
             same(&format!("seed {seed}"), &random_file(seed), Place::Last);
+            same(&format!("covering {seed}"), &covering_file(seed), Place::Last);
         }
     };
     yestrwyn::with_stack(compare).expect("a thread");

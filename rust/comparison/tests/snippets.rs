@@ -1,9 +1,12 @@
-//! The programs that the guide to the format quotes compile, and print what the stored readouts say.
+//! The programs that the guide to the format quotes compile, and print what the stored readouts say; so does the program
+//! in C that asks which clause covers which.
 
 use std::fs;
 use std::path::{Path, PathBuf};
 use std::process::{Command, Stdio};
 use std::sync::OnceLock;
+
+use yestrwyn::{Covering, Outcome};
 
 #[allow(dead_code)]
 #[path = "../../yestrwyn/examples/check.rs"]
@@ -53,6 +56,12 @@ fn service_program() -> &'static Path {
     PROGRAM.get_or_init(|| compiled("service"))
 }
 
+/// The program `covers`, compiled once.
+fn covers_program() -> &'static Path {
+    static PROGRAM: OnceLock<PathBuf> = OnceLock::new();
+    PROGRAM.get_or_init(|| compiled("covers"))
+}
+
 /// Compiles a program of `snippets` against the library and returns where it lies.
 fn compiled(name: &str) -> PathBuf {
     let program = Path::new(env!("CARGO_TARGET_TMPDIR")).join(name);
@@ -70,8 +79,13 @@ fn compiled(name: &str) -> PathBuf {
 
 /// What a program prints for an example.
 fn printed(program: &Path, example: &str) -> String {
+    printed_with(program, &[], example)
+}
+
+/// The same with arguments.
+fn printed_with(program: &Path, words: &[String], example: &str) -> String {
     let file = fs::File::open(path(&format!("examples/{example}.proof"))).expect("a stored example");
-    let output = Command::new(program).stdin(Stdio::from(file)).output().expect("it runs");
+    let output = Command::new(program).args(words).stdin(Stdio::from(file)).output().expect("it runs");
     assert!(output.status.success());
     String::from_utf8(output.stdout).expect("text")
 }
@@ -92,17 +106,59 @@ fn the_readout_from_c() {
     }
 }
 
+/// The line that the program `covers` is to print.
+fn line_of(covering: &Covering) -> String {
+    match covering.outcome {
+        Outcome::Yes => {
+            let chosen = covering.literals.iter().filter(|&&literal| literal != 0);
+            chosen.fold("yes".to_string(), |line, literal| format!("{line} {literal}")) + "\n"
+        }
+        Outcome::No => "no\n".to_string(),
+        Outcome::Refused { reason, record } => format!("refused {} at {record}\n", reason.number()),
+    }
+}
+
+#[test]
+fn covers_from_c() {
+    let mut lines = Vec::new();
+    for example in EXAMPLES {
+        let file = fs::read(path(&format!("examples/{example}.proof"))).expect("a stored example");
+        for (c, d) in (0..5).flat_map(|c| (0..5).map(move |d| (c, d))).chain([(0, u16::MAX)]) {
+            let line = printed_with(covers_program(), &[c, d].map(|word: u16| word.to_string()), example);
+            assert_eq!(line, line_of(&yestrwyn_second::covers(&file, c, d)), "{c} and {d} of {example}");
+            assert_eq!(line, line_of(&yestrwyn::covers(&file, c, d).expect("a thread")));
+            lines.push(line);
+        }
+    }
+    for line in ["yes 2 1\n", "yes 1 2\n", "no\n", "refused 15 at 0\n"] {
+        assert!(lines.iter().any(|printed| printed == line), "{line}");
+    }
+}
+
+/// Words that are no numbers of clauses, and more of them or fewer than two.
+#[test]
+fn words_that_are_no_clauses() {
+    for words in ["", "0", "0 1 2", "x 0", "0 1x", "-1 0", "65536 0", "0 99999999999999999999"] {
+        let mut program = Command::new(covers_program());
+        let output = program.args(words.split_whitespace()).stdin(Stdio::null()).output().expect("it runs");
+        assert!(!output.status.success() && output.stdout.is_empty(), "{words}");
+        assert!(String::from_utf8_lossy(&output.stderr).starts_with("usage: "), "{words}");
+    }
+}
+
 /// Reading a folder fails, and writing to a full device: neither ends like a verdict.
 #[test]
 fn failed_reads_and_writes_from_c() {
-    for program in programs() {
+    let others = programs().iter().map(|program| (program.as_path(), [].as_slice()));
+    for (program, words) in others.chain([(covers_program(), ["0", "0"].as_slice())]) {
         let folder = fs::File::open(path("examples")).expect("the folder");
-        let read = Command::new(program).stdin(Stdio::from(folder)).output().expect("it runs");
+        let read = Command::new(program).args(words).stdin(Stdio::from(folder)).output().expect("it runs");
         assert!(!read.status.success() && read.stdout.is_empty(), "{}", program.display());
         assert!(String::from_utf8_lossy(&read.stderr).starts_with("standard input: "));
         let file = fs::File::open(path("examples/duty.proof")).expect("a stored example");
         let full = fs::File::options().write(true).open("/dev/full").expect("a full device");
         let written = Command::new(program)
+            .args(words)
             .stdin(Stdio::from(file))
             .stdout(Stdio::from(full))
             .stderr(Stdio::piped())

@@ -3,8 +3,8 @@
 use std::io;
 use std::thread::Builder;
 
-use yestrwyn::{check, check_into, readout, readout_piece, write_readout, write_readout_here};
-use yestrwyn::{Cells, Rest, Workspace, ENOUGH};
+use yestrwyn::{check, check_into, covers, covers_into, readout, readout_piece};
+use yestrwyn::{write_readout, write_readout_here, Cells, Rest, Workspace, ENOUGH};
 use yestrwyn_vectors::examples::deep;
 
 /// Runs something on a thread of 128 KiB. A test's own thread has 2 MiB, and the check alone takes more
@@ -22,6 +22,7 @@ fn the_deepest_files_on_a_small_thread() {
         let (file, mut cells, mut second) = (&example.file, Cells::new(), Cells::new());
         let expected = yestrwyn_second::check_into(file, &mut second.lend());
         let text = yestrwyn_second::readout(file);
+        let covering = yestrwyn_second::covers(file, 0, 0);
         on_a_small_thread(|| {
             assert_eq!(check(file).expect("an answer"), expected);
             assert_eq!(check_into(file, &mut cells.lend()).expect("an answer"), expected);
@@ -30,6 +31,8 @@ fn the_deepest_files_on_a_small_thread() {
             let mut output = vec![0; ENOUGH.max(text.len())];
             let piece = readout_piece(file, &mut cells.lend(), 0, &mut output).expect("a piece");
             assert!(piece.rest == Rest::Complete && output[..piece.written] == text);
+            assert_eq!(covers(file, 0, 0).expect("an answer"), covering);
+            assert_eq!(covers_into(file, 0, 0, &mut cells.lend()).expect("an answer"), covering);
         });
         assert!(cells == second, "{}", example.name);
     }

@@ -3,9 +3,11 @@
 //! All run on the caller's stack; [`check_here`](crate::check_here) says how much it must have.
 
 mod check;
+mod covers;
 mod readout;
 mod services;
 
 pub use check::check_numbers;
+pub use covers::covers_numbers;
 pub use readout::{readout_numbers, PROGRESS_CELLS};
 pub use services::{check_numbers_with, Arrays, Nodes, Origins, Values};

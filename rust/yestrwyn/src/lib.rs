@@ -1,4 +1,4 @@
-//! The proved check and readout of resolution proof files.
+//! The proved check and readout of resolution proof files, and which of their clauses covers which.
 //!
 //! ```no_run
 //! let file = std::fs::read("trip.proof")?;
@@ -12,22 +12,26 @@
 //! package hands slices to them and turns numbers into values; it is not proved, and it is the only
 //! one of this folder that calls them.
 //!
-//! [`check()`] and [`readout()`] take care of the stack themselves. Functions that end in `_here` run on
-//! the caller's, and say how much of it they need. A service that checks many files keeps a [`Workspace`].
+//! [`check()`], [`readout()`] and [`covers()`] take care of the stack themselves. Functions that end in `_here`
+//! run on the caller's, and say how much of it they need. A service that checks many files keeps a
+//! [`Workspace`].
 
 #![warn(missing_docs)]
 
 pub mod exported;
 
 mod check;
+mod cover;
 mod readout;
 mod stack;
 mod workspace;
 
 pub use check::{check, check_here, check_into};
+pub use cover::{covers, covers_here, covers_into};
 pub use readout::{
     readout, readout_piece, readout_piece_here, write_readout, write_readout_here, Piece, Rest, ENOUGH,
 };
 pub use stack::{with_stack, STACK};
 pub use workspace::Workspace;
-pub use yestrwyn_types::{limits, Answer, Cells, Reason, Tables, Verdict, LENGTHS};
+pub use yestrwyn_types::{limits, Answer, Cells, Covering, Outcome, Reason, Tables, Verdict};
+pub use yestrwyn_types::{COVERING_CELLS, LENGTHS};

@@ -1,26 +1,32 @@
-//! Compares the proved check, plain and for services, and the proved readout with the second implementation on
-//! files from a seed on:
+//! Compares the proved check, plain and for services, the proved readout and which clause covers which with the
+//! second implementation on files from a seed on:
 //!
 //! ```text
 //! differential SEED COUNT
 //! ```
 //!
 //! All files are checked for services with one workspace. Of each readout it takes two pieces: the first with
-//! room for every line, and one from any clause with any room. Prints one line; at the first difference it
-//! prints the file in hexadecimal and ends with 1.
+//! room for every line, and one from any clause with any room. Of the clauses of each file it compares two pairs.
+//! Prints one line; at the first difference it prints the file in hexadecimal and ends with 1.
 
 use std::process::ExitCode;
 
 use yestrwyn::with_stack;
-use yestrwyn_comparison::compare::{file_of, lengths_of, Lengths, Pair};
+use yestrwyn_comparison::compare::{file_of, lengths_of, Pair};
+use yestrwyn_comparison::covers::{for_covering, Clauses, Coverings};
 use yestrwyn_comparison::pieces::Second;
 use yestrwyn_vectors::random::SplitMix64;
 
-/// How many files gave each kind of answer, and how many had no room for one.
+/// Pairs of clauses that are compared of each file.
+const PAIRS: usize = 2;
+
+/// How many files gave each kind of answer, and how many had no room for one; and the same of the pairs of clauses.
 #[derive(Default)]
 struct Tally {
     kinds: [u64; 3],
     untouched: u64,
+    coverings: [u64; 3],
+    coverings_untouched: u64,
     bytes: u64,
 }
 
@@ -38,33 +44,56 @@ fn main() -> ExitCode {
 }
 
 fn run(seed: u64, count: u64) -> ExitCode {
-    let mut pair = Pair::default();
-    let mut tally = Tally::default();
+    let (mut both, mut tally) = (Both::default(), Tally::default());
     for place in 0..count {
         let own = seed.wrapping_add(place);
-        let (file, lengths) = (file_of(own), lengths_of(own));
+        let file = file_of(own);
         tally.bytes += file.len() as u64;
-        match both(&mut pair, &file, lengths, own) {
-            Ok(Some(kind)) => tally.kinds[usize::from(kind).min(2)] += 1,
-            Ok(None) => tally.untouched += 1,
-            Err(difference) => {
-                let hex: String = file.iter().map(|byte| format!("{byte:02x}")).collect();
-                println!("seed {own}: {difference}; {lengths:?}; file {hex}");
-                return ExitCode::FAILURE;
-            }
+        if let Err(difference) = both.compare(&file, own, &mut tally) {
+            let hex: String = file.iter().map(|byte| format!("{byte:02x}")).collect();
+            println!("seed {own}: {difference}; {:?}; file {hex}", lengths_of(own));
+            return ExitCode::FAILURE;
         }
     }
-    let Tally { kinds: [open, accepted, refused], untouched, bytes } = tally;
+    let Tally { kinds: [open, accepted, refused], untouched, bytes, .. } = tally;
+    let Tally { coverings: [no, yes, nothing], coverings_untouched, .. } = tally;
     println!(
         "{count} files, {bytes} bytes, no difference: {open} open, {accepted} accepted, {refused} refused, \
-         {untouched} with too short an answer"
+         {untouched} with too short an answer; pairs of clauses: {yes} yes, {no} no, {nothing} refused, \
+         {coverings_untouched} with too short an answer"
     );
     ExitCode::SUCCESS
 }
 
-/// The kind of answer if neither a check nor the readout differs.
-fn both(pair: &mut Pair, file: &[u8], lengths: Lengths, own: u64) -> Result<Option<u16>, String> {
-    let kind = pair.compare(file, lengths, own as u16).map_err(|difference| difference.to_string())?;
-    Second::new(file, lengths, own as u16).two(&mut SplitMix64::new(own))?;
-    Ok(kind)
+/// The cells of both implementations.
+#[derive(Default)]
+struct Both {
+    pair: Pair,
+    coverings: Coverings,
+}
+
+impl Both {
+    /// Counts a file's answers if neither a check, nor the readout, nor which clause covers which differs.
+    fn compare(&mut self, file: &[u8], own: u64, tally: &mut Tally) -> Result<(), String> {
+        let (lengths, mark, mut random) = (lengths_of(own), own as u16, SplitMix64::new(own));
+        let kind = self.pair.compare(file, lengths, mark).map_err(|difference| difference.to_string())?;
+        count(kind, &mut tally.kinds, &mut tally.untouched);
+        Second::new(file, lengths, mark).two(&mut random)?;
+        let clauses = Clauses::of(file);
+        for _ in 0..PAIRS {
+            let two = clauses.some_two(&mut random);
+            let kind = self.coverings.compare(file, two, for_covering(lengths), mark);
+            let kind = kind.map_err(|difference| format!("clauses {two:?}: {difference}"))?;
+            count(kind, &mut tally.coverings, &mut tally.coverings_untouched);
+        }
+        Ok(())
+    }
+}
+
+/// Counts an answer by its kind, or one for which there is no room.
+fn count(kind: Option<u16>, kinds: &mut [u64; 3], untouched: &mut u64) {
+    match kind {
+        Some(kind) => kinds[usize::from(kind).min(2)] += 1,
+        None => *untouched += 1,
+    }
 }

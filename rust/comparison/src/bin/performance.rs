@@ -1,6 +1,11 @@
-//! The proved check, plain and for services, and the second implementation on the same files in one run: tables in Markdown
-//! with the times and their ratio.
+//! The proved check, plain and for services, and which clause covers which, beside the second implementation on the same
+//! files in one run: tables in Markdown with the times and their ratio. Arguments name tables; without any, all are made:
+//!
+//! ```text
+//! performance [check] [services] [calls] [covers]
+//! ```
 
+use std::env;
 use std::fmt::Display;
 use std::hint::black_box;
 use std::io;
@@ -9,32 +14,72 @@ use std::time::Duration;
 use yestrwyn::Workspace;
 use yestrwyn_comparison::clock::own_time;
 use yestrwyn_comparison::files::{measured, ordinary};
+use yestrwyn_comparison::questions::{questions, Question};
 use yestrwyn_comparison::rounds::Rounds;
 use yestrwyn_types::limits::RECORD_BYTES;
-use yestrwyn_types::{Answer, Cells};
+use yestrwyn_types::{Answer, Cells, Covering};
 use yestrwyn_vectors::examples::{cases, heavy};
 use yestrwyn_vectors::stored::groups;
 
 /// A measurement is repeated until it takes about so long.
 const LONG_ENOUGH: Duration = Duration::from_millis(5);
 
+/// A function that makes a table.
+type Table = fn() -> io::Result<()>;
+
+/// The tables by name.
+const TABLES: [(&str, Table); 4] =
+    [("check", check_table), ("services", services_table), ("calls", calls_table), ("covers", covers_table)];
+
 fn main() -> io::Result<()> {
+    let asked: Vec<String> = env::args().skip(1).collect();
+    if asked.iter().any(|name| TABLES.iter().all(|(table, _)| table != name)) {
+        return Err(io::Error::other("the tables are check, services, calls and covers"));
+    }
+    let tables =
+        TABLES.iter().filter(|(table, _)| asked.is_empty() || asked.iter().any(|name| name == table));
+    for (place, (_, table)) in tables.enumerate() {
+        if place > 0 {
+            println!();
+        }
+        table()?;
+    }
+    Ok(())
+}
+
+/// The check.
+fn check_table() -> io::Result<()> {
     println!("| file | proved | second | ratio | over ten rounds |");
     println!("|---|---|---|---|---|");
-    yestrwyn::with_stack(on_lent_tables)?;
-    println!();
+    yestrwyn::with_stack(on_lent_tables)
+}
+
+/// The check for services.
+fn services_table() -> io::Result<()> {
     println!(
         "| file, workspace kept between files | for services | plain | ratio | over ten rounds | second | ratio | over ten rounds |"
     );
     println!("|---|---|---|---|---|---|---|---|");
-    yestrwyn::with_stack(with_a_workspace)?;
-    println!();
+    yestrwyn::with_stack(with_a_workspace)
+}
+
+/// The function for users of Rust.
+fn calls_table() -> io::Result<()> {
     println!(
         "| file, one call with tables of its own | `yestrwyn::check` | second | ratio | over ten rounds |"
     );
     println!("|---|---|---|---|---|");
     whole_calls();
     Ok(())
+}
+
+/// Which clause covers which: the whole call, and the middle of what it takes more than a check of the same file.
+fn covers_table() -> io::Result<()> {
+    println!(
+        "| file, two of its clauses compared | proved | second | ratio | over ten rounds | proved, less a check | second, less a check | ratio |"
+    );
+    println!("|---|---|---|---|---|---|---|---|");
+    yestrwyn::with_stack(|| questions().iter().for_each(covers_line))
 }
 
 /// Both with tables that are lent to them again and again.
@@ -81,6 +126,31 @@ fn services_line(name: impl Display, files: &[&[u8]], workspace: &mut Workspace)
     let to_plain = Rounds::take(&mut services, || time_all(files, plain));
     let to_second = Rounds::take(&mut services, || time_all(files, second));
     println!("| {name} | {to_plain} | {} |", to_second.beside());
+}
+
+/// A line of the last table, both with tables that are lent to them again and again.
+fn covers_line(question: &Question) {
+    let Question { name, file, clauses: [c, d] } = question;
+    let proved = |cells: &mut Cells| yestrwyn::covers_here(file, *c, *d, &mut cells.lend());
+    let other = |cells: &mut Cells| yestrwyn_second::covers_into(file, *c, *d, &mut cells.lend());
+    let [whole, less] = Rounds::take_parts(
+        || and_less_the_check(file, proved, plain),
+        || and_less_the_check(file, other, second),
+    );
+    println!("| {name} | {whole} | {} |", less.middles());
+}
+
+/// The time of a comparison with its check, and that less the time of a check alone.
+fn and_less_the_check(
+    file: &[u8],
+    compare: impl Fn(&mut Cells) -> Covering,
+    check: fn(&[u8], &mut Cells) -> Answer,
+) -> [Duration; 2] {
+    let mut cells = Cells::new();
+    let whole = time(|| {
+        black_box(compare(&mut cells));
+    });
+    [whole, whole.saturating_sub(time_all(&[file], check))]
 }
 
 /// The proved check with an array of its own.
