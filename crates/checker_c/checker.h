@@ -180,7 +180,8 @@ void checker_readout(const uint8_t *file, size_t file_len,
  *              yes: for each literal of c, from the first, the number of the
  *              literal of d that it is turned into, from 1, and zeros after
  *              them; of all choices that work the earliest, compared from the
- *              first literal of c on. Otherwise zeros
+ *              first literal of c on. A clause without literals covers every
+ *              clause, with seven zeros. Otherwise zeros
  *
  * Refused are files that do not stand, whatever the check's own reason, tables
  * that are too short, and clauses that do not exist or are no input clauses.

@@ -81,7 +81,7 @@ covers-exported F t c d A r here A′ l K q = record {
   rowsLeft = λ m. absurd (omega arith);
   clausesLeft = λ m. absurd (omega arith);
   bindingsLeft = λ m. absurd (omega arith);
-  answer = λ m. record { answer = K .answer; numbers = q ∙ ap (λ (v : List ℕ). v ++ drop 10 A) (K .numbers); answered = K .answered; only = K .only };
+  answer = λ m. record { answer = K .answer; numbers = q ∙ ap (λ (v : List ℕ). v ++ drop 10 A) (K .numbers); promised = K .promised; only = K .only };
   symbols = λ m. K .symbols;
   rows = λ m. K .rows;
   clauses = λ m. K .clauses;

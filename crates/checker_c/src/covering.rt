@@ -55,6 +55,7 @@ pub fn put_covering(r: Covering, answer: &mut [u16])
 {
     let outcome = r.outcome;
     put_outcome(outcome, answer);
+    // The last cell comes first: what is known of the length reaches over five writes.
     answer[9] = r.seventh;
     answer[3] = r.first;
     answer[4] = r.second;

@@ -72,27 +72,6 @@ pub extern "C" fn checker_check_with(
     put(a, answer);
 }
 
-// A piece of the readout of a file, from a clause on, with the progress in three cells. Where `progress` has fewer, nothing is touched.
-#[no_mangle]
-pub extern "C" fn checker_readout(
-    file: &[u8],
-    symbols: &mut [u16],
-    rows: &mut [u16],
-    clauses: &mut [u16],
-    bindings: &mut [u16],
-    clause: u16,
-    output: &mut [u8],
-    progress: &mut [u64],
-)
-    ensures { λ _. ⌜ ExportedReadout (now (file .entry)) (tablesWith (now (symbols .entry)) (now (rows .entry)) (now (clauses .entry)) (now (bindings .entry))) clause (now (output .entry)) (now (progress .entry)) (tablesWith (now (symbols .exit)) (now (rows .exit)) (now (clauses .exit)) (now (bindings .exit))) (now (output .exit)) (now (progress .exit)) ⌝ }
-{
-    if progress.len() < 3 {
-        return;
-    }
-    let p = readout_piece(file, symbols, rows, clauses, bindings, clause, output);
-    put_progress(p, progress);
-}
-
 // Whether input clause c of a file covers input clause d, with the answer in ten cells. Where `answer` has fewer, nothing is touched.
 #[no_mangle]
 pub extern "C" fn checker_covers(
@@ -112,4 +91,25 @@ pub extern "C" fn checker_covers(
     }
     let r = covers(file, symbols, rows, clauses, bindings, c, d);
     put_covering(r, answer);
+}
+
+// A piece of the readout of a file, from a clause on, with the progress in three cells. Where `progress` has fewer, nothing is touched.
+#[no_mangle]
+pub extern "C" fn checker_readout(
+    file: &[u8],
+    symbols: &mut [u16],
+    rows: &mut [u16],
+    clauses: &mut [u16],
+    bindings: &mut [u16],
+    clause: u16,
+    output: &mut [u8],
+    progress: &mut [u64],
+)
+    ensures { λ _. ⌜ ExportedReadout (now (file .entry)) (tablesWith (now (symbols .entry)) (now (rows .entry)) (now (clauses .entry)) (now (bindings .entry))) clause (now (output .entry)) (now (progress .entry)) (tablesWith (now (symbols .exit)) (now (rows .exit)) (now (clauses .exit)) (now (bindings .exit))) (now (output .exit)) (now (progress .exit)) ⌝ }
+{
+    if progress.len() < 3 {
+        return;
+    }
+    let p = readout_piece(file, symbols, rows, clauses, bindings, clause, output);
+    put_progress(p, progress);
 }

@@ -156,8 +156,8 @@ numbered-inside (l ∷ C) (suc (suc n)) m q = let h = numbered-inside C (suc n) 
 
 -- ── Choices that fit, and choices that work ──
 
-module _ (N O : List ℕ) (term : ℕ → Term ℕ) (H : TermsOf N term) (c d kc kd : ℕ) (rowsLeft : (i : ℕ) → i < kc → HasRow N (part O c i / 2)) (rowsRight : (i : ℕ) → i < kd → HasRow N (part O d i / 2))
-    (fewC : kc ≤ 7) (fewD : kd ≤ 7) (P : Pairs) (A : AllCame N O term H c d kc kd rowsLeft rowsRight 64 P)
+module _ (N O : List ℕ) (term : ℕ → Term ℕ) (H : TermsOf N term) (c d lefts rights : ℕ) (rowsLeft : (i : ℕ) → i < lefts → HasRow N (part O c i / 2)) (rowsRight : (i : ℕ) → i < rights → HasRow N (part O d i / 2))
+    (fewC : lefts ≤ 7) (fewD : rights ≤ 7) (P : Pairs) (A : AllCame N O term H c d lefts rights rowsLeft rowsRight 64 P)
     (T : List ℕ) (cell : (x : ℕ) → x < 4096 → getD T x 0 ≡ bit (goTogether (P .found) (P .notes) (x / 64) (x % 64))) where
   abbrev F : List ℕ
   F = P .found
@@ -204,14 +204,14 @@ module _ (N O : List ℕ) (term : ℕ → Term ℕ) (H : TermsOf N term) (c d kc
   chosenValue Z zero v = var v
   chosenValue Z (suc k) v = noteOr (getD (P .notes) (64 * pairChosen Z k + v) 0) (chosenValue Z k v)
 
-  module _ (Z : List ℕ) (fit : FitFrom T kd 0 kc Z) where
-    small : (i : ℕ) → i < kc → pairChosen Z i < 64
+  module _ (Z : List ℕ) (fit : FitFrom T rights 0 lefts Z) where
+    small : (i : ℕ) → i < lefts → pairChosen Z i < 64
     small i l = let f = fit i (omega arith) (omega arith) in let a = f .1 in omega arith
 
-    chosen-together : (i j : ℕ) → i < kc → j ≤ i → Together (pairChosen Z j) (pairChosen Z i)
+    chosen-together : (i j : ℕ) → i < lefts → j ≤ i → Together (pairChosen Z j) (pairChosen Z i)
     chosen-together i j l b = cell-together (pairChosen Z j) (pairChosen Z i) (small j (omega arith)) (small i l) (fits-each T Z i (suc i) 0 (fit i (omega arith) (omega arith) .2) j (omega arith) (omega arith))
 
-    value-noted : (k : ℕ) → k ≤ kc → (i : ℕ) → i < k → (v w : ℕ) → v < 64 → getD (P .notes) (64 * pairChosen Z i + v) 0 ≡ suc w → chosenValue Z k v ≡ term w
+    value-noted : (k : ℕ) → k ≤ lefts → (i : ℕ) → i < k → (v w : ℕ) → v < 64 → getD (P .notes) (64 * pairChosen Z i + v) 0 ≡ suc w → chosenValue Z k v ≡ term w
     value-noted zero b i l v w m e = absurd (omega arith)
     value-noted (suc k) b i l v w m e = try (getD (P .notes) (64 * pairChosen Z k + v) 0) refl (same-or-not i k) (λ c. value-noted k (omega arith) i c v w m e)
       where
@@ -221,38 +221,38 @@ module _ (N O : List ℕ) (term : ℕ → Term ℕ) (H : TermsOf N term) (c d kc
         try (suc x) q s ih = ap term (sym (chosen-together k i (omega arith) (omega arith) .agree v w x m e q))
 
     -- It turns every literal of C into the one chosen for it.
-    pub fit-turns : (i : ℕ) → i < kc → TurnsPair (chosenValue Z kc) (pairChosen Z i)
+    pub fit-turns : (i : ℕ) → i < lefts → TurnsPair (chosenValue Z lefts) (pairChosen Z i)
     fit-turns i l =
-        A .came (pairChosen Z i) (small i l) (small i l) .back (chosen-together i i l (omega arith) .first) (chosenValue Z kc)
-        (λ z w e v m q. value-noted kc (omega arith) i l v w m (ap (λ (a : ℕ). getD (P .notes) a 0) (sym q) ∙ e))
+        A .came (pairChosen Z i) (small i l) (small i l) .back (chosen-together i i l (omega arith) .first) (chosenValue Z lefts)
+        (λ z w e v m q. value-noted lefts (omega arith) i l v w m (ap (λ (a : ℕ). getD (P .notes) a 0) (sym q) ∙ e))
 
   -- Conversely, numbers whose pairs one substitution turns fit.
-  module _ (σ : Substitution) (Z : List ℕ) (turn : (i : ℕ) → i < kc → (1 ≤ getD Z i 0) × (getD Z i 0 ≤ kd) × TurnsPair σ (pairChosen Z i)) where
-    low : (i : ℕ) → i < kc → pairChosen Z i < 64
+  module _ (σ : Substitution) (Z : List ℕ) (turn : (i : ℕ) → i < lefts → (1 ≤ getD Z i 0) × (getD Z i 0 ≤ rights) × TurnsPair σ (pairChosen Z i)) where
+    low : (i : ℕ) → i < lefts → pairChosen Z i < 64
     low i l = let a = turn i l .1 in omega arith
 
-    is-pair : (i : ℕ) → i < kc → isPair kc kd (pairChosen Z i) ≡ true
+    is-pair : (i : ℕ) → i < lefts → isPair lefts rights (pairChosen Z i) ≡ true
     is-pair i l =
         let t = turn i l in
         let a = t .0 in
         let b = t .1 in
         let e : (8 * i + getD Z i 0) / 8 ≡ i = omega arith in
         let f : (8 * i + getD Z i 0) % 8 ≡ getD Z i 0 = omega arith in
-        together (ltb (pairChosen Z i / 8) kc) (leb 1 (pairChosen Z i % 8) && leb (pairChosen Z i % 8) kd)
-        (ap (λ (n : ℕ). ltb n kc) e ∙ from-T (ltb i kc) (lt→ltb i kc l))
-        (together (leb 1 (pairChosen Z i % 8)) (leb (pairChosen Z i % 8) kd) (ap (λ (n : ℕ). leb 1 n) f ∙ from-T (leb 1 (getD Z i 0)) (le→leb 1 (getD Z i 0) a)) (ap (λ (n : ℕ). leb n kd) f ∙ from-T (leb (getD Z i 0) kd) (le→leb (getD Z i 0) kd b)))
+        together (ltb (pairChosen Z i / 8) lefts) (leb 1 (pairChosen Z i % 8) && leb (pairChosen Z i % 8) rights)
+        (ap (λ (n : ℕ). ltb n lefts) e ∙ from-T (ltb i lefts) (lt→ltb i lefts l))
+        (together (leb 1 (pairChosen Z i % 8)) (leb (pairChosen Z i % 8) rights) (ap (λ (n : ℕ). leb 1 n) f ∙ from-T (leb 1 (getD Z i 0)) (le→leb 1 (getD Z i 0) a)) (ap (λ (n : ℕ). leb n rights) f ∙ from-T (leb (getD Z i 0) rights) (le→leb (getD Z i 0) rights b)))
 
-    is-found : (i : ℕ) → i < kc → eqb (getD (P .found) (pairChosen Z i) 0) 1 ≡ true
+    is-found : (i : ℕ) → i < lefts → eqb (getD (P .found) (pairChosen Z i) 0) 1 ≡ true
     is-found i l = try (eqb (getD (P .found) (pairChosen Z i) 0) 1) refl
       where
         try : (b : Bool) → eqb (getD (P .found) (pairChosen Z i) 0) 1 ≡ b → b ≡ true
         try true q = refl
         try false q = absurd (A .came (pairChosen Z i) (low i l) (low i l) .clash q (is-pair i l) σ (turn i l .2))
 
-    noted-at : (i : ℕ) → i < kc → (v w : ℕ) → v < 64 → getD (P .notes) (64 * pairChosen Z i + v) 0 ≡ suc w → σ v ≡ term w
+    noted-at : (i : ℕ) → i < lefts → (v w : ℕ) → v < 64 → getD (P .notes) (64 * pairChosen Z i + v) 0 ≡ suc w → σ v ≡ term w
     noted-at i l v w m e = A .came (pairChosen Z i) (low i l) (low i l) .forth (is-found i l) σ (turn i l .2) (64 * pairChosen Z i + v) w e v m refl
 
-    pub turns-fit : FitFrom T kd 0 kc Z
+    pub turns-fit : FitFrom T rights 0 lefts Z
     turns-fit i a b = (
       turn i (omega arith) .0,
       turn i (omega arith) .1,
@@ -264,40 +264,40 @@ module _ (N O : List ℕ) (term : ℕ → Term ℕ) (H : TermsOf N term) (c d kc
     )
 
   -- ── In the clauses' own literals ──
-  module _ (C D : List RowLiteral) (isC : LiteralsAs (part O c) kc C) (isD : LiteralsAs (part O d) kd D) where
+  module _ (C D : List RowLiteral) (isC : LiteralsAs (part O c) lefts C) (isD : LiteralsAs (part O d) rights D) where
     left-of : (i n : ℕ) → n ≤ 7 → leftNumber O c (8 * i + n) ≡ part O c i
     left-of i n l = let e : (8 * i + n) / 8 ≡ i = omega arith in ap (part O c) e
 
     right-of : (i n : ℕ) → n ≤ 7 → rightNumber O d (8 * i + n) ≡ part O d (n - 1)
     right-of i n l = let e : (8 * i + n) % 8 - 1 ≡ n - 1 = omega arith in ap (part O d) e
 
-    pub fit-works : (Z : List ℕ) → FitFrom T kd 0 kc Z → Works term (chosenValue Z kc) C D (numbersFrom Z 0 kc)
-    fit-works Z fit = works-make term (chosenValue Z kc) D C (numbersFrom Z 0 kc) (numbers-length Z 0 kc ∙ sym (isC .long)) goes
+    pub fit-works : (Z : List ℕ) → FitFrom T rights 0 lefts Z → Works term (chosenValue Z lefts) C D (numbersFrom Z 0 lefts)
+    fit-works Z fit = works-make term (chosenValue Z lefts) D C (numbersFrom Z 0 lefts) (numbers-length Z 0 lefts ∙ sym (isC .long)) goes
       where
-        goes : (i : ℕ) (l : RowLiteral) → numbered C (suc i) ≡ some l → (m : RowLiteral) × (numbered D (getD (numbersFrom Z 0 kc) i 0) ≡ some m) × Turns term (chosenValue Z kc) l m
+        goes : (i : ℕ) (l : RowLiteral) → numbered C (suc i) ≡ some l → (m : RowLiteral) × (numbered D (getD (numbersFrom Z 0 lefts) i 0) ≡ some m) × Turns term (chosenValue Z lefts) l m
         goes i l q =
-            let b : i < kc = let a = numbered-inside C (suc i) l q in omega (arith, isC .long) in
+            let b : i < lefts = let a = numbered-inside C (suc i) l q in omega (arith, isC .long) in
             let f = fit i (omega arith) (omega arith) in
             let a = f .0 in
             let k = f .1 in
             let e : suc (getD Z i 0 - 1) ≡ getD Z i 0 = omega arith in
             let z : 0 + i ≡ i = omega arith in
-            let n : getD (numbersFrom Z 0 kc) i 0 ≡ getD Z i 0 = numbers-at Z 0 kc i b ∙ ap (λ (y : ℕ). getD Z y 0) z in
+            let n : getD (numbersFrom Z 0 lefts) i 0 ≡ getD Z i 0 = numbers-at Z 0 lefts i b ∙ ap (λ (y : ℕ). getD Z y 0) z in
             let x : literalOf (leftNumber O c (pairChosen Z i)) ≡ l = ap literalOf (left-of i (getD Z i 0) (omega arith)) ∙ some-injective (sym (isC .at i b) ∙ q) in (
               literalOf (rightNumber O d (pairChosen Z i)),
               ap (numbered D) (n ∙ sym e) ∙ isD .at (getD Z i 0 - 1) (omega arith) ∙ ap (λ (y : ℕ). some (literalOf y)) (sym (right-of i (getD Z i 0) (omega arith))),
-              subst (λ (y : RowLiteral). Turns term (chosenValue Z kc) y (literalOf (rightNumber O d (pairChosen Z i)))) x (fit-turns Z fit i b),
+              subst (λ (y : RowLiteral). Turns term (chosenValue Z lefts) y (literalOf (rightNumber O d (pairChosen Z i)))) x (fit-turns Z fit i b),
             )
 
-    pub works-fit : (σ : Substitution) (ns : List ℕ) → Works term σ C D ns → FitFrom T kd 0 kc ns
+    pub works-fit : (σ : Substitution) (ns : List ℕ) → Works term σ C D ns → FitFrom T rights 0 lefts ns
     works-fit σ ns h = turns-fit σ ns turn
       where
-        turn : (i : ℕ) → i < kc → (1 ≤ getD ns i 0) × (getD ns i 0 ≤ kd) × TurnsPair σ (pairChosen ns i)
+        turn : (i : ℕ) → i < lefts → (1 ≤ getD ns i 0) × (getD ns i 0 ≤ rights) × TurnsPair σ (pairChosen ns i)
         turn i b =
             let g = works-at term σ D C ns h i (literalOf (part O c i)) (isC .at i b) in
             let k = numbered-inside D (getD ns i 0) (g .0) (g .1) in
             let a = k .0 in
-            let u : getD ns i 0 ≤ kd = omega (arith, k .1, isD .long) in
+            let u : getD ns i 0 ≤ rights = omega (arith, k .1, isD .long) in
             let e : suc (getD ns i 0 - 1) ≡ getD ns i 0 = omega arith in
             let m : literalOf (part O d (getD ns i 0 - 1)) ≡ g .0 = some-injective (sym (isD .at (getD ns i 0 - 1) (omega arith)) ∙ ap (numbered D) e ∙ g .1) in (
               a,
@@ -306,19 +306,29 @@ module _ (N O : List ℕ) (term : ℕ → Term ℕ) (H : TermsOf N term) (c d kc
                   (subst (λ (y : RowLiteral). Turns term σ y (g .0)) (ap literalOf (sym (left-of i (getD ns i 0) (omega arith)))) (g .2)),
             )
 
-    -- What the search decides.
-    pub record Decided (R : Bool × List ℕ) : Type 0 where
-      pub works : R .0 ≡ true → (σ : Substitution) × Works term σ C D (numbersFrom (R .1) 0 kc)
-      pub least : R .0 ≡ true → (τ : Substitution) (ms : List ℕ) → Works term τ C D ms → NotAfter (numbersFrom (R .1) 0 kc) ms
-      pub none : R .0 ≡ false → (τ : Substitution) (ms : List ℕ) → Works term τ C D ms → ⊥
+    -- The values of the substitution are terms of rows, or variables left alone: what is good of these is good of it.
+    module _ (Good : Term ℕ → Type 0) (goodVariable : (v : ℕ) → Good (var v)) (goodRow : (w : ℕ) → HasRow N w → Good (term w)) where
+      chosen-good : (Z : List ℕ) (k v : ℕ) → Good (chosenValue Z k v)
+      chosen-good Z zero v = goodVariable v
+      chosen-good Z (suc k) v = try (getD (P .notes) (64 * pairChosen Z k + v) 0) refl (chosen-good Z k v)
+        where
+          try : (n : ℕ) → getD (P .notes) (64 * pairChosen Z k + v) 0 ≡ n → Good (chosenValue Z k v) → Good (noteOr n (chosenValue Z k v))
+          try zero q ih = ih
+          try (suc w) q ih = goodRow w (A .there (64 * pairChosen Z k + v) w q)
 
-    pub decided : (X : List ℕ) → 0 + kc ≤ length X → Decided (searched T kd kc 0 X)
-    decided X l = from (searched T kd kc 0 X) (search-came T kd kc 0 X l)
-      where
-        from : (R : Bool × List ℕ) → Came T kd kc 0 X R → Decided R
-        from R K = record {
-          works = λ t. (chosenValue (R .1) kc, fit-works (R .1) (K .fitting t));
-          least = λ t τ ms h. subst (NotAfter (numbersFrom (R .1) 0 kc)) (ap (numbersFrom ms 0) (sym (works-length term τ D C ms h ∙ isC .long)) ∙ numbers-all ms)
-              (not-after 0 kc (R .1) ms (K .least t ms (λ j b. absurd (omega arith)) (works-fit τ ms h)));
-          none = λ t τ ms h. K .none t ms (λ j b. absurd (omega arith)) (works-fit τ ms h);
-        }
+      -- What the search decides.
+      pub record Decided (R : Bool × List ℕ) : Type 0 where
+        pub works : R .0 ≡ true → (σ : Substitution) × Works term σ C D (numbersFrom (R .1) 0 lefts) × ((v : ℕ) → Good (σ v))
+        pub least : R .0 ≡ true → (τ : Substitution) (ms : List ℕ) → Works term τ C D ms → NotAfter (numbersFrom (R .1) 0 lefts) ms
+        pub none : R .0 ≡ false → (τ : Substitution) (ms : List ℕ) → Works term τ C D ms → ⊥
+
+      pub decided : (X : List ℕ) → 0 + lefts ≤ length X → Decided (searched T rights lefts 0 X)
+      decided X l = from (searched T rights lefts 0 X) (search-came T rights lefts 0 X l)
+        where
+          from : (R : Bool × List ℕ) → Came T rights lefts 0 X R → Decided R
+          from R K = record {
+            works = λ t. (chosenValue (R .1) lefts, fit-works (R .1) (K .fitting t), chosen-good (R .1) lefts);
+            least = λ t τ ms h. subst (NotAfter (numbersFrom (R .1) 0 lefts)) (ap (numbersFrom ms 0) (sym (works-length term τ D C ms h ∙ isC .long)) ∙ numbers-all ms)
+                (not-after 0 lefts (R .1) ms (K .least t ms (λ j b. absurd (omega arith)) (works-fit τ ms h)));
+            none = λ t τ ms h. K .none t ms (λ j b. absurd (omega arith)) (works-fit τ ms h);
+          }

@@ -21,10 +21,10 @@ use Rattle.cover.proofs.OneAnswer.{one-answer}
 use Rattle.cover.proofs.Comparisons.{refused-covering, refused-nothing, left-nothing, right-nothing, few-left, few-right, compared}
 
 -- What the search has come to, in the tables that were filled before it.
-pub chosen-from : (N O : List ℕ) (c d kc kd : ℕ) (F W T X F′ W′ T′ : List ℕ) (b : Bool) (X′ : List ℕ) → record { found = F′; notes = W′ } ≡ pairsMatched N O c d kc kd 64 (record { found = F; notes = W }) → T′ ≡ tableFilled F′ W′ 4096 T
-    → (b, X′) ≡ searched T′ kd kc 0 X → (b, X′) ≡ comparisonFrom N O c d kc kd F W T X
-chosen-from N O c d kc kd F W T X F′ W′ T′ b X′ p t s =
-    s ∙ ap (λ (U : List ℕ). searched U kd kc 0 X) (t ∙ ap (λ (P : Pairs). tableFilled (P .found) (P .notes) 4096 T) p)
+pub chosen-from : (N O : List ℕ) (c d lefts rights : ℕ) (F W T X F′ W′ T′ : List ℕ) (b : Bool) (X′ : List ℕ) → record { found = F′; notes = W′ } ≡ pairsMatched N O c d lefts rights 64 (record { found = F; notes = W }) → T′ ≡ tableFilled F′ W′ 4096 T
+    → (b, X′) ≡ searched T′ rights lefts 0 X → (b, X′) ≡ comparisonFrom N O c d lefts rights F W T X
+chosen-from N O c d lefts rights F W T X F′ W′ T′ b X′ p t s =
+    s ∙ ap (λ (U : List ℕ). searched U rights lefts 0 X) (t ∙ ap (λ (P : Pairs). tableFilled (P .found) (P .notes) 4096 T) p)
 
 pub chosen-numbers : (L : List ℕ) (b : Bool) (X : List ℕ) (R : Bool × List ℕ) → (b, X) ≡ R → b ≡ true → L ≡ 1 ∷ 0 ∷ 0 ∷ numbersFrom X 0 7 → L ≡ comparisonNumbers R
 chosen-numbers L b X R e t q = q ∙ ap (λ (z : Bool). comparisonNumbers (z, X)) (sym t) ∙ ap comparisonNumbers e
@@ -32,9 +32,9 @@ chosen-numbers L b X R e t q = q ∙ ap (λ (z : Bool). comparisonNumbers (z, X)
 pub no-numbers : (L : List ℕ) (b : Bool) (X : List ℕ) (R : Bool × List ℕ) → (b, X) ≡ R → b ≡ false → L ≡ 0 ∷ 0 ∷ 0 ∷ replicate 7 0 → L ≡ comparisonNumbers R
 no-numbers L b X R e t q = q ∙ ap (λ (z : Bool). comparisonNumbers (z, X)) (sym t) ∙ ap comparisonNumbers e
 
-pub own-tables : (L N O : List ℕ) (c d kc kd : ℕ) → L ≡ comparisonNumbers (comparisonFrom N O c d kc kd (replicate 64 0) (replicate 4096 0) (replicate 4096 0) (replicate 8 0)) → L ≡ comparisonNumbers (comparison N O c d kc kd)
+pub own-tables : (L N O : List ℕ) (c d lefts rights : ℕ) → L ≡ comparisonNumbers (comparisonFrom N O c d lefts rights (replicate 64 0) (replicate 4096 0) (replicate 4096 0) (replicate 8 0)) → L ≡ comparisonNumbers (comparison N O c d lefts rights)
 unfolding comparison
-own-tables L N O c d kc kd q = q
+own-tables L N O c d lefts rights q = q
 
 -- A clause past the last, and one whose code is looked at.
 pub past-last : (O : List ℕ) (count c : ℕ) → count ≤ c → false ≡ isInput O count c
@@ -49,9 +49,9 @@ code-looked-at O count c code q e = rw (from-T (ltb c count) (lt→ltb c count q
 
 module _ (CL N O : List ℕ) (a : answer.Answer) (c d : ℕ) (b : Bool) (t : b ≡ verdictStands (a .verdict)) (s : b ≡ true) where
   -- What comparing the literals asks.
-  pub choose-ready : AfterCheck CL N O a → (x : Bool) → x ≡ isInput O (a .clauses) c → x ≡ true → (y : Bool) → y ≡ isInput O (a .clauses) d → y ≡ true → (kc kd : ℕ) → kc ≡ literalsCell CL c → kd ≡ literalsCell CL d
-      → (length N ≡ 32768) × (length O ≡ 32768) × (kc ≤ 7) × (kd ≤ 7)
-  choose-ready R x p f y q g kc kd k l = (
+  pub choose-ready : AfterCheck CL N O a → (x : Bool) → x ≡ isInput O (a .clauses) c → x ≡ true → (y : Bool) → y ≡ isInput O (a .clauses) d → y ≡ true → (lefts rights : ℕ) → lefts ≡ literalsCell CL c → rights ≡ literalsCell CL d
+      → (length N ≡ 32768) × (length O ≡ 32768) × (lefts ≤ 7) × (rights ≤ 7)
+  choose-ready R x p f y q g lefts rights k l = (
     R .checked .nodeRoom,
     R .checked .originRoom,
     subst (λ (n : ℕ). n ≤ 7) (sym k) (few-left CL N O a c d R (sym t ∙ s) (sym p ∙ f) (sym q ∙ g)),
@@ -70,9 +70,9 @@ module _ (CL N O : List ℕ) (a : answer.Answer) (c d : ℕ) (r : given.Covering
     pub not-input-right : coveringGiven r ≡ 2 ∷ 15 ∷ 0 ∷ replicate 7 0 → (x : Bool) → x ≡ isInput O (a .clauses) d → x ≡ false → Compared CL N O a c d r
     not-input-right e x p f = record { covering = λ R. refused-covering (R .file) (R .before) c d r e (right-nothing CL N O a c d R (sym t ∙ s) (sym p ∙ f)) }
 
-    pub both-input : (x : Bool) → x ≡ isInput O (a .clauses) c → x ≡ true → (y : Bool) → y ≡ isInput O (a .clauses) d → y ≡ true → (kc kd : ℕ) → kc ≡ literalsCell CL c → kd ≡ literalsCell CL d
-        → coveringGiven r ≡ comparisonNumbers (comparison N O c d kc kd) → Compared CL N O a c d r
-    both-input x p f y q g kc kd k l e = record {
+    pub both-input : (x : Bool) → x ≡ isInput O (a .clauses) c → x ≡ true → (y : Bool) → y ≡ isInput O (a .clauses) d → y ≡ true → (lefts rights : ℕ) → lefts ≡ literalsCell CL c → rights ≡ literalsCell CL d
+        → coveringGiven r ≡ comparisonNumbers (comparison N O c d lefts rights) → Compared CL N O a c d r
+    both-input x p f y q g lefts rights k l e = record {
       covering = λ R. compared CL N O a c d R (sym t ∙ s) (sym p ∙ f) (sym q ∙ g) r (rw (k, l) at e);
     }
 
@@ -84,8 +84,8 @@ covers-answered F s₀ r₀ C₀ B₀ N₀ O₀ A₀ s₁ r₁ C₁ B₁ N₁ O�
     record {
       answer = X .answer;
       numbers = X .numbers;
-      answered = X .answered;
-      only = λ other A. one-answer F (tablesWith s₀ r₀ C₀ B₀) c d other (X .answer) A (X .answered);
+      promised = X .promised;
+      only = λ other A. one-answer F (tablesWith s₀ r₀ C₀ B₀) c d other (X .answer) A (X .promised);
       symbols = K .checked .symbols;
       rows = K .checked .rows;
       clauses = K .checked .clauses;

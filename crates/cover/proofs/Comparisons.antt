@@ -8,12 +8,12 @@ use native.Mathlib.Omega.{arith}
 use lib.Dec.{eqb, ltb, ltb→lt, lt→ltb}
 use lib.ListN.{length, getD, replicate, length-replicate, length-map}
 use Rattle.unification.specs.Nodes.{part, HasRow}
-use Rattle.unification.specs.Term.{Term}
+use Rattle.unification.specs.Term.{Term, var}
 use Rattle.unification.proofs.Tests.{to-T, from-T, both-true, true-not-false}
 use Rattle.derivation.specs.Derivation.{input, RowLiteral, Derivation}
 use Rattle.derivation.specs.Stored.{originCode, literalsCell}
 use Rattle.verdict.specs.Refusal.{Reason}
-use Rattle.verdict.specs.State.{State, derivations, clauseOf}
+use Rattle.verdict.specs.State.{arityOf, State, derivations, clauseOf}
 use Rattle.verdict.specs.Step.{stateOf}
 use Rattle.verdict.specs.Tables.{Tables, lengthsOf}
 use Rattle.verdict.specs.Verdict.{Verdict, refusal, verdictNumbers, check, Answer as Checked, longEnough, ending, Stands, standing, firstEmpty, everyClause, stateGiven}
@@ -26,7 +26,7 @@ use Rattle.answer.specs.declared.Verdict as verdict
 use Rattle.answer.specs.declared.Verdict.the-variants as verdicts
 use Rattle.answer.proofs.GivenNumbers.{verdict-given, clauses-given}
 use Rattle.entry.specs.Progress.{ReadTo, tablesWith}
-use Rattle.cover.specs.Answering.{Answer, covers, coversNot, refusedWith, tenNumbers, Comparable, termIn, Answered}
+use Rattle.cover.specs.Answering.{Answer, covers, coversNot, refusedWith, tenNumbers, Comparable, termIn, AnswerPromised}
 use Rattle.cover.specs.Comparing.{numbersFrom, comparisonNumbers, comparisonFrom, comparison, verdictStands, isInput, AfterCheck, CoveringOf}
 use Rattle.cover.specs.Given.{coveringGiven}
 use Rattle.cover.specs.Covering.{Substitution, Works, NotAfter}
@@ -37,9 +37,9 @@ use Rattle.cover.proofs.Choices.{numbers-length, LiteralsAs, table-cell
 use Rattle.cover.proofs.Earliest.{search-came}
 use Rattle.cover.proofs.PairLaws.{together, equal-test, AllCame, pairs-came}
 use Rattle.cover.proofs.Solutions.{TermsOf}
-use Rattle.cover.proofs.StateTerms.{terms-of, InputHere, input-here, input-found}
+use Rattle.cover.proofs.StateTerms.{terms-of, row-formed, InputHere, input-here, input-found}
 use Rattle.cover.proofs.Taking.{equal-to}
-use Rattle.cover.proofs.Truth.{covered-true}
+use Rattle.cover.proofs.Truth.{Formed, covered-true}
 
 zeros-at : (n i : ℕ) → _≡_ {A = ℕ} (getD (replicate n 0) i 0) 0
 zeros-at zero i = refl
@@ -71,16 +71,17 @@ numbers-of k l (false, X) h = refl
 
 -- ── Two clauses with their literals ──
 
-module _ (N O : List ℕ) (term : ℕ → Term ℕ) (H : TermsOf N term) (c d kc kd : ℕ) (rowsLeft : (i : ℕ) → i < kc → HasRow N (part O c i / 2)) (rowsRight : (i : ℕ) → i < kd → HasRow N (part O d i / 2))
-    (fewC : kc ≤ 7) (fewD : kd ≤ 7) (C D : List RowLiteral) (isC : LiteralsAs (part O c) kc C) (isD : LiteralsAs (part O d) kd D) where
+module _ (N O : List ℕ) (term : ℕ → Term ℕ) (H : TermsOf N term) (c d lefts rights : ℕ) (rowsLeft : (i : ℕ) → i < lefts → HasRow N (part O c i / 2)) (rowsRight : (i : ℕ) → i < rights → HasRow N (part O d i / 2))
+    (fewC : lefts ≤ 7) (fewD : rights ≤ 7) (C D : List RowLiteral) (isC : LiteralsAs (part O c) lefts C) (isD : LiteralsAs (part O d) rights D)
+    (Good : Term ℕ → Type 0) (goodVariable : (v : ℕ) → Good (var v)) (goodRow : (w : ℕ) → HasRow N w → Good (term w)) where
   -- What a comparison decides.
   pub record Settled (R : Bool × List ℕ) : Type 0 where
-    pub works : R .0 ≡ true → (σ : Substitution) × Works term σ C D (numbersFrom (R .1) 0 kc)
-    pub least : R .0 ≡ true → (τ : Substitution) (ms : List ℕ) → Works term τ C D ms → NotAfter (numbersFrom (R .1) 0 kc) ms
+    pub works : R .0 ≡ true → (σ : Substitution) × Works term σ C D (numbersFrom (R .1) 0 lefts) × ((v : ℕ) → Good (σ v))
+    pub least : R .0 ≡ true → (τ : Substitution) (ms : List ℕ) → Works term τ C D ms → NotAfter (numbersFrom (R .1) 0 lefts) ms
     pub none : R .0 ≡ false → (τ : Substitution) (ms : List ℕ) → Works term τ C D ms → ⊥
-    pub past : (j : ℕ) → kc ≤ j → getD (R .1) j 0 ≡ 0
+    pub past : (j : ℕ) → lefts ≤ j → getD (R .1) j 0 ≡ 0
 
-  none-yet : (F W : List ℕ) → length F ≡ 64 → length W ≡ 4096 → ((z : ℕ) → getD W z 0 ≡ 0) → AllCame N O term H c d kc kd rowsLeft rowsRight 0 (record { found = F; notes = W })
+  none-yet : (F W : List ℕ) → length F ≡ 64 → length W ≡ 4096 → ((z : ℕ) → getD W z 0 ≡ 0) → AllCame N O term H c d lefts rights rowsLeft rowsRight 0 (record { found = F; notes = W })
   none-yet F W l m h = record {
     foundLong = l;
     notesLong = m;
@@ -89,20 +90,20 @@ module _ (N O : List ℕ) (term : ℕ → Term ℕ) (H : TermsOf N term) (c d kc
     came = λ p b k. absurd (omega arith);
   }
 
-  settled-from : (F W T X : List ℕ) → length F ≡ 64 → length W ≡ 4096 → ((z : ℕ) → getD W z 0 ≡ 0) → length T ≡ 4096 → length X ≡ 8 → ((z : ℕ) → getD X z 0 ≡ 0) → Settled (comparisonFrom N O c d kc kd F W T X)
-  settled-from F W T X l m h t x z = with-pairs (pairsMatched N O c d kc kd 64 (record { found = F; notes = W })) (pairs-came N O term H c d kc kd rowsLeft rowsRight 64 (omega arith) (record { found = F; notes = W }) (none-yet F W l m h))
+  settled-from : (F W T X : List ℕ) → length F ≡ 64 → length W ≡ 4096 → ((z : ℕ) → getD W z 0 ≡ 0) → length T ≡ 4096 → length X ≡ 8 → ((z : ℕ) → getD X z 0 ≡ 0) → Settled (comparisonFrom N O c d lefts rights F W T X)
+  settled-from F W T X l m h t x z = with-pairs (pairsMatched N O c d lefts rights 64 (record { found = F; notes = W })) (pairs-came N O term H c d lefts rights rowsLeft rowsRight 64 (omega arith) (record { found = F; notes = W }) (none-yet F W l m h))
     where
-      with-pairs : (P : Pairs) → AllCame N O term H c d kc kd rowsLeft rowsRight 64 P → Settled (searched (tableFilled (P .found) (P .notes) 4096 T) kd kc 0 X)
+      with-pairs : (P : Pairs) → AllCame N O term H c d lefts rights rowsLeft rowsRight 64 P → Settled (searched (tableFilled (P .found) (P .notes) 4096 T) rights lefts 0 X)
       with-pairs P A =
-          let G = decided N O term H c d kc kd rowsLeft rowsRight fewC fewD P A (tableFilled (P .found) (P .notes) 4096 T) (λ y b. table-cell (P .found) (P .notes) 4096 T (omega arith) y b) C D isC isD X (omega arith) in
+          let G = decided N O term H c d lefts rights rowsLeft rowsRight fewC fewD P A (tableFilled (P .found) (P .notes) 4096 T) (λ y b. table-cell (P .found) (P .notes) 4096 T (omega arith) y b) C D isC isD Good goodVariable goodRow X (omega arith) in
           record {
             works = G .works;
             least = G .least;
             none = G .none;
-            past = λ j b. sym (search-came (tableFilled (P .found) (P .notes) 4096 T) kd kc 0 X (omega arith) .past j (omega arith)) ∙ z j;
+            past = λ j b. sym (search-came (tableFilled (P .found) (P .notes) 4096 T) rights lefts 0 X (omega arith) .past j (omega arith)) ∙ z j;
           }
 
-  pub settled : Settled (comparison N O c d kc kd)
+  pub settled : Settled (comparison N O c d lefts rights)
   unfolding comparison
   settled = settled-from (replicate 64 0) (replicate 4096 0) (replicate 4096 0) (replicate 8 0) (length-replicate {A = ℕ} 64 0) (length-replicate {A = ℕ} 4096 0) (zeros-at 4096) (length-replicate {A = ℕ} 4096 0) (length-replicate {A = ℕ} 8 0) (zeros-at 8)
 
@@ -121,7 +122,7 @@ refused-not-standing (verdicts.Refused r j) none e t = let z : _≡_ {A = ℕ} 2
 refused-not-standing (verdicts.Refused r j) (some n) e t = let z : _≡_ {A = ℕ} 2 1 = ap (λ (l : List ℕ). getD l 0 0) e in omega arith
 
 -- Nothing to compare: the answer is the refusal.
-nothing-due : (file : List ℕ) (before : Tables) (c d : ℕ) → ((S : State) (C D : List RowLiteral) → ¬ Comparable file before c d S C D) → Answered file before c d (refusedWith 15 0)
+nothing-due : (file : List ℕ) (before : Tables) (c d : ℕ) → ((S : State) (C D : List RowLiteral) → ¬ Comparable file before c d S C D) → AnswerPromised file before c d (refusedWith 15 0)
 nothing-due file before c d h = record {
   refusedIf = λ k. refl;
   refusedOnly = λ n k e. h;
@@ -134,7 +135,7 @@ nothing-due file before c d h = record {
 }
 
 pub refused-covering : (file : List ℕ) (before : Tables) (c d : ℕ) (r : given.Covering) → coveringGiven r ≡ 2 ∷ 15 ∷ 0 ∷ replicate 7 0 → ((S : State) (C D : List RowLiteral) → ¬ Comparable file before c d S C D) → CoveringOf file before c d r
-refused-covering file before c d r e h = record { answer = refusedWith 15 0; numbers = e; answered = nothing-due file before c d h }
+refused-covering file before c d r e h = record { answer = refusedWith 15 0; numbers = e; promised = nothing-due file before c d h }
 
 input-parts : {i j : ℕ} {ls ms : List RowLiteral} → _≡_ {A = Option Derivation} (some (input i ls)) (some (input j ms)) → ls ≡ ms
 input-parts e = cc
@@ -175,7 +176,7 @@ module _ (file : List ℕ) (before : Tables) (c d : ℕ) (S : State) (C D : List
       (subst (λ (X : List RowLiteral). Works (termIn S) σ X G ns) (sym (one-left T E G L))
       (subst (λ (X : List RowLiteral). Works (termIn S) σ C X ns) (sym (one-right T E G L)) h))
 
-  yes-due : (ns : List ℕ) → (σ : Substitution) × Works (termIn S) σ C D ns → ((τ : Substitution) (ms : List ℕ) → Works (termIn S) τ C D ms → NotAfter ns ms) → Answered file before c d (covers ns)
+  yes-due : (ns : List ℕ) → (σ : Substitution) × Works (termIn S) σ C D ns × ((v : ℕ) → Formed (arityOf S) (σ v)) → ((τ : Substitution) (ms : List ℕ) → Works (termIn S) τ C D ms → NotAfter ns ms) → AnswerPromised file before c d (covers ns)
   yes-due ns w least = record {
     refusedIf = λ h. absurd (h S C D K);
     refusedOnly = λ n k e. absurd (not-refused-yes e);
@@ -184,10 +185,10 @@ module _ (file : List ℕ) (before : Tables) (c d : ℕ) (S : State) (C D : List
     earliest = λ T E G L ms e σ ks h. subst (λ (xs : List ℕ). NotAfter xs ks) (covers-parts e) (least σ ks (carried T E G L σ ks h));
     noIf = λ T E G L h. absurd (h (w .0) ns (back T E G L (w .0) ns (w .1)));
     noOnly = λ T E G L e. absurd (not-covers (sym e));
-    truth = λ T E G L ms e A all. covered-true (termIn T) A (w .0) E G ns (back T E G L (w .0) ns (w .1)) all;
+    truth = λ T E G L ms e A all. covered-true (termIn T) A (arityOf T) (w .0) E G ns (back T E G L (w .0) ns (w .1)) (subst (λ (U : State). (v : ℕ) → Formed (arityOf U) (w .0 v)) (sym (one-state T (L .stands))) (w .2)) all;
   }
 
-  no-due : ((τ : Substitution) (ms : List ℕ) → Works (termIn S) τ C D ms → ⊥) → Answered file before c d coversNot
+  no-due : ((τ : Substitution) (ms : List ℕ) → Works (termIn S) τ C D ms → ⊥) → AnswerPromised file before c d coversNot
   no-due dead = record {
     refusedIf = λ h. absurd (h S C D K);
     refusedOnly = λ n k e. absurd (not-refused-no e);
@@ -263,23 +264,23 @@ module _ (CL N O : List ℕ) (a : answer.Answer) (c d : ℕ) (R : AfterCheck CL 
       comparable : Comparable (R .file) (R .before) c d left (passed c p .literalsHere) (passed d q .literalsHere)
       comparable = record { stands = stands-left; tablesLong = λ s. true-not-false (stood .0) (tables-fail (R .file) (R .before) s); isLeft = passed c p .isInput; isRight = passed d q .isInput }
 
-      all-settled : Settled N O (termIn left) (terms-of (kept .kept) (kept .few)) c d (literalsCell CL c) (literalsCell CL d) (passed c p .rows) (passed d q .rows) few-left few-right (passed c p .literalsHere) (passed d q .literalsHere) (passed c p .numbers) (passed d q .numbers)
+      all-settled : Settled N O (termIn left) (terms-of (kept .kept) (kept .few)) c d (literalsCell CL c) (literalsCell CL d) (passed c p .rows) (passed d q .rows) few-left few-right (passed c p .literalsHere) (passed d q .literalsHere) (passed c p .numbers) (passed d q .numbers) (Formed (arityOf left)) (λ v δ f. f v) (row-formed (kept .kept) (kept .few))
           (comparison N O c d (literalsCell CL c) (literalsCell CL d))
-      all-settled = settled N O (termIn left) (terms-of (kept .kept) (kept .few)) c d (literalsCell CL c) (literalsCell CL d) (passed c p .rows) (passed d q .rows) few-left few-right (passed c p .literalsHere) (passed d q .literalsHere) (passed c p .numbers) (passed d q .numbers)
+      all-settled = settled N O (termIn left) (terms-of (kept .kept) (kept .few)) c d (literalsCell CL c) (literalsCell CL d) (passed c p .rows) (passed d q .rows) few-left few-right (passed c p .literalsHere) (passed d q .literalsHere) (passed c p .numbers) (passed d q .numbers) (Formed (arityOf left)) (λ v δ f. f v) (row-formed (kept .kept) (kept .few))
 
       pub compared : (r : given.Covering) → coveringGiven r ≡ comparisonNumbers (comparison N O c d (literalsCell CL c) (literalsCell CL d)) → CoveringOf (R .file) (R .before) c d r
       compared r e = from (comparison N O c d (literalsCell CL c) (literalsCell CL d)) e all-settled
         where
           from : (X : Bool × List ℕ) → coveringGiven r ≡ comparisonNumbers X
-              → Settled N O (termIn left) (terms-of (kept .kept) (kept .few)) c d (literalsCell CL c) (literalsCell CL d) (passed c p .rows) (passed d q .rows) few-left few-right (passed c p .literalsHere) (passed d q .literalsHere) (passed c p .numbers) (passed d q .numbers) X
+              → Settled N O (termIn left) (terms-of (kept .kept) (kept .few)) c d (literalsCell CL c) (literalsCell CL d) (passed c p .rows) (passed d q .rows) few-left few-right (passed c p .literalsHere) (passed d q .literalsHere) (passed c p .numbers) (passed d q .numbers) (Formed (arityOf left)) (λ v δ f. f v) (row-formed (kept .kept) (kept .few)) X
               → CoveringOf (R .file) (R .before) c d r
           from (true, X) f G = record {
             answer = covers (numbersFrom X 0 (literalsCell CL c));
             numbers = f ∙ numbers-of (literalsCell CL c) few-left (true, X) (G .past);
-            answered = yes-due (R .file) (R .before) c d left (passed c p .literalsHere) (passed d q .literalsHere) comparable (numbersFrom X 0 (literalsCell CL c)) (G .works refl) (G .least refl);
+            promised = yes-due (R .file) (R .before) c d left (passed c p .literalsHere) (passed d q .literalsHere) comparable (numbersFrom X 0 (literalsCell CL c)) (G .works refl) (G .least refl);
           }
           from (false, X) f G = record {
             answer = coversNot;
             numbers = f;
-            answered = no-due (R .file) (R .before) c d left (passed c p .literalsHere) (passed d q .literalsHere) comparable (G .none refl);
+            promised = no-due (R .file) (R .before) c d left (passed c p .literalsHere) (passed d q .literalsHere) comparable (G .none refl);
           }

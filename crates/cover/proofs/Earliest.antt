@@ -22,7 +22,7 @@ abbrev pub NotAfterFrom : ℕ → ℕ → List ℕ → List ℕ → Type 0
 NotAfterFrom i zero Y Z = Unit {0}
 NotAfterFrom i (suc k) Y Z = (getD Y i 0 < getD Z i 0) ⊎ ((getD Y i 0 ≡ getD Z i 0) × NotAfterFrom (suc i) k Y Z)
 
-module _ (T : List ℕ) (kd : ℕ) where
+module _ (T : List ℕ) (rights : ℕ) where
   -- Whether a number fits depends on those up to it alone.
   fits-from-same : (X Z : List ℕ) (i m j : ℕ) → j + m ≤ suc i → SameTo (suc i) X Z → fitsFrom T X i m j ≡ fitsFrom T Z i m j
   fits-from-same X Z i zero j l h = refl
@@ -35,7 +35,7 @@ module _ (T : List ℕ) (kd : ℕ) where
 
   -- The k numbers from i on are literals of D, and each fits.
   abbrev pub FitFrom : ℕ → ℕ → List ℕ → Type 0
-  FitFrom i k Z = (j : ℕ) → i ≤ j → j < i + k → (1 ≤ getD Z j 0) × (getD Z j 0 ≤ kd) × (fits T Z j ≡ true)
+  FitFrom i k Z = (j : ℕ) → i ≤ j → j < i + k → (1 ≤ getD Z j 0) × (getD Z j 0 ≤ rights) × (fits T Z j ≡ true)
 
   later : (i k : ℕ) (Z : List ℕ) → FitFrom i (suc k) Z → FitFrom (suc i) k Z
   later i k Z h j a b = h j (omega arith) (omega arith)
@@ -115,7 +115,7 @@ module _ (T : List ℕ) (kd : ℕ) where
           try-none t Z h f (inr q) = A .none t Z (over Z h) f q
 
       -- The number leads to a whole choice.
-      found-here : 1 ≤ n → n ≤ kd → fits T (set X i n) i ≡ true → (Y : List ℕ) → Came k (suc i) (set X i n) (true, Y) → TriedFrom k i n X (true, Y)
+      found-here : 1 ≤ n → n ≤ rights → fits T (set X i n) i ≡ true → (Y : List ℕ) → Came k (suc i) (set X i n) (true, Y) → TriedFrom k i n X (true, Y)
       found-here a b f Y A = record {
         long = A .long ∙ here-long;
         before = λ j c. here-before j c ∙ A .before j (omega arith);
@@ -128,15 +128,15 @@ module _ (T : List ℕ) (kd : ℕ) where
           number : getD Y i 0 ≡ n
           number = sym (A .before i (omega arith)) ∙ here-number
 
-          fit : (j : ℕ) → i ≤ j → j < i + suc k → (j ≡ i) ⊎ ¬ (j ≡ i) → (1 ≤ getD Y j 0) × (getD Y j 0 ≤ kd) × (fits T Y j ≡ true)
-          fit j c e (inl q) = subst (λ (z : ℕ). (1 ≤ getD Y z 0) × (getD Y z 0 ≤ kd) × (fits T Y z ≡ true)) (sym q) (omega (arith, number), omega (arith, number), sym (fits-same (set X i n) Y i (A .before)) ∙ f)
+          fit : (j : ℕ) → i ≤ j → j < i + suc k → (j ≡ i) ⊎ ¬ (j ≡ i) → (1 ≤ getD Y j 0) × (getD Y j 0 ≤ rights) × (fits T Y j ≡ true)
+          fit j c e (inl q) = subst (λ (z : ℕ). (1 ≤ getD Y z 0) × (getD Y z 0 ≤ rights) × (fits T Y z ≡ true)) (sym q) (omega (arith, number), omega (arith, number), sym (fits-same (set X i n) Y i (A .before)) ∙ f)
           fit j c e (inr q) = A .fitting refl j (omega arith) (omega arith)
 
           least-here : (Z : List ℕ) → SameTo i X Z → FitFrom i (suc k) Z → (getD Z i 0 ≡ n) ⊎ (suc n ≤ getD Z i 0) → NotAfterFrom i (suc k) Y Z
           least-here Z h g (inl q) = inr (number ∙ sym q, A .least refl Z (from-here Z h q) (later i k Z g))
           least-here Z h g (inr q) = inl (omega (arith, number))
 
-    tried-came : (m n : ℕ) → n + m ≡ suc kd → 1 ≤ n → (X : List ℕ) → i + suc k ≤ length X → TriedFrom k i n X (tried T i after m n X)
+    tried-came : (m n : ℕ) → n + m ≡ suc rights → 1 ≤ n → (X : List ℕ) → i + suc k ≤ length X → TriedFrom k i n X (tried T i after m n X)
     tried-came zero n e o X l = record {
       long = refl;
       before = λ j b. refl;
@@ -161,11 +161,11 @@ module _ (T : List ℕ) (kd : ℕ) where
             let g = here-long n X l in
             go-on n X l (set X i n) g (here-before n X l) (here-past n X l) (λ Z h t q. true-not-false (t i (omega arith) (omega arith) .2) (sym (fits-same (set X i n) Z i (from-here n X l Z h q)) ∙ f)) (tried T i after m (suc n) (set X i n)) (ih (set X i n) (omega arith))
 
-  pub search-came : (k i : ℕ) (X : List ℕ) → i + k ≤ length X → Came k i X (searched T kd k i X)
+  pub search-came : (k i : ℕ) (X : List ℕ) → i + k ≤ length X → Came k i X (searched T rights k i X)
   search-came zero i X l = record { long = refl; before = λ j b. refl; past = λ j b. refl; fitting = λ t j a b. absurd (omega arith); least = λ t Z h f. tt; none = λ t. absurd (true-not-false refl t) }
-  search-came (suc k) i X l = whole (tried-came k i (λ Y. searched T kd k (suc i) Y) (λ Y g. search-came k (suc i) Y (omega arith)) kd 1 (omega arith) (omega arith) X l)
+  search-came (suc k) i X l = whole (tried-came k i (λ Y. searched T rights k (suc i) Y) (λ Y g. search-came k (suc i) Y (omega arith)) rights 1 (omega arith) (omega arith) X l)
     where
-      whole : TriedFrom k i 1 X (tried T i (λ Y. searched T kd k (suc i) Y) kd 1 X) → Came (suc k) i X (tried T i (λ Y. searched T kd k (suc i) Y) kd 1 X)
+      whole : TriedFrom k i 1 X (tried T i (λ Y. searched T rights k (suc i) Y) rights 1 X) → Came (suc k) i X (tried T i (λ Y. searched T rights k (suc i) Y) rights 1 X)
       whole A = record {
         long = A .long;
         before = A .before;

@@ -11,7 +11,7 @@ use Rattle.unification.proofs.Tests.{true-not-false}
 use Rattle.derivation.specs.Derivation.{RowLiteral}
 use Rattle.verdict.specs.State.{State}
 use Rattle.verdict.specs.Tables.{Tables}
-use Rattle.cover.specs.Answering.{Answer, covers, coversNot, refusedWith, Comparable, Answered}
+use Rattle.cover.specs.Answering.{Answer, covers, coversNot, refusedWith, Comparable, AnswerPromised}
 use Rattle.cover.specs.Covering.{NotAfter}
 use Rattle.cover.proofs.Comparisons.{not-refused-yes, not-refused-no}
 
@@ -27,7 +27,7 @@ one-choice (n ∷ ns) (m ∷ ms) (inr p) (inr q) = ap₂ (λ (x : ℕ) (xs : Lis
 
 module _ (file : List ℕ) (tables : Tables) (c d : ℕ) where
   -- Where there is something to compare, one clause with another has one earliest choice.
-  same-choice : (ns ms : List ℕ) → Answered file tables c d (covers ns) → Answered file tables c d (covers ms) → ns ≡ ms
+  same-choice : (ns ms : List ℕ) → AnswerPromised file tables c d (covers ns) → AnswerPromised file tables c d (covers ms) → ns ≡ ms
   same-choice ns ms A B = try (equalLists ns ms) refl
     where
       compared : (S : State) (C D : List RowLiteral) → Comparable file tables c d S C D → ns ≡ ms
@@ -40,10 +40,10 @@ module _ (file : List ℕ) (tables : Tables) (c d : ℕ) where
       try true q = lists-equal ns ms q
       try false q = absurd (not-refused-yes (A .refusedIf (λ S C D K. true-not-false (ap (equalLists ns) (sym (compared S C D K)) ∙ list-itself ns) q)))
 
-  yes-and-no : (ns : List ℕ) → Answered file tables c d (covers ns) → Answered file tables c d coversNot → ⊥
+  yes-and-no : (ns : List ℕ) → AnswerPromised file tables c d (covers ns) → AnswerPromised file tables c d coversNot → ⊥
   yes-and-no ns A B = not-refused-yes (A .refusedIf (λ S C D K. let x = A .yesOnly S C D K ns refl in B .noOnly S C D K refl (x .0) ns (x .1)))
 
-  pub one-answer : (a b : Answer) → Answered file tables c d a → Answered file tables c d b → a ≡ b
+  pub one-answer : (a b : Answer) → AnswerPromised file tables c d a → AnswerPromised file tables c d b → a ≡ b
   one-answer (covers ns) (covers ms) A B = ap covers (same-choice ns ms A B)
   one-answer (covers ns) coversNot A B = absurd (yes-and-no ns A B)
   one-answer (covers ns) (refusedWith n k) A B = absurd (not-refused-yes (A .refusedIf (B .refusedOnly n k refl)))

@@ -30,7 +30,7 @@ bit-one : (b : Bool) → eqb (bit b) 1 ≡ b
 bit-one true = refl
 bit-one false = refl
 
-module _ (N O : List ℕ) (term : ℕ → Term ℕ) (H : TermsOf N term) (c d kc kd : ℕ) (rowsLeft : (i : ℕ) → i < kc → HasRow N (part O c i / 2)) (rowsRight : (i : ℕ) → i < kd → HasRow N (part O d i / 2)) where
+module _ (N O : List ℕ) (term : ℕ → Term ℕ) (H : TermsOf N term) (c d lefts rights : ℕ) (rowsLeft : (i : ℕ) → i < lefts → HasRow N (part O c i / 2)) (rowsRight : (i : ℕ) → i < rights → HasRow N (part O d i / 2)) where
   -- The literals of a pair, and that σ turns the one into the other.
   abbrev pub PairTurns : Substitution → ℕ → Type 0
   PairTurns σ p = Turns term σ (literalOf (leftNumber O c p)) (literalOf (rightNumber O d p))
@@ -40,10 +40,10 @@ module _ (N O : List ℕ) (term : ℕ → Term ℕ) (H : TermsOf N term) (c d kc
 
   -- What the notes W say of pair p, b being whether it is matched.
   pub record PairCame (p : ℕ) (l : p < 64) (b : Bool) (W : List ℕ) : Type 0 where
-    pub isOne : b ≡ true → isPair kc kd p ≡ true
+    pub isOne : b ≡ true → isPair lefts rights p ≡ true
     pub forth : b ≡ true → (σ : Substitution) → PairTurns σ p → Noted N term H (64 * p) (room p l) σ W
     pub back : b ≡ true → (σ : Substitution) → Noted N term H (64 * p) (room p l) σ W → PairTurns σ p
-    pub clash : b ≡ false → isPair kc kd p ≡ true → (σ : Substitution) → PairTurns σ p → ⊥
+    pub clash : b ≡ false → isPair lefts rights p ≡ true → (σ : Substitution) → PairTurns σ p → ⊥
 
   -- It goes by the pair's own cells.
   noted-same : (p : ℕ) (l : p < 64) (σ : Substitution) (W U : List ℕ) → ((z : ℕ) → 64 * p ≤ z → z < 64 * p + 64 → getD W z 0 ≡ getD U z 0) → Noted N term H (64 * p) (room p l) σ W → Noted N term H (64 * p) (room p l) σ U
@@ -77,7 +77,7 @@ module _ (N O : List ℕ) (term : ℕ → Term ℕ) (H : TermsOf N term) (c d kc
     pub came : PairCame p l (R .0) (R .1)
 
   module _ (p : ℕ) (l : p < 64) (W : List ℕ) (long : length W ≡ 4096) (there : Holds (λ z w. HasRow N w) W) (fresh : (v : ℕ) → v < 64 → getD W (64 * p + v) 0 ≡ 0) where
-    nothing : ((b : Bool) → b ≡ false → isPair kc kd p ≡ true → (σ : Substitution) → PairTurns σ p → ⊥) → OneCame p l W (false, W)
+    nothing : ((b : Bool) → b ≡ false → isPair lefts rights p ≡ true → (σ : Substitution) → PairTurns σ p → ⊥) → OneCame p l W (false, W)
     nothing k = record {
       long = long;
       there = there;
@@ -85,7 +85,7 @@ module _ (N O : List ℕ) (term : ℕ → Term ℕ) (H : TermsOf N term) (c d kc
       came = record { isOne = λ t. absurd (true-not-false t refl); forth = λ t. absurd (true-not-false t refl); back = λ t. absurd (true-not-false t refl); clash = λ t. k false t };
     }
 
-    numbers-came : isPair kc kd p ≡ true → HasRow N (leftNumber O c p / 2) → HasRow N (rightNumber O d p / 2) → OneCame p l W (numbersMatched N p (leftNumber O c p) (rightNumber O d p) W)
+    numbers-came : isPair lefts rights p ≡ true → HasRow N (leftNumber O c p / 2) → HasRow N (rightNumber O d p / 2) → OneCame p l W (numbersMatched N p (leftNumber O c p) (rightNumber O d p) W)
     numbers-came one hx hz = try (eqb (leftNumber O c p % 2) (rightNumber O d p % 2)) refl
       where
         atoms : (R : Bool × List ℕ) → AtomsCame N term H (64 * p) (room p l) (leftNumber O c p / 2) (rightNumber O d p / 2) W R → eqb (leftNumber O c p % 2) (rightNumber O d p % 2) ≡ true → OneCame p l W R
@@ -100,16 +100,16 @@ module _ (N O : List ℕ) (term : ℕ → Term ℕ) (H : TermsOf N term) (c d kc
         try true q = atoms (atomsMatched N (64 * p) (leftNumber O c p / 2) (rightNumber O d p / 2) W) (atoms-came N term H (64 * p) (room p l) (leftNumber O c p / 2) (rightNumber O d p / 2) hx hz W long there fresh) q
         try false q = nothing (λ b t _ σ k. true-not-false (signs-half (leftNumber O c p) (rightNumber O d p) (k .0)) q)
 
-    pair-came : OneCame p l W (pairMatched N O c d kc kd p W)
-    pair-came = try (isPair kc kd p) refl
+    pair-came : OneCame p l W (pairMatched N O c d lefts rights p W)
+    pair-came = try (isPair lefts rights p) refl
       where
-        try : (b : Bool) → isPair kc kd p ≡ b → OneCame p l W (pick b (numbersMatched N p (leftNumber O c p) (rightNumber O d p) W) (false, W))
+        try : (b : Bool) → isPair lefts rights p ≡ b → OneCame p l W (pick b (numbersMatched N p (leftNumber O c p) (rightNumber O d p) W) (false, W))
         try true q =
-            let a = both-true (ltb (p / 8) kc) (leb 1 (p % 8) && leb (p % 8) kd) q in
-            let b = both-true (leb 1 (p % 8)) (leb (p % 8) kd) (a .1) in
-            let x = ltb→lt (p / 8) kc (to-T (ltb (p / 8) kc) (a .0)) in
+            let a = both-true (ltb (p / 8) lefts) (leb 1 (p % 8) && leb (p % 8) rights) q in
+            let b = both-true (leb 1 (p % 8)) (leb (p % 8) rights) (a .1) in
+            let x = ltb→lt (p / 8) lefts (to-T (ltb (p / 8) lefts) (a .0)) in
             let y = leb→le 1 (p % 8) (to-T (leb 1 (p % 8)) (b .0)) in
-            let z = leb→le (p % 8) kd (to-T (leb (p % 8) kd) (b .1)) in
+            let z = leb→le (p % 8) rights (to-T (leb (p % 8) rights) (b .1)) in
             numbers-came q (rowsLeft (p / 8) x) (rowsRight (p % 8 - 1) (omega arith))
         try false q = nothing (λ b t o. absurd (true-not-false o q))
 
@@ -122,13 +122,13 @@ module _ (N O : List ℕ) (term : ℕ → Term ℕ) (H : TermsOf N term) (c d kc
     pub clear : (z : ℕ) → 64 * k ≤ z → getD (P .notes) z 0 ≡ 0
     pub came : (p : ℕ) (l : p < 64) → p < k → PairCame p l (eqb (getD (P .found) p 0) 1) (P .notes)
 
-  pub pairs-came : (k : ℕ) → k ≤ 64 → (P : Pairs) → AllCame 0 P → AllCame k (pairsMatched N O c d kc kd k P)
+  pub pairs-came : (k : ℕ) → k ≤ 64 → (P : Pairs) → AllCame 0 P → AllCame k (pairsMatched N O c d lefts rights k P)
   unfolding pairsMatched
   pairs-came zero b P A = A
-  pairs-came (suc k) b P A = next (pairsMatched N O c d kc kd k P) (pairs-came k (omega arith) P A)
+  pairs-came (suc k) b P A = next (pairsMatched N O c d lefts rights k P) (pairs-came k (omega arith) P A)
     where
-      next : (Q : Pairs) → AllCame k Q → AllCame (suc k) (foundPair k (Q .found) (pairMatched N O c d kc kd k (Q .notes)))
-      next Q B = with′ (pairMatched N O c d kc kd k (Q .notes)) (pair-came k (omega arith) (Q .notes) (B .notesLong) (B .there) (λ v l. B .clear (64 * k + v) (omega arith)))
+      next : (Q : Pairs) → AllCame k Q → AllCame (suc k) (foundPair k (Q .found) (pairMatched N O c d lefts rights k (Q .notes)))
+      next Q B = with′ (pairMatched N O c d lefts rights k (Q .notes)) (pair-came k (omega arith) (Q .notes) (B .notesLong) (B .there) (λ v l. B .clear (64 * k + v) (omega arith)))
         where
           with′ : (R : Bool × List ℕ) → OneCame k (omega arith) (Q .notes) R → AllCame (suc k) (foundPair k (Q .found) R)
           with′ R C = record {

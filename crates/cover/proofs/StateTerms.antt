@@ -3,27 +3,29 @@ use mathlib.Core.Path.{_≡_, refl, sym, ap, _∙_, subst}
 use mathlib.Core.Bool.{Bool, true, false}
 use mathlib.Core.Option.{some}
 use mathlib.Core.List.{List, [], _∷_, map}
-use Prim.Native.Nat.{ℕ, suc, _+_, _-_, _/_, _≤_, _<_}
+use Prim.Native.Nat.{ℕ, zero, suc, _+_, _-_, _/_, _≤_, _<_}
 use native.Mathlib.Omega.{arith}
 use lib.Dec.{eqb}
 use lib.ListN.{length, take, length-map, length-take}
 use Rattle.record.specs.Record.{pick, recordCount}
-use Rattle.unification.specs.Nodes.{part, HasRow, argumentsFrom, nodeArity}
+use Rattle.unification.specs.Nodes.{isVariable, part, HasRow, argumentsFrom, nodeArity}
 use Rattle.unification.specs.Repeated.{IsEarliest}
-use Rattle.unification.specs.Row.{variable, Row, application, rowAt}
+use Rattle.unification.specs.Row.{variable, Row, application, rowAt, argumentTerms}
+use Rattle.unification.specs.Term.{applyAll}
 use Rattle.unification.proofs.Lists.{Each}
 use Rattle.unification.proofs.Repeats.{one-earliest}
-use Rattle.unification.proofs.Rows.{below-other}
+use Rattle.unification.proofs.Rows.{below-other, row-there}
 use Rattle.derivation.specs.Derivation.{literals, input, RowLiteral, literalOf, Derivation, numbered, placed}
+use Rattle.derivation.specs.Ground.{Ground, argumentCount, WellFormed, AllWellFormed}
 use Rattle.derivation.specs.Stored.{originCode, originNumbers, literalsCell, Stored, storedInput, storedResolve, storedFactor}
 use Rattle.derivation.proofs.Literals.{map-numbered, each-numbered}
 use Rattle.clauses.proofs.Numbers.{numbered-take, numbered-origin}
 use Rattle.entry.specs.Progress.{Kept}
 use Rattle.entry.specs.declared.entry.Counts.{Counts}
 use Rattle.entry.proofs.NodeTable.{variable-row, application-row, argument-at}
-use Rattle.inference.proofs.KeptClauses.{stand-of, fit, nodes-fine, stored-of, earliest-rows, there, inside-of}
+use Rattle.inference.proofs.KeptClauses.{stand-of, ok-of, fit, nodes-fine, stored-of, earliest-rows, there, inside-of}
 use Rattle.verdict.specs.Repeats.{numberTerm, termByNumbers}
-use Rattle.verdict.specs.State.{State, rowsOf, derivations, clauseOf}
+use Rattle.verdict.specs.State.{State, rowsOf, derivations, arityOf, clauseOf}
 use Rattle.verdict.specs.Tables.{Tables}
 use Rattle.verdict.proofs.Inversions.{entry-below}
 use Rattle.verdict.proofs.Shared.{ArgumentsEarliest, SharedRows}
@@ -31,6 +33,7 @@ use Rattle.verdict.proofs.WrittenRows.{number-law, equal-terms}
 use Rattle.cover.proofs.Choices.{LiteralsAs}
 use Rattle.cover.proofs.Solutions.{TermsOf}
 use Rattle.cover.proofs.Taking.{equal-to}
+use Rattle.cover.proofs.Truth.{Formed}
 
 -- Rows name only earlier rows.
 before-all : (ws : List Row) (n : ℕ) → length ws ≡ n → (xs : List ℕ) → Each (IsEarliest ws) xs → Each (λ x. x < n) xs
@@ -81,6 +84,37 @@ module _ {F : List ℕ} {t : Tables} {k : ℕ} {S : State} {n : Counts} {here : 
     earlier = λ r m h v l. argument-before r m h (application-row (rowsOf S) (fit K few) N (K .nodes) r (inside-of K few r h) v) l;
     oneRow = λ r q h g e. one-earliest (rowsOf S) r q (inside-of K few r h) (inside-of K few q g) (equal-terms (rowsOf S) shared r q (inside-of K few r h .there) (inside-of K few q g .there) e);
   }
+
+  -- The terms of rows are over symbols that exist, each with as many arguments as its arity.
+  count-all : (δ : ℕ → Ground) (xs : List ℕ) → argumentCount (arityOf S) (applyAll δ (argumentTerms (termByNumbers (rowsOf S)) xs)) ≡ length xs
+  count-all δ [] = refl
+  count-all δ (x ∷ xs) = ap suc (count-all δ xs)
+
+  abbrev FormedRow : ℕ → Type 0
+  FormedRow r = Formed (arityOf S) (termByNumbers (rowsOf S) r)
+
+  arguments-formed : (δ : ℕ → Ground) → ((v : ℕ) → WellFormed (arityOf S) (δ v)) → (r m k : ℕ) → ((j : ℕ) → k ≤ j → j < k + m → FormedRow (part N r (suc j)))
+      → AllWellFormed (arityOf S) (applyAll δ (argumentTerms (termByNumbers (rowsOf S)) (argumentsFrom N r m (suc k))))
+  arguments-formed δ f r zero k h = tt
+  arguments-formed δ f r (suc m) k h = (h k (omega arith) (omega arith) δ f, arguments-formed δ f r m (suc k) (λ j a b. h j (omega arith) (omega arith)))
+
+  formed-below : (n r : ℕ) → r < n → HasRow N r → FormedRow r
+  formed-below zero r l h = absurd (omega arith)
+  formed-below (suc n) r l h = try (isVariable N r) refl (λ q m g. formed-below n q m g)
+    where
+      try : (b : Bool) → isVariable N r ≡ b → ((q : ℕ) → q < n → HasRow N q → FormedRow q) → FormedRow r
+      try true v ih = subst (Formed (arityOf S)) (sym (terms-of .ofVariable r h v)) (λ δ f. f (part N r 0))
+      try false v ih =
+          let xs = argumentsFrom N r (nodeArity N r) 1 in
+          let E = inside-of K few r h in
+          let a = row-there (arityOf S) (rowsOf S) (ok-of K few .rowsOk) r (part N r 0) xs (E .there) (application-row (rowsOf S) (fit K few) N (K .nodes) r E v) in
+          subst (Formed (arityOf S)) (sym (terms-of .ofApplication r h v)) (λ δ f. (
+            a ∙ ap some (sym (count-all δ xs)),
+            arguments-formed δ f r (nodeArity N r) 0 (λ j b c. ih (part N r (suc j)) (let e = terms-of .earlier r j h v (omega arith) in omega arith) (terms-of .nodes .arguments r j h v (omega arith))),
+          ))
+
+  pub row-formed : (w : ℕ) → HasRow N w → Formed (arityOf S) (termByNumbers (rowsOf S) w)
+  row-formed w h = formed-below (suc w) w (omega arith) h
 
   -- An input clause, as the program finds it.
   pub record InputHere (c : ℕ) : Type 0 where

@@ -9,7 +9,7 @@ use Rattle.derivation.specs.Derivation.{input, RowLiteral}
 use Rattle.derivation.specs.Ground.{Assignment}
 use Rattle.verdict.specs.Conditions.{TableShort}
 use Rattle.verdict.specs.Repeats.{termByNumbers}
-use Rattle.verdict.specs.State.{State, rowsOf, clauseOf}
+use Rattle.verdict.specs.State.{State, rowsOf, arityOf, clauseOf}
 use Rattle.verdict.specs.Tables.{Tables}
 use Rattle.verdict.specs.Verdict.{Stands}
 use Rattle.cover.specs.Covering.{Substitution, Works, AllInstancesTrue, NotAfter}
@@ -37,7 +37,8 @@ pub record Comparable (file : List ℕ) (tables : Tables) (c d : ℕ) (S : State
 abbrev pub termIn : State → ℕ → Term ℕ
 termIn S r = termByNumbers (rowsOf S) r
 
-pub record Answered (file : List ℕ) (tables : Tables) (c d : ℕ) (answer : Answer) : Type 0 where
+-- What is promised of the answer to a call: each of refused, yes and no is given exactly in its case.
+pub record AnswerPromised (file : List ℕ) (tables : Tables) (c d : ℕ) (answer : Answer) : Type 0 where
   -- Refused with 15 at record 0 exactly if there is nothing to compare: the file does not stand, a table is too short, or a clause is not an input clause
   -- of the file.
   pub refusedIf : ((S : State) (C D : List RowLiteral) → ¬ Comparable file tables c d S C D) → answer ≡ refusedWith 15 0
@@ -53,4 +54,4 @@ pub record Answered (file : List ℕ) (tables : Tables) (c d : ℕ) (answer : An
   pub noOnly : (S : State) (C D : List RowLiteral) → Comparable file tables c d S C D → answer ≡ coversNot → (σ : Substitution) (ns : List ℕ) → ¬ Works (termIn S) σ C D ns
   -- With a yes, wherever all variable-free instances of C are true, all those of D are.
   pub truth : (S : State) (C D : List RowLiteral) → Comparable file tables c d S C D → (ns : List ℕ) → answer ≡ covers ns
-      → (A : Assignment) → AllInstancesTrue (termIn S) A C → AllInstancesTrue (termIn S) A D
+      → (A : Assignment) → AllInstancesTrue (termIn S) (arityOf S) A C → AllInstancesTrue (termIn S) (arityOf S) A D

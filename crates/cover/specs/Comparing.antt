@@ -12,7 +12,7 @@ use Rattle.checker.specs.Contract.{Workspace, workspaceWith, CheckedWith}
 use Rattle.answer.specs.declared.Answer as answer
 use Rattle.answer.specs.declared.Verdict as verdict
 use Rattle.answer.specs.declared.Verdict.the-variants as verdicts
-use Rattle.cover.specs.Answering.{Answer, tenNumbers, Answered}
+use Rattle.cover.specs.Answering.{Answer, tenNumbers, AnswerPromised}
 use Rattle.cover.specs.Given.{coveringGiven}
 use Rattle.matching.specs.Pairs.{pairsMatched, tableFilled}
 use Rattle.matching.specs.Searching.{searched}
@@ -30,12 +30,12 @@ comparisonNumbers (false, X) = 0 ∷ 0 ∷ 0 ∷ replicate 7 0
 
 -- The pairs matched, the table filled and searched, begun on tables that are lent; and on clear ones.
 abbrev pub comparisonFrom : List ℕ → List ℕ → ℕ → ℕ → ℕ → ℕ → List ℕ → List ℕ → List ℕ → List ℕ → Bool × List ℕ
-comparisonFrom N O c d kc kd F W T X =
-    let P = pairsMatched N O c d kc kd 64 (record { found = F; notes = W }) in
-    searched (tableFilled (P .found) (P .notes) 4096 T) kd kc 0 X
+comparisonFrom N O c d lefts rights F W T X =
+    let P = pairsMatched N O c d lefts rights 64 (record { found = F; notes = W }) in
+    searched (tableFilled (P .found) (P .notes) 4096 T) rights lefts 0 X
 
 unfoldable pub comparison : List ℕ → List ℕ → ℕ → ℕ → ℕ → ℕ → Bool × List ℕ
-comparison N O c d kc kd = comparisonFrom N O c d kc kd (replicate 64 0) (replicate 4096 0) (replicate 4096 0) (replicate 8 0)
+comparison N O c d lefts rights = comparisonFrom N O c d lefts rights (replicate 64 0) (replicate 4096 0) (replicate 4096 0) (replicate 8 0)
 
 -- The tests before it.
 abbrev pub verdictStands : verdict.Verdict → Bool
@@ -61,7 +61,7 @@ pub record AfterCheck (C N O : List ℕ) (a : answer.Answer) : Type 0 where
 pub record CoveringOf (file : List ℕ) (before : Tables) (c d : ℕ) (r : Covering) : Type 0 where
   pub answer : Answer
   pub numbers : coveringGiven r ≡ tenNumbers answer
-  pub answered : Answered file before c d answer
+  pub promised : AnswerPromised file before c d answer
 
 pub record Compared (C N O : List ℕ) (a : answer.Answer) (c d : ℕ) (r : Covering) : Type 0 where
   pub covering : (R : AfterCheck C N O a) → CoveringOf (R .file) (R .before) c d r

@@ -3,7 +3,7 @@ use mathlib.Core.Path.{_≡_}
 use mathlib.Core.List.{List}
 use Prim.Native.Nat.{ℕ}
 use Rattle.verdict.specs.Tables.{Tables, tablesAfter}
-use Rattle.cover.specs.Answering.{Answer, tenNumbers, Answered}
+use Rattle.cover.specs.Answering.{Answer, tenNumbers, AnswerPromised}
 use Rattle.cover.specs.Given.{coveringGiven}
 use Rattle.cover.specs.declared.covering.Covering.{Covering}
 
@@ -11,9 +11,9 @@ pub record CoversAnswered (file : List ℕ) (before : Tables) (c d : ℕ) (r : C
   -- The answer, by its ten numbers, and what is promised of it.
   pub answer : Answer
   pub numbers : coveringGiven r ≡ tenNumbers answer
-  pub answered : Answered file before c d answer
+  pub promised : AnswerPromised file before c d answer
   -- Of no other answer is all that true: every number is decided.
-  pub only : (other : Answer) → Answered file before c d other → other ≡ answer
+  pub only : (other : Answer) → AnswerPromised file before c d other → other ≡ answer
   -- Each table, cell by cell, as the check leaves it.
   pub symbols : after .symbols ≡ tablesAfter file before .symbols
   pub rows : after .rows ≡ tablesAfter file before .rows

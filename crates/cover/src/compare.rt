@@ -1,8 +1,8 @@
 // Two clauses compared, after a check: whether they are input clauses of a file that stands, and then their literals.
+use super::answers::with_choice;
+use super::answers::without_choice;
 use super::covering::Covering;
 use super::covering::Outcome;
-use super::covering::with_choice;
-use super::covering::without_choice;
 use answer::Answer;
 use answer::Verdict;
 use clauses::literals_cell;
@@ -22,7 +22,7 @@ ghost use lib.ListN.{length};
 ghost use Rattle.cover.specs.Comparing.{comparisonNumbers, comparisonFrom, comparison, isInput, verdictStands, AfterCheck, Compared};
 ghost use Rattle.cover.specs.Given.{coveringGiven};
 
-// The literals of c against those of d, kc and kd of them, in tables that are clear.
+// The literals of c against those of d, so many on the left and on the right, in tables that are lent.
 fn choose_in(
     nodes: &Nodes,
     origins: &Origins,
@@ -32,24 +32,24 @@ fn choose_in(
     choice: &mut Choice,
     c: u16,
     d: u16,
-    kc: u16,
-    kd: u16,
+    lefts: u16,
+    rights: u16,
 ) -> Covering
-    requires { ⌜ (length (now nodes) ≡ 32768) × (length (now origins) ≡ 32768) × (length (now found) ≡ 64) × (length (now notes) ≡ 4096) × (length (now table) ≡ 4096) × (length (now choice) ≡ 8) × (kc ≤ 7) × (kd ≤ 7) ⌝ }
-    ensures { λ r. ⌜ coveringGiven r ≡ comparisonNumbers (comparisonFrom (now (nodes .entry)) (now (origins .entry)) c d kc kd (now (found .entry)) (now (notes .entry)) (now (table .entry)) (now (choice .entry))) ⌝ }
+    requires { ⌜ (length (now nodes) ≡ 32768) × (length (now origins) ≡ 32768) × (length (now found) ≡ 64) × (length (now notes) ≡ 4096) × (length (now table) ≡ 4096) × (length (now choice) ≡ 8) × (lefts ≤ 7) × (rights ≤ 7) ⌝ }
+    ensures { λ r. ⌜ coveringGiven r ≡ comparisonNumbers (comparisonFrom (now (nodes .entry)) (now (origins .entry)) c d lefts rights (now (found .entry)) (now (notes .entry)) (now (table .entry)) (now (choice .entry))) ⌝ }
 {
-    match_pairs(nodes, origins, found, notes, c, d, kc, kd);
+    match_pairs(nodes, origins, found, notes, c, d, lefts, rights);
     fill_table(found, notes, table);
-    if search(table, choice, kd, kc, 0) {
+    if search(table, choice, rights, lefts, 0) {
         return with_choice(choice);
     }
     without_choice(Outcome::No)
 }
 
 // The same with tables of its own.
-fn choose(nodes: &Nodes, origins: &Origins, c: u16, d: u16, kc: u16, kd: u16) -> Covering
-    requires { ⌜ (length (now nodes) ≡ 32768) × (length (now origins) ≡ 32768) × (kc ≤ 7) × (kd ≤ 7) ⌝ }
-    ensures { λ r. ⌜ coveringGiven r ≡ comparisonNumbers (comparison (now (nodes .entry)) (now (origins .entry)) c d kc kd) ⌝ }
+fn choose(nodes: &Nodes, origins: &Origins, c: u16, d: u16, lefts: u16, rights: u16) -> Covering
+    requires { ⌜ (length (now nodes) ≡ 32768) × (length (now origins) ≡ 32768) × (lefts ≤ 7) × (rights ≤ 7) ⌝ }
+    ensures { λ r. ⌜ coveringGiven r ≡ comparisonNumbers (comparison (now (nodes .entry)) (now (origins .entry)) c d lefts rights) ⌝ }
 {
     let mut found = [0u16; 64];
     let mut notes = [0u32; 4096];
@@ -64,8 +64,8 @@ fn choose(nodes: &Nodes, origins: &Origins, c: u16, d: u16, kc: u16, kd: u16) ->
         &mut choice,
         c,
         d,
-        kc,
-        kd,
+        lefts,
+        rights,
     )
 }
 

@@ -113,45 +113,45 @@ module _ (N : List ℕ) (p x z : ℕ) (W : List ℕ) where
   signs-agree q e = e ∙ picked (atomsMatched N (64 * p) (x / 2) (z / 2) W) (false, W) (eq-eqb (x % 2) (z % 2) q)
 
 -- A pair, by whether it is one of C's literals and one of D's.
-module _ (N O : List ℕ) (c d kc kd p : ℕ) (W : List ℕ) where
-  no-pair : isPair kc kd p ≡ false → (false, W) ≡ pairMatched N O c d kc kd p W
+module _ (N O : List ℕ) (c d lefts rights p : ℕ) (W : List ℕ) where
+  no-pair : isPair lefts rights p ≡ false → (false, W) ≡ pairMatched N O c d lefts rights p W
   no-pair e = not-picked (numbersMatched N p (part O c (p / 8)) (part O d (p % 8 - 1)) W) (false, W) e
 
-  pub past-left : kc ≤ p / 8 → (false, W) ≡ pairMatched N O c d kc kd p W
-  past-left l = no-pair (ap (λ (b : Bool). b && (leb 1 (p % 8) && leb (p % 8) kd)) (le-ltb (p / 8) kc l))
+  pub past-left : lefts ≤ p / 8 → (false, W) ≡ pairMatched N O c d lefts rights p W
+  past-left l = no-pair (ap (λ (b : Bool). b && (leb 1 (p % 8) && leb (p % 8) rights)) (le-ltb (p / 8) lefts l))
 
-  module _ (l : p / 8 < kc) where
-    pub before-right : p % 8 ≡ 0 → (false, W) ≡ pairMatched N O c d kc kd p W
+  module _ (l : p / 8 < lefts) where
+    pub before-right : p % 8 ≡ 0 → (false, W) ≡ pairMatched N O c d lefts rights p W
     before-right z =
-        no-pair (ap₂ (λ (a b : Bool). a && (b && leb (p % 8) kd)) (lt-ltb (p / 8) kc l) (lt-leb 1 (p % 8) (let k : p % 8 < 1 = omega arith in k)))
+        no-pair (ap₂ (λ (a b : Bool). a && (b && leb (p % 8) rights)) (lt-ltb (p / 8) lefts l) (lt-leb 1 (p % 8) (let k : p % 8 < 1 = omega arith in k)))
 
-    one-on : ¬ (p % 8 ≡ 0) → isPair kc kd p ≡ leb (p % 8) kd
-    one-on n = ap₂ (λ (a b : Bool). a && (b && leb (p % 8) kd)) (lt-ltb (p / 8) kc l) (le-leb 1 (p % 8) (let k : 1 ≤ p % 8 = omega arith in k))
+    one-on : ¬ (p % 8 ≡ 0) → isPair lefts rights p ≡ leb (p % 8) rights
+    one-on n = ap₂ (λ (a b : Bool). a && (b && leb (p % 8) rights)) (lt-ltb (p / 8) lefts l) (le-leb 1 (p % 8) (let k : 1 ≤ p % 8 = omega arith in k))
 
-    pub past-right : ¬ (p % 8 ≡ 0) → kd < p % 8 → (false, W) ≡ pairMatched N O c d kc kd p W
-    past-right n k = no-pair (one-on n ∙ lt-leb (p % 8) kd k)
+    pub past-right : ¬ (p % 8 ≡ 0) → rights < p % 8 → (false, W) ≡ pairMatched N O c d lefts rights p W
+    past-right n k = no-pair (one-on n ∙ lt-leb (p % 8) rights k)
 
-    pub pair-there : {x z : ℕ} {R : Bool × List ℕ} → ¬ (p % 8 ≡ 0) → p % 8 ≤ kd → x ≡ part O c (p / 8) → z ≡ part O d (p % 8 - 1) → R ≡ numbersMatched N p x z W → R ≡ pairMatched N O c d kc kd p W
+    pub pair-there : {x z : ℕ} {R : Bool × List ℕ} → ¬ (p % 8 ≡ 0) → p % 8 ≤ rights → x ≡ part O c (p / 8) → z ≡ part O d (p % 8 - 1) → R ≡ numbersMatched N p x z W → R ≡ pairMatched N O c d lefts rights p W
     pair-there n k ex ez e =
         e ∙ ap₂ (λ (a b : ℕ). numbersMatched N p a b W) ex ez
-        ∙ picked (numbersMatched N p (part O c (p / 8)) (part O d (p % 8 - 1)) W) (false, W) (one-on n ∙ le-leb (p % 8) kd k)
+        ∙ picked (numbersMatched N p (part O c (p / 8)) (part O d (p % 8 - 1)) W) (false, W) (one-on n ∙ le-leb (p % 8) rights k)
 
 -- All pairs: the first p are compared.
 abbrev pub pairsOf : List ℕ → List ℕ → Pairs
 pairsOf F W = record { found = F; notes = W }
 
-pub pairs-none : (N O : List ℕ) (c d kc kd : ℕ) (P : Pairs) → P ≡ pairsMatched N O c d kc kd 0 P
+pub pairs-none : (N O : List ℕ) (c d lefts rights : ℕ) (P : Pairs) → P ≡ pairsMatched N O c d lefts rights 0 P
 unfolding pairsMatched
-pairs-none N O c d kc kd P = refl
+pairs-none N O c d lefts rights P = refl
 
-module _ (N O : List ℕ) (c d kc kd p : ℕ) (P : Pairs) (F W : List ℕ) (w : pairsOf F W ≡ pairsMatched N O c d kc kd p P) where
-  pub pairs-more : {b : Bool} {W′ : List ℕ} {r : ℕ} → (b, W′) ≡ pairMatched N O c d kc kd p W → r ≡ bit b → pairsOf (set F p r) W′ ≡ pairsMatched N O c d kc kd (p + 1) P
+module _ (N O : List ℕ) (c d lefts rights p : ℕ) (P : Pairs) (F W : List ℕ) (w : pairsOf F W ≡ pairsMatched N O c d lefts rights p P) where
+  pub pairs-more : {b : Bool} {W′ : List ℕ} {r : ℕ} → (b, W′) ≡ pairMatched N O c d lefts rights p W → r ≡ bit b → pairsOf (set F p r) W′ ≡ pairsMatched N O c d lefts rights (p + 1) P
   unfolding pairsMatched
   pairs-more {b} {W′} {r} e q =
       ap (λ (n : ℕ). pairsOf (set F p n) W′) q
       ∙ ap (foundPair p F) e
-      ∙ ap (λ (Q : Pairs). foundPair p (Q .found) (pairMatched N O c d kc kd p (Q .notes))) w
-      ∙ sym (ap (λ (n : ℕ). pairsMatched N O c d kc kd n P) (add-one p))
+      ∙ ap (λ (Q : Pairs). foundPair p (Q .found) (pairMatched N O c d lefts rights p (Q .notes))) w
+      ∙ sym (ap (λ (n : ℕ). pairsMatched N O c d lefts rights n P) (add-one p))
 
-  pub pairs-all : (n : ℕ) → p ≤ n → n ≤ p → pairsOf F W ≡ pairsMatched N O c d kc kd n P
-  pairs-all n l k = let z : p ≡ n = omega arith in w ∙ ap (λ (m : ℕ). pairsMatched N O c d kc kd m P) z
+  pub pairs-all : (n : ℕ) → p ≤ n → n ≤ p → pairsOf F W ≡ pairsMatched N O c d lefts rights n P
+  pairs-all n l k = let z : p ≡ n = omega arith in w ∙ ap (λ (m : ℕ). pairsMatched N O c d lefts rights m P) z

@@ -38,51 +38,51 @@ fits-whole T X i = let z : suc i - 0 ≡ suc i = omega arith in ap (λ (m : ℕ)
 
 -- The numbers from n on are left to be tried for literal i.
 abbrev pub leftToTry : List ℕ → ℕ → ℕ → ℕ → ℕ → List ℕ → Bool × List ℕ
-leftToTry T kd left i n X = tried T i (λ Y. searched T kd (left - 1) (suc i) Y) (suc kd - n) n X
+leftToTry T rights left i n X = tried T i (λ Y. searched T rights (left - 1) (suc i) Y) (suc rights - n) n X
 
-pub search-none : (T : List ℕ) (kd left i : ℕ) (X : List ℕ) → left ≡ 0 → (true, X) ≡ searched T kd left i X
-search-none T kd left i X z = sym (ap (λ (k : ℕ). searched T kd k i X) z)
+pub search-none : (T : List ℕ) (rights left i : ℕ) (X : List ℕ) → left ≡ 0 → (true, X) ≡ searched T rights left i X
+search-none T rights left i X z = sym (ap (λ (k : ℕ). searched T rights k i X) z)
 
-pub search-begins : (T : List ℕ) (kd left i : ℕ) (X : List ℕ) → ¬ (left ≡ 0) → leftToTry T kd left i 1 X ≡ searched T kd left i X
-search-begins T kd left i X n =
-    let z : suc kd - 1 ≡ kd = omega arith in
+pub search-begins : (T : List ℕ) (rights left i : ℕ) (X : List ℕ) → ¬ (left ≡ 0) → leftToTry T rights left i 1 X ≡ searched T rights left i X
+search-begins T rights left i X n =
+    let z : suc rights - 1 ≡ rights = omega arith in
     let y : left ≡ suc (left - 1) = omega arith in
-    ap (λ (m : ℕ). tried T i (λ Y. searched T kd (left - 1) (suc i) Y) m 1 X) z ∙ sym (ap (λ (k : ℕ). searched T kd k i X) y)
+    ap (λ (m : ℕ). tried T i (λ Y. searched T rights (left - 1) (suc i) Y) m 1 X) z ∙ sym (ap (λ (k : ℕ). searched T rights k i X) y)
 
-module _ (T : List ℕ) (kd left i n : ℕ) (X : List ℕ) {whole : Bool × List ℕ} (w : leftToTry T kd left i n X ≡ whole) where
+module _ (T : List ℕ) (rights left i n : ℕ) (X : List ℕ) {whole : Bool × List ℕ} (w : leftToTry T rights left i n X ≡ whole) where
   -- What comes of number n, by whether it fits and by what comes after it.
   abbrev here : Bool → Bool × List ℕ → Bool × List ℕ
-  here b P = orNext (pick b P (false, set X i n)) (λ Y. tried T i (λ Z. searched T kd (left - 1) (suc i) Z) (suc kd - (n + 1)) (suc n) Y)
+  here b P = orNext (pick b P (false, set X i n)) (λ Y. tried T i (λ Z. searched T rights (left - 1) (suc i) Z) (suc rights - (n + 1)) (suc n) Y)
 
-  try-here : n ≤ kd → here (fits T (set X i n) i) (searched T kd (left - 1) (suc i) (set X i n)) ≡ whole
+  try-here : n ≤ rights → here (fits T (set X i n) i) (searched T rights (left - 1) (suc i) (set X i n)) ≡ whole
   try-here l =
-      let z : suc kd - n ≡ suc (suc kd - (n + 1)) = omega arith in
-      sym (ap (λ (m : ℕ). tried T i (λ Y. searched T kd (left - 1) (suc i) Y) m n X) z) ∙ w
+      let z : suc rights - n ≡ suc (suc rights - (n + 1)) = omega arith in
+      sym (ap (λ (m : ℕ). tried T i (λ Y. searched T rights (left - 1) (suc i) Y) m n X) z) ∙ w
 
-  after-one : (Y : List ℕ) → tried T i (λ Z. searched T kd (left - 1) (suc i) Z) (suc kd - (n + 1)) (suc n) Y ≡ leftToTry T kd left i (n + 1) Y
-  after-one Y = ap (λ (m : ℕ). tried T i (λ Z. searched T kd (left - 1) (suc i) Z) (suc kd - (n + 1)) m Y) (sym (add-one n))
+  after-one : (Y : List ℕ) → tried T i (λ Z. searched T rights (left - 1) (suc i) Z) (suc rights - (n + 1)) (suc n) Y ≡ leftToTry T rights left i (n + 1) Y
+  after-one Y = ap (λ (m : ℕ). tried T i (λ Z. searched T rights (left - 1) (suc i) Z) (suc rights - (n + 1)) m Y) (sym (add-one n))
 
-  module _ {b : Bool} (f : b ≡ fits T (set X i n) i) (l : n ≤ kd) where
-    pub number-unfit : b ≡ false → {Y : List ℕ} → Y ≡ set X i n → leftToTry T kd left i (n + 1) Y ≡ whole
+  module _ {b : Bool} (f : b ≡ fits T (set X i n) i) (l : n ≤ rights) where
+    pub number-unfit : b ≡ false → {Y : List ℕ} → Y ≡ set X i n → leftToTry T rights left i (n + 1) Y ≡ whole
     number-unfit q {Y} e =
-        ap (leftToTry T kd left i (n + 1)) e ∙ sym (after-one (set X i n))
-        ∙ ap (λ (x : Bool). here x (searched T kd (left - 1) (suc i) (set X i n))) (sym q ∙ f)
+        ap (leftToTry T rights left i (n + 1)) e ∙ sym (after-one (set X i n))
+        ∙ ap (λ (x : Bool). here x (searched T rights (left - 1) (suc i) (set X i n))) (sym q ∙ f)
         ∙ try-here l
 
-    module _ (q : b ≡ true) {s : Bool} {Z : List ℕ} (e : (s, Z) ≡ searched T kd (left - 1) (i + 1) (set X i n)) where
+    module _ (q : b ≡ true) {s : Bool} {Z : List ℕ} (e : (s, Z) ≡ searched T rights (left - 1) (i + 1) (set X i n)) where
       gone-on : here true (s, Z) ≡ whole
       gone-on =
-          ap (here true) (e ∙ ap (λ (m : ℕ). searched T kd (left - 1) m (set X i n)) (add-one i))
-          ∙ ap (λ (x : Bool). here x (searched T kd (left - 1) (suc i) (set X i n))) (sym q ∙ f)
+          ap (here true) (e ∙ ap (λ (m : ℕ). searched T rights (left - 1) m (set X i n)) (add-one i))
+          ∙ ap (λ (x : Bool). here x (searched T rights (left - 1) (suc i) (set X i n))) (sym q ∙ f)
           ∙ try-here l
 
       pub number-found : s ≡ true → (true, Z) ≡ whole
       number-found p = sym (ap (λ (x : Bool). here true (x, Z)) p) ∙ gone-on
 
-      pub number-passed : s ≡ false → {Y : List ℕ} → Y ≡ Z → leftToTry T kd left i (n + 1) Y ≡ whole
-      number-passed p {Y} y = ap (leftToTry T kd left i (n + 1)) y ∙ sym (after-one Z) ∙ sym (ap (λ (x : Bool). here true (x, Z)) p) ∙ gone-on
+      pub number-passed : s ≡ false → {Y : List ℕ} → Y ≡ Z → leftToTry T rights left i (n + 1) Y ≡ whole
+      number-passed p {Y} y = ap (leftToTry T rights left i (n + 1)) y ∙ sym (after-one Z) ∙ sym (ap (λ (x : Bool). here true (x, Z)) p) ∙ gone-on
 
-  pub numbers-spent : kd < n → (false, X) ≡ whole
+  pub numbers-spent : rights < n → (false, X) ≡ whole
   numbers-spent l =
-      let z : suc kd - n ≡ 0 = omega arith in
-      sym (ap (λ (m : ℕ). tried T i (λ Y. searched T kd (left - 1) (suc i) Y) m n X) z) ∙ w
+      let z : suc rights - n ≡ 0 = omega arith in
+      sym (ap (λ (m : ℕ). tried T i (λ Y. searched T rights (left - 1) (suc i) Y) m n X) z) ∙ w

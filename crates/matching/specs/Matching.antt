@@ -1,5 +1,5 @@
 -- How the program matches one atom of C against one of D, down the rows of the node table: what its functions answer and leave. No promise of the
--- crate needs this file.
+-- crate cover needs this file.
 use mathlib.Core.Bool.{Bool, true, false, _&&_}
 use mathlib.Core.List.{List}
 use Prim.Native.Nat.{ℕ, zero, suc, _+_, _*_}

@@ -1,4 +1,4 @@
--- The pairs of a literal of C and one of D, as the program numbers and compares them. No promise of the crate needs this file.
+-- The pairs of a literal of C and one of D, as the program numbers and compares them. No promise of the crate cover needs this file.
 use mathlib.Core.Path.{_≡_}
 use mathlib.Core.Bool.{Bool, true, false, _&&_}
 use mathlib.Core.List.{List}
@@ -9,13 +9,14 @@ use Rattle.record.specs.Record.{pick}
 use Rattle.unification.specs.Nodes.{part}
 use Rattle.matching.specs.Matching.{atomsMatched}
 
+-- 1 for true.
 abbrev pub bit : Bool → ℕ
 bit true = 1
 bit false = 0
 
--- Pair 8 × i + n has literal i of C, from 0, and literal n of D, from 1. It is one of C's literals, kc of them, and of D's, kd of them.
+-- Pair 8 × i + n has literal i of C, from 0, and literal n of D, from 1. Whether it is one, where C has `lefts` literals and D has `rights`.
 abbrev pub isPair : ℕ → ℕ → ℕ → Bool
-isPair kc kd p = ltb (p / 8) kc && (leb 1 (p % 8) && leb (p % 8) kd)
+isPair lefts rights p = ltb (p / 8) lefts && (leb 1 (p % 8) && leb (p % 8) rights)
 
 -- The two literals of a pair, as the table of origins has them: 2 × row, plus 1 if positive.
 abbrev pub leftNumber : List ℕ → ℕ → ℕ → ℕ
@@ -28,21 +29,23 @@ rightNumber O d p = part O d (p % 8 - 1)
 abbrev pub numbersMatched : List ℕ → ℕ → ℕ → ℕ → List ℕ → Bool × List ℕ
 numbersMatched N p x z W = pick (eqb (x % 2) (z % 2)) (atomsMatched N (64 * p) (x / 2) (z / 2) W) (false, W)
 
+-- The same of a pair by its number; what is none is not matched.
 abbrev pub pairMatched : List ℕ → List ℕ → ℕ → ℕ → ℕ → ℕ → ℕ → List ℕ → Bool × List ℕ
-pairMatched N O c d kc kd p W = pick (isPair kc kd p) (numbersMatched N p (leftNumber O c p) (rightNumber O d p) W) (false, W)
+pairMatched N O c d lefts rights p W = pick (isPair lefts rights p) (numbersMatched N p (leftNumber O c p) (rightNumber O d p) W) (false, W)
 
 -- The first k pairs: for each whether it is matched, and the notes.
 pub record Pairs : Type 0 where
   pub found : List ℕ
   pub notes : List ℕ
 
+-- What came of pair p, noted.
 abbrev pub foundPair : ℕ → List ℕ → Bool × List ℕ → Pairs
 foundPair p F X = record { found = set F p (bit (X .0)); notes = X .1 }
 
 unfoldable pub pairsMatched : List ℕ → List ℕ → ℕ → ℕ → ℕ → ℕ → ℕ → Pairs → Pairs
-pairsMatched N O c d kc kd zero P = P
-pairsMatched N O c d kc kd (suc p) P =
-    foundPair p (pairsMatched N O c d kc kd p P .found) (pairMatched N O c d kc kd p (pairsMatched N O c d kc kd p P .notes))
+pairsMatched N O c d lefts rights zero P = P
+pairsMatched N O c d lefts rights (suc p) P =
+    foundPair p (pairsMatched N O c d lefts rights p P .found) (pairMatched N O c d lefts rights p (pairsMatched N O c d lefts rights p P .notes))
 
 -- The notes of two pairs agree at the m variables from v on: no variable has two images.
 abbrev pub agreeAt : ℕ → ℕ → Bool

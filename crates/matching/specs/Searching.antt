@@ -1,4 +1,4 @@
--- The search for the earliest choice in the table of pairs. No promise of the crate needs this file.
+-- The search for the earliest choice in the table of pairs. No promise of the crate cover needs this file.
 use mathlib.Core.Path.{_≡_}
 use mathlib.Core.Bool.{Bool, true, false, _&&_}
 use mathlib.Core.List.{List}
@@ -31,14 +31,14 @@ tried T i after zero n X = (false, X)
 tried T i after (suc m) n X =
     orNext (pick (fits T (set X i n) i) (after (set X i n)) (false, set X i n)) (λ Y. tried T i after m (suc n) Y)
 
--- The k literals from i on get numbers from 1 to kd, the earliest that fit.
+-- The k literals from i on get numbers of D's literals, `rights` of them, the earliest that fit.
 abbrev pub searched : List ℕ → ℕ → ℕ → ℕ → List ℕ → Bool × List ℕ
-searched T kd zero i X = (true, X)
-searched T kd (suc k) i X = tried T i (λ Y. searched T kd k (suc i) Y) kd 1 X
+searched T rights zero i X = (true, X)
+searched T rights (suc k) i X = tried T i (λ Y. searched T rights k (suc i) Y) rights 1 X
 
 -- What the search asks for the `left` literals from i on: at most seven literals on either side.
-pub record Searchable (T X : List ℕ) (kd left i : ℕ) : Type 0 where
+pub record Searchable (T X : List ℕ) (rights left i : ℕ) : Type 0 where
   pub table : length T ≡ 4096
   pub choice : length X ≡ 8
   pub room : i + left < 9
-  pub few : kd < 8
+  pub few : rights < 8

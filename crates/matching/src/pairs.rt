@@ -47,22 +47,22 @@ fn match_pair(
     notes: &mut Notes,
     c: u16,
     d: u16,
-    kc: u16,
-    kd: u16,
+    lefts: u16,
+    rights: u16,
     p: u16,
 ) -> bool
     requires { ⌜ (length (now nodes) ≡ 32768) × (length (now origins) ≡ 32768) × (length (now notes) ≡ 4096) × (p < 64) ⌝ }
-    ensures { λ b. ⌜ ((b, now (notes .exit)) ≡ pairMatched (now (nodes .entry)) (now (origins .entry)) c d kc kd p (now (notes .entry))) × (length (now (notes .exit)) ≡ 4096) ⌝ }
+    ensures { λ b. ⌜ ((b, now (notes .exit)) ≡ pairMatched (now (nodes .entry)) (now (origins .entry)) c d lefts rights p (now (notes .entry))) × (length (now (notes .exit)) ≡ 4096) ⌝ }
 {
     let i = p / 8;
     let n = p % 8;
-    if i >= kc {
+    if i >= lefts {
         return false;
     }
     if n == 0 {
         return false;
     }
-    if n > kd {
+    if n > rights {
         return false;
     }
     match_numbers(
@@ -82,15 +82,15 @@ pub fn match_pairs(
     notes: &mut Notes,
     c: u16,
     d: u16,
-    kc: u16,
-    kd: u16,
+    lefts: u16,
+    rights: u16,
 )
     requires { ⌜ PairTables (now nodes) (now origins) (now found) (now notes) ⌝ }
-    ensures { λ _. ⌜ (record { found = now (found .exit); notes = now (notes .exit) } ≡ pairsMatched (now (nodes .entry)) (now (origins .entry)) c d kc kd 64 (record { found = now (found .entry); notes = now (notes .entry) })) × (length (now (found .exit)) ≡ 64) × (length (now (notes .exit)) ≡ 4096) ⌝ }
+    ensures { λ _. ⌜ (record { found = now (found .exit); notes = now (notes .exit) } ≡ pairsMatched (now (nodes .entry)) (now (origins .entry)) c d lefts rights 64 (record { found = now (found .entry); notes = now (notes .entry) })) × (length (now (found .exit)) ≡ 64) × (length (now (notes .exit)) ≡ 4096) ⌝ }
 {
     let mut p: u16 = 0;
     while p < 64 {
-        let b = match_pair(nodes, origins, notes, c, d, kc, kd, p);
+        let b = match_pair(nodes, origins, notes, c, d, lefts, rights, p);
         found[p as usize] = bit_of(b);
         p += 1;
     }

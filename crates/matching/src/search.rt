@@ -8,12 +8,12 @@ ghost use Rattle.matching.specs.Searching.{pairChosen, fits, searched, S
 // A choice: in cell i the number that literal i of C, from 0, goes to.
 pub type Choice = [u16; 8];
 
-// The number chosen for literal i.
+// The number chosen for literal i, 0 past the last.
 pub fn chosen(choice: &Choice, i: u16) -> u16
-    requires { ⌜ (length (now choice) ≡ 8) × (i < 8) ⌝ }
+    requires { ⌜ length (now choice) ≡ 8 ⌝ }
     ensures { λ n. ⌜ n ≡ getD (now (choice .entry)) i 0 ⌝ }
 {
-    choice[i as usize]
+    if i < 8 { choice[i as usize] } else { 0 }
 }
 
 // The pair chosen for literal i.
@@ -50,18 +50,18 @@ fn fits_before(table: &Together, choice: &Choice, i: u16) -> bool
 }
 
 // So many literals from i on get the earliest numbers that fit.
-pub fn search(table: &Together, choice: &mut Choice, kd: u16, left: u16, i: u16) -> bool
-    requires { ⌜ Searchable (now table) (now choice) kd left i ⌝ }
-    ensures { λ b. ⌜ ((b, now (choice .exit)) ≡ searched (now (table .entry)) kd left i (now (choice .entry))) × (length (now (choice .exit)) ≡ 8) ⌝ }
+pub fn search(table: &Together, choice: &mut Choice, rights: u16, left: u16, i: u16) -> bool
+    requires { ⌜ Searchable (now table) (now choice) rights left i ⌝ }
+    ensures { λ b. ⌜ ((b, now (choice .exit)) ≡ searched (now (table .entry)) rights left i (now (choice .entry))) × (length (now (choice .exit)) ≡ 8) ⌝ }
 {
     if left == 0 {
         return true;
     }
     let mut n: u16 = 1;
-    while n <= kd {
+    while n <= rights {
         choice[i as usize] = n;
         if fits_before(table, choice, i) {
-            if search(table, choice, kd, left - 1, i + 1) {
+            if search(table, choice, rights, left - 1, i + 1) {
                 return true;
             }
         }

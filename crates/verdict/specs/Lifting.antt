@@ -20,8 +20,9 @@ pub record NotLost (S : State) (k : ℕ) (r : Record) (E : GroundClause) : Type 
   -- The step is not refused with 10 or 11.
   pub notRefused : (reason : Reason) → step S k r ≡ refused reason → ¬ OneOf (reasonNumber reason) (10 ∷ 11 ∷ [])
   -- If it stands, E is an instance of the clause that it makes.
-  pub covered : (T : State) → step S k r ≡ stands T → (clause : Derivation) × (T ≡ withClause S k clause) × InstanceOf E (written (termOf S) clause)
+  pub instanceMade : (T : State) → step S k r ≡ stands T → (clause : Derivation) × (T ≡ withClause S k clause) × InstanceOf E (written (termOf S) clause)
 
+-- Of every file, every record that reading comes to, and any values for the parents' variables.
 pub record NothingLost (file : List ℕ) : Type 0 where
   -- If two parents have variable-free instances, with values of their own each, that resolve on the named literals, in kind 7 on all of them.
   pub resolvents : (k : ℕ) (S : State) (r : Record) (ns : List ℕ) (left right : Derivation) → Reached file k S r → RightLiterals r ns

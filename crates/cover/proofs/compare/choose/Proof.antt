@@ -12,7 +12,7 @@ choose-in-requires c κs = search needs
 returns : tie.Need-returns
 returns c =
     let s = c .before .before .before .before .before .args in
-    own-tables _ (s .nodes .now) (s .origins .now) (s .c) (s .d) (s .kc) (s .kd) (c .choose-in .ensures)
+    own-tables _ (s .nodes .now) (s .origins .now) (s .c) (s .d) (s .lefts) (s .rights) (c .choose-in .ensures)
 
 pub choose-spec : {M : Type 1} → statement M
 choose-spec = tie.close (tie.spec choose-in-requires returns)

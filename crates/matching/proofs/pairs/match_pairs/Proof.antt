@@ -10,16 +10,16 @@ use Rattle.matching.proofs.pairs.match_pairs.Statement.{statement}
 use Rattle.matching.proofs.pairs.match_pairs.Tie as tie
 
 abbrev Inv-loop : tie.InvT-loop
-Inv-loop nodes origins found₀ notes₀ c d kc kd p₀ found notes p =
-    (p ≤ 64) × (length found ≡ 64) × (length notes ≡ 4096) × (pairsOf found notes ≡ pairsMatched nodes origins c d kc kd p (pairsOf found₀ notes₀))
+Inv-loop nodes origins found₀ notes₀ c d lefts rights p₀ found notes p =
+    (p ≤ 64) × (length found ≡ 64) × (length notes ≡ 4096) × (pairsOf found notes ≡ pairsMatched nodes origins c d lefts rights p (pairsOf found₀ notes₀))
 
 abbrev μ-loop : tie.MeasureT-loop
-μ-loop nodes origins found₀ notes₀ c d kc kd p₀ found notes p =
+μ-loop nodes origins found₀ notes₀ c d lefts rights p₀ found notes p =
     64 - p
 
 loop-holds : tie.Need-loop-holds Inv-loop μ-loop
 loop-holds c =
-    (omega arith, c .pre .found, c .pre .notes, pairs-none (c .args .nodes .now) (c .args .origins .now) (c .args .c) (c .args .d) (c .args .kc) (c .args .kd) (pairsOf (c .args .found .now) (c .args .notes .now)))
+    (omega arith, c .pre .found, c .pre .notes, pairs-none (c .args .nodes .now) (c .args .origins .now) (c .args .c) (c .args .d) (c .args .lefts) (c .args .rights) (pairsOf (c .args .found .now) (c .args .notes .now)))
 
 match-pair-requires : tie.Need-match-pair-requires Inv-loop μ-loop
 match-pair-requires c κs =
@@ -45,11 +45,11 @@ loop-less c = search needs
 
 loop-again : tie.Need-loop-again Inv-loop μ-loop
 loop-again c =
-    (omega arith, simp length-set (c .before .before .before .before .loop .inv .1), c .before .match-pair .ensures .1, pairs-more (c .before .before .before .before .before .args .nodes .now) (c .before .before .before .before .before .args .origins .now) (c .before .before .before .before .before .args .c) (c .before .before .before .before .before .args .d) (c .before .before .before .before .before .args .kc) (c .before .before .before .before .before .args .kd) (c .before .before .before .before .loop .p) (pairsOf (c .before .before .before .before .before .args .found .now) (c .before .before .before .before .before .args .notes .now)) (c .before .before .before .before .loop .found) (c .before .before .before .before .loop .notes) (c .before .before .before .before .loop .inv .3) (c .before .match-pair .ensures .0) (c .bit-of .ensures))
+    (omega arith, simp length-set (c .before .before .before .before .loop .inv .1), c .before .match-pair .ensures .1, pairs-more (c .before .before .before .before .before .args .nodes .now) (c .before .before .before .before .before .args .origins .now) (c .before .before .before .before .before .args .c) (c .before .before .before .before .before .args .d) (c .before .before .before .before .before .args .lefts) (c .before .before .before .before .before .args .rights) (c .before .before .before .before .loop .p) (pairsOf (c .before .before .before .before .before .args .found .now) (c .before .before .before .before .before .args .notes .now)) (c .before .before .before .before .loop .found) (c .before .before .before .before .loop .notes) (c .before .before .before .before .loop .inv .3) (c .before .match-pair .ensures .0) (c .bit-of .ensures))
 
 returns : tie.Need-returns Inv-loop μ-loop
 returns c =
-    (pairs-all (c .before .before .args .nodes .now) (c .before .before .args .origins .now) (c .before .before .args .c) (c .before .before .args .d) (c .before .before .args .kc) (c .before .before .args .kd) (c .before .loop .p) (pairsOf (c .before .before .args .found .now) (c .before .before .args .notes .now)) (c .before .loop .found) (c .before .loop .notes) (c .before .loop .inv .3) 64 (c .before .loop .inv .0) (c .loop-test .left), c .before .loop .inv .1, c .before .loop .inv .2)
+    (pairs-all (c .before .before .args .nodes .now) (c .before .before .args .origins .now) (c .before .before .args .c) (c .before .before .args .d) (c .before .before .args .lefts) (c .before .before .args .rights) (c .before .loop .p) (pairsOf (c .before .before .args .found .now) (c .before .before .args .notes .now)) (c .before .loop .found) (c .before .loop .notes) (c .before .loop .inv .3) 64 (c .before .loop .inv .0) (c .loop-test .left), c .before .loop .inv .1, c .before .loop .inv .2)
 
 pub match-pairs-spec : {M : Type 1} → statement M
 match-pairs-spec =

@@ -28,12 +28,12 @@ abbrev search-below : ℕ → In 2 search-kinds.ps
 search-below t = and 2 search-kinds.ps (falls 2 search-kinds.ps _<_ μ-search t) search′.Pre
 
 abbrev search-Inv-loop : search-lts.InvT-loop
-search-Inv-loop table choice₀ kd left i n₀ choice n =
-    (1 ≤ n) × (n ≤ suc kd) × (length choice ≡ 8) × (leftToTry table kd left i n choice ≡ searched table kd left i choice₀)
+search-Inv-loop table choice₀ rights left i n₀ choice n =
+    (1 ≤ n) × (n ≤ suc rights) × (length choice ≡ 8) × (leftToTry table rights left i n choice ≡ searched table rights left i choice₀)
 
 abbrev search-μ-loop : search-lts.MeasureT-loop
-search-μ-loop table choice₀ kd left i n₀ choice n =
-    suc kd - n
+search-μ-loop table choice₀ rights left i n₀ choice n =
+    suc rights - n
 
 search-returns : (t : ℕ) → search-lts.Need-returns (
   fits-before-reads.Asked,
@@ -51,7 +51,7 @@ search-loop-holds : (t : ℕ) → search-lts.Need-loop-holds (
   search′.Post,
 ) (search-at t) search′.Post search-Inv-loop search-μ-loop
 search-loop-holds t c =
-    (omega arith, omega arith, c .before .pre .1 .choice, search-begins (c .before .args .table .now) (c .before .args .kd) (c .before .args .left) (c .before .args .i) (c .before .args .choice .now) (c .if1 .left))
+    (omega arith, omega arith, c .before .pre .1 .choice, search-begins (c .before .args .table .now) (c .before .args .rights) (c .before .args .left) (c .before .args .i) (c .before .args .choice .now) (c .if1 .left))
 
 search-mul-choice : (t : ℕ) → search-lts.Need-mul-choice (
   fits-before-reads.Asked,
@@ -112,7 +112,7 @@ search-returns-2 : (t : ℕ) → search-lts.Need-returns-2 (
   search′.Post,
 ) (search-at t) search′.Post search-Inv-loop search-μ-loop
 search-returns-2 t c =
-    (number-found (c .before .before .before .before .before .before .before .before .before .args .table .now) (c .before .before .before .before .before .before .before .before .before .args .kd) (c .before .before .before .before .before .before .before .before .before .args .left) (c .before .before .before .before .before .before .before .before .before .args .i) (c .before .before .before .before .before .before .before .loop .n) (c .before .before .before .before .before .before .before .loop .choice) (c .before .before .before .before .before .before .before .loop .inv .3) (c .before .before .before .before .fits-before .ensures) (c .before .before .before .before .before .before .loop-test .taken) (c .before .before .before .if2 .taken) (c .before .search .ensures .0) (c .if3 .taken), c .before .search .ensures .1)
+    (number-found (c .before .before .before .before .before .before .before .before .before .args .table .now) (c .before .before .before .before .before .before .before .before .before .args .rights) (c .before .before .before .before .before .before .before .before .before .args .left) (c .before .before .before .before .before .before .before .before .before .args .i) (c .before .before .before .before .before .before .before .loop .n) (c .before .before .before .before .before .before .before .loop .choice) (c .before .before .before .before .before .before .before .loop .inv .3) (c .before .before .before .before .fits-before .ensures) (c .before .before .before .before .before .before .loop-test .taken) (c .before .before .before .if2 .taken) (c .before .search .ensures .0) (c .if3 .taken), c .before .search .ensures .1)
 
 search-add-n : (t : ℕ) → search-lts.Need-add-n (
   fits-before-reads.Asked,
@@ -139,7 +139,7 @@ search-loop-again : (t : ℕ) → search-lts.Need-loop-again (
   search′.Post,
 ) (search-at t) search′.Post search-Inv-loop search-μ-loop
 search-loop-again t c =
-    (omega arith, omega (arith, c .before .before .before .loop-test .taken), ⊎-elim (λ w. ap length (w .4) ∙ w .2 .ensures .1) (λ w. ap length (w .1) ∙ simp length-set (c .before .before .before .before .loop .inv .2)) (c .if2 .came), ⊎-elim (λ w. number-passed (c .before .before .before .before .before .before .args .table .now) (c .before .before .before .before .before .before .args .kd) (c .before .before .before .before .before .before .args .left) (c .before .before .before .before .before .before .args .i) (c .before .before .before .before .loop .n) (c .before .before .before .before .loop .choice) (c .before .before .before .before .loop .inv .3) (c .before .fits-before .ensures) (c .before .before .before .loop-test .taken) (w .0 .taken) (w .2 .ensures .0) (w .3 .left) (w .4)) (λ w. number-unfit (c .before .before .before .before .before .before .args .table .now) (c .before .before .before .before .before .before .args .kd) (c .before .before .before .before .before .before .args .left) (c .before .before .before .before .before .before .args .i) (c .before .before .before .before .loop .n) (c .before .before .before .before .loop .choice) (c .before .before .before .before .loop .inv .3) (c .before .fits-before .ensures) (c .before .before .before .loop-test .taken) (w .0 .left) (w .1)) (c .if2 .came))
+    (omega arith, omega (arith, c .before .before .before .loop-test .taken), ⊎-elim (λ w. ap length (w .4) ∙ w .2 .ensures .1) (λ w. ap length (w .1) ∙ simp length-set (c .before .before .before .before .loop .inv .2)) (c .if2 .came), ⊎-elim (λ w. number-passed (c .before .before .before .before .before .before .args .table .now) (c .before .before .before .before .before .before .args .rights) (c .before .before .before .before .before .before .args .left) (c .before .before .before .before .before .before .args .i) (c .before .before .before .before .loop .n) (c .before .before .before .before .loop .choice) (c .before .before .before .before .loop .inv .3) (c .before .fits-before .ensures) (c .before .before .before .loop-test .taken) (w .0 .taken) (w .2 .ensures .0) (w .3 .left) (w .4)) (λ w. number-unfit (c .before .before .before .before .before .before .args .table .now) (c .before .before .before .before .before .before .args .rights) (c .before .before .before .before .before .before .args .left) (c .before .before .before .before .before .before .args .i) (c .before .before .before .before .loop .n) (c .before .before .before .before .loop .choice) (c .before .before .before .before .loop .inv .3) (c .before .fits-before .ensures) (c .before .before .before .loop-test .taken) (w .0 .left) (w .1)) (c .if2 .came))
 
 search-returns-3 : (t : ℕ) → search-lts.Need-returns-3 (
   fits-before-reads.Asked,
@@ -148,7 +148,7 @@ search-returns-3 : (t : ℕ) → search-lts.Need-returns-3 (
   search′.Post,
 ) (search-at t) search′.Post search-Inv-loop search-μ-loop
 search-returns-3 t c =
-    (numbers-spent (c .before .before .before .args .table .now) (c .before .before .before .args .kd) (c .before .before .before .args .left) (c .before .before .before .args .i) (c .before .loop .n) (c .before .loop .choice) (c .before .loop .inv .3) (c .loop-test .left), c .before .loop .inv .2)
+    (numbers-spent (c .before .before .before .args .table .now) (c .before .before .before .args .rights) (c .before .before .before .args .left) (c .before .before .before .args .i) (c .before .loop .n) (c .before .loop .choice) (c .before .loop .inv .3) (c .loop-test .left), c .before .loop .inv .2)
 
 pub +search-spec : {M : Type 1} → statement M
 +search-spec = close μ-search λ t. search-lts.spec (
