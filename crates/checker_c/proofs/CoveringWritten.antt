@@ -11,6 +11,7 @@ use Rattle.cover.specs.declared.covering.Covering.{Covering}
 use Rattle.cover.specs.declared.covering.Outcome.{Outcome}
 use Rattle.cover.specs.declared.covering.Outcome.the-variants.{Yes, No, Refused}
 use Rattle.checker_c.specs.ExportedCovers.{ExportedCovers}
+use Rattle.checker_c.proofs.ProgressWritten.{stored}
 
 -- Seven stores after three numbers put all ten before the rest.
 seven-after : (x y z : ℕ) (xs : List ℕ) (a b c d e f g : ℕ) → 10 ≤ length xs
@@ -39,22 +40,16 @@ covering-stored r xs X q l = ap (λ (Y : List ℕ). withSeven Y r) q ∙ by (r .
     by No = seven-after 0 0 0 xs (r .first) (r .second) (r .third) (r .fourth) (r .fifth) (r .sixth) (r .seventh) l
     by (Refused n k) = seven-after 2 n k xs (r .first) (r .second) (r .third) (r .fourth) (r .fifth) (r .sixth) (r .seventh) l
 
--- Three stores put three numbers before the rest, and leave the length.
-three : (xs : List ℕ) (a b c : ℕ) → 10 ≤ length xs → set (set (set xs 0 a) 1 b) 2 c ≡ a ∷ b ∷ c ∷ drop 3 xs
-three (_ ∷ _ ∷ _ ∷ xs) a b c l = refl
-three (_ ∷ _ ∷ []) a b c l = absurd (omega arith)
-three (_ ∷ []) a b c l = absurd (omega arith)
-three [] a b c l = absurd (omega arith)
-
-pub outcome-stored : (k w n : ℕ) (numbers xs : List ℕ) → (k ∷ w ∷ n ∷ []) ≡ numbers → 10 ≤ length xs → (set (set (set xs 0 k) 1 w) 2 n ≡ numbers ++ drop 3 xs) × (10 ≤ length (set (set (set xs 0 k) 1 w) 2 n))
-outcome-stored k w n numbers xs q l = (
-  three xs k w n l ∙ ap (λ (v : List ℕ). v ++ drop 3 xs) q,
-  subst (λ (m : ℕ). 10 ≤ m) (sym (length-set (set (set xs 0 k) 1 w) 2 n ∙ length-set (set xs 0 k) 1 w ∙ length-set xs 0 k)) l,
-)
-
 -- A slice of ten cells has any cell before the tenth.
 pub at-least : (k n : ℕ) → k ≤ 10 → 10 ≤ n → k ≤ n
 at-least k n a b = omega arith
+
+-- The three numbers of an outcome, and the length that they leave.
+pub outcome-stored : (k w n : ℕ) (numbers xs : List ℕ) → (k ∷ w ∷ n ∷ []) ≡ numbers → 10 ≤ length xs → (set (set (set xs 0 k) 1 w) 2 n ≡ numbers ++ drop 3 xs) × (10 ≤ length (set (set (set xs 0 k) 1 w) 2 n))
+outcome-stored k w n numbers xs q l = (
+  stored k w n numbers xs q (at-least 3 (length xs) (omega arith) l),
+  subst (λ (m : ℕ). 10 ≤ m) (sym (length-set (set (set xs 0 k) 1 w) 2 n ∙ length-set (set xs 0 k) 1 w ∙ length-set xs 0 k)) l,
+)
 
 pub still-nine : (X Y : List ℕ) (a b c d e f : ℕ) → X ≡ Y → 10 ≤ length X → 9 ≤ length (set (set (set (set (set (set X 9 a) 3 b) 4 c) 5 d) 6 e) 7 f)
 still-nine X Y a b c d e f q l = simp length-set (at-least 9 (length X) (omega arith) l)

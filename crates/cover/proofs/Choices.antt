@@ -9,19 +9,21 @@ use native.Mathlib.Omega.{arith}
 use lib.Dec.{eqb, leb, ltb, le→leb, lt→ltb}
 use lib.ListN.{length, getD, set, length-set}
 use lib.Seq.{getD-set-same, getD-set-other}
+use borrow.Author.Tests.{eqb-true, eqb-false, eq-eqb}
 use Rattle.record.specs.Record.{pick}
 use Rattle.unification.specs.Nodes.{part, HasRow}
 use Rattle.unification.specs.Term.{Term, var}
 use Rattle.unification.proofs.Tests.{from-T, both-true, true-not-false, some-not-none, some-injective}
 use Rattle.derivation.specs.Derivation.{RowLiteral, literalOf, numbered}
+use Rattle.verdict.proofs.ExistenceTests.{numbered-within}
 use Rattle.cover.specs.Comparing.{numbersFrom}
 use Rattle.cover.specs.Covering.{Substitution, Turns, Works, NotAfter}
 use Rattle.matching.specs.Pairs.{bit, isPair, leftNumber, rightNumber, Pairs, agreeAt, agreeFrom, goTogether, tableFilled}
 use Rattle.matching.specs.Searching.{pairChosen, fitsFrom, fits, searched}
 use Rattle.cover.proofs.Earliest.{NotAfterFrom, FitFrom, Came, search-came}
-use Rattle.cover.proofs.PairLaws.{together, equal-test, AllCame}
+use Rattle.cover.proofs.PairLaws.{together, AllCame}
 use Rattle.cover.proofs.Solutions.{TermsOf}
-use Rattle.cover.proofs.Taking.{equal-to, differs, same-or-not}
+use Rattle.cover.proofs.Taking.{same-or-not}
 
 -- ── The tests of the table ──
 
@@ -43,9 +45,9 @@ agree-one : (a b w x : ℕ) → a ≡ suc w → b ≡ suc x → agreeAt a b ≡ 
 agree-one a b w x p q h = try (eqb a 0) refl (eqb b 0) refl h
   where
     try : (t : Bool) → eqb a 0 ≡ t → (u : Bool) → eqb b 0 ≡ u → pick t true (pick u true (eqb a b)) ≡ true → w ≡ x
-    try true e u f g = let z = equal-to a 0 e in absurd (omega arith)
-    try false e true f g = let z = equal-to b 0 f in absurd (omega arith)
-    try false e false f g = let z = equal-to a b g in omega arith
+    try true e u f g = let z = eqb-true a 0 e in absurd (omega arith)
+    try false e true f g = let z = eqb-true b 0 f in absurd (omega arith)
+    try false e false f g = let z = eqb-true a b g in omega arith
 
 one-agree : (a b : ℕ) → ((w x : ℕ) → a ≡ suc w → b ≡ suc x → w ≡ x) → agreeAt a b ≡ true
 one-agree a b h = try (eqb a 0) refl (eqb b 0) refl
@@ -58,7 +60,7 @@ one-agree a b h = try (eqb a 0) refl (eqb b 0) refl
     try : (t : Bool) → eqb a 0 ≡ t → (u : Bool) → eqb b 0 ≡ u → pick t true (pick u true (eqb a b)) ≡ true
     try true e u f = refl
     try false e true f = refl
-    try false e false f = equal-test a b (full a b (differs a 0 e) (differs b 0 f) h)
+    try false e false f = eq-eqb a b (full a b (eqb-false a 0 e) (eqb-false b 0 f) h)
 
 fits-each : (T X : List ℕ) (i m j : ℕ) → fitsFrom T X i m j ≡ true → (u : ℕ) → j ≤ u → u < j + m → eqb (getD T (64 * pairChosen X u + pairChosen X i) 0) 1 ≡ true
 fits-each T X i zero j h u a b = absurd (omega arith)
@@ -147,12 +149,6 @@ module _ (term : ℕ → Term ℕ) (σ : Substitution) (D : List RowLiteral) whe
 pub record LiteralsAs (x : ℕ → ℕ) (k : ℕ) (C : List RowLiteral) : Type 0 where
   pub long : length C ≡ k
   pub at : (i : ℕ) → i < k → numbered C (suc i) ≡ some (literalOf (x i))
-
-numbered-inside : (C : List RowLiteral) (n : ℕ) (m : RowLiteral) → numbered C n ≡ some m → (1 ≤ n) × (n ≤ length C)
-numbered-inside [] n m q = absurd (some-not-none refl q)
-numbered-inside (l ∷ C) zero m q = absurd (some-not-none refl q)
-numbered-inside (l ∷ C) (suc zero) m q = (omega arith, omega arith)
-numbered-inside (l ∷ C) (suc (suc n)) m q = let h = numbered-inside C (suc n) m q in (omega arith, omega arith)
 
 -- ── Choices that fit, and choices that work ──
 
@@ -276,7 +272,7 @@ module _ (N O : List ℕ) (term : ℕ → Term ℕ) (H : TermsOf N term) (c d le
       where
         goes : (i : ℕ) (l : RowLiteral) → numbered C (suc i) ≡ some l → (m : RowLiteral) × (numbered D (getD (numbersFrom Z 0 lefts) i 0) ≡ some m) × Turns term (chosenValue Z lefts) l m
         goes i l q =
-            let b : i < lefts = let a = numbered-inside C (suc i) l q in omega (arith, isC .long) in
+            let b : i < lefts = let a = numbered-within C (suc i) l q in omega (arith, isC .long) in
             let f = fit i (omega arith) (omega arith) in
             let a = f .0 in
             let k = f .1 in
@@ -295,7 +291,7 @@ module _ (N O : List ℕ) (term : ℕ → Term ℕ) (H : TermsOf N term) (c d le
         turn : (i : ℕ) → i < lefts → (1 ≤ getD ns i 0) × (getD ns i 0 ≤ rights) × TurnsPair σ (pairChosen ns i)
         turn i b =
             let g = works-at term σ D C ns h i (literalOf (part O c i)) (isC .at i b) in
-            let k = numbered-inside D (getD ns i 0) (g .0) (g .1) in
+            let k = numbered-within D (getD ns i 0) (g .0) (g .1) in
             let a = k .0 in
             let u : getD ns i 0 ≤ rights = omega (arith, k .1, isD .long) in
             let e : suc (getD ns i 0 - 1) ≡ getD ns i 0 = omega arith in

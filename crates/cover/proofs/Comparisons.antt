@@ -7,6 +7,7 @@ use Prim.Native.Nat.{ℕ, zero, suc, _+_, _-_, _/_, _≤_, _<_}
 use native.Mathlib.Omega.{arith}
 use lib.Dec.{eqb, ltb, ltb→lt, lt→ltb}
 use lib.ListN.{length, getD, replicate, length-replicate, length-map}
+use borrow.Author.Tests.{eqb-true, eq-eqb}
 use Rattle.unification.specs.Nodes.{part, HasRow}
 use Rattle.unification.specs.Term.{Term, var}
 use Rattle.unification.proofs.Tests.{to-T, from-T, both-true, true-not-false}
@@ -35,16 +36,11 @@ use Rattle.matching.specs.Searching.{searched}
 use Rattle.cover.specs.declared.covering.Covering as given
 use Rattle.cover.proofs.Choices.{numbers-length, LiteralsAs, table-cell, decided}
 use Rattle.cover.proofs.Earliest.{search-came}
-use Rattle.cover.proofs.PairLaws.{together, equal-test, AllCame, pairs-came}
+use Rattle.cover.proofs.PairLaws.{together, AllCame, pairs-came}
 use Rattle.cover.proofs.Solutions.{TermsOf}
 use Rattle.cover.proofs.StateTerms.{terms-of, row-formed, InputHere, input-here, input-found}
-use Rattle.cover.proofs.Taking.{equal-to}
+use Rattle.cover.proofs.Taking.{only-zeros}
 use Rattle.cover.proofs.Truth.{Formed, covered-true}
-
-zeros-at : (n i : ℕ) → _≡_ {A = ℕ} (getD (replicate n 0) i 0) 0
-zeros-at zero i = refl
-zeros-at (suc n) zero = refl
-zeros-at (suc n) (suc i) = zeros-at n i
 
 -- ── The seven numbers ──
 
@@ -105,7 +101,7 @@ module _ (N O : List ℕ) (term : ℕ → Term ℕ) (H : TermsOf N term) (c d le
 
   pub settled : Settled (comparison N O c d lefts rights)
   unfolding comparison
-  settled = settled-from (replicate 64 0) (replicate 4096 0) (replicate 4096 0) (replicate 8 0) (length-replicate {A = ℕ} 64 0) (length-replicate {A = ℕ} 4096 0) (zeros-at 4096) (length-replicate {A = ℕ} 4096 0) (length-replicate {A = ℕ} 8 0) (zeros-at 8)
+  settled = settled-from (replicate 64 0) (replicate 4096 0) (replicate 4096 0) (replicate 8 0) (length-replicate {A = ℕ} 64 0) (length-replicate {A = ℕ} 4096 0) (only-zeros 4096) (length-replicate {A = ℕ} 4096 0) (length-replicate {A = ℕ} 8 0) (only-zeros 8)
 
 -- ── After a check ──
 
@@ -238,13 +234,13 @@ module _ (CL N O : List ℕ) (a : answer.Answer) (c d : ℕ) (R : AfterCheck CL 
         let b = both-true (ltb e (a .clauses)) (eqb (originCode O e) 1) q in
         let l = ltb→lt e (a .clauses) (to-T (ltb e (a .clauses)) (b .0)) in
         let w = entry-some (derivations left) e (omega (arith, l, count-left, length-map (left .clauses) (λ (x : ℕ × Derivation). x .1))) in
-        input-here (kept .kept) (kept .few) e (w .0) (w .1) (equal-to (originCode O e) 1 (b .1))
+        input-here (kept .kept) (kept .few) e (w .0) (w .1) (eqb-true (originCode O e) 1 (b .1))
 
     passes : (e : ℕ) (ls : List RowLiteral) → clauseOf left e ≡ some (input e ls) → isInput O (a .clauses) e ≡ true
     passes e ls q =
         let w = input-found (kept .kept) (kept .few) e e ls q in
         let l = w .0 in
-        together (ltb e (a .clauses)) (eqb (originCode O e) 1) (from-T (ltb e (a .clauses)) (lt→ltb e (a .clauses) (omega (arith, l, count-left)))) (equal-test (originCode O e) 1 (w .1))
+        together (ltb e (a .clauses)) (eqb (originCode O e) 1) (from-T (ltb e (a .clauses)) (lt→ltb e (a .clauses) (omega (arith, l, count-left)))) (eq-eqb (originCode O e) 1 (w .1))
 
     -- A clause is not an input clause.
     pub left-nothing : isInput O (a .clauses) c ≡ false → (S : State) (C D : List RowLiteral) → ¬ Comparable (R .file) (R .before) c d S C D

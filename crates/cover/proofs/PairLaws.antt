@@ -8,6 +8,7 @@ use native.Mathlib.Omega.{arith}
 use lib.Dec.{eqb, leb, ltb, eqb-refl, leb→le, ltb→lt}
 use lib.ListN.{length, getD, set, length-set}
 use lib.Seq.{getD-set-same, getD-set-other}
+use borrow.Author.Tests.{eqb-true, eqb-false, eq-eqb}
 use Rattle.record.specs.Record.{pick}
 use Rattle.unification.specs.Nodes.{part, HasRow}
 use Rattle.unification.specs.Term.{Term}
@@ -17,14 +18,11 @@ use Rattle.cover.specs.Covering.{Substitution, Turns}
 use Rattle.matching.specs.Matching.{atomsMatched}
 use Rattle.matching.specs.Pairs.{bit, isPair, leftNumber, rightNumber, numbersMatched, pairMatched, Pairs, foundPair, pairsMatched}
 use Rattle.cover.proofs.Solutions.{TermsOf, Noted, AtomsCame, atoms-came}
-use Rattle.cover.proofs.Taking.{equal-to, differs, same-or-not, Holds}
+use Rattle.cover.proofs.Taking.{same-or-not, Holds}
 
 -- Tests as what they are for.
 pub together : (a b : Bool) → a ≡ true → b ≡ true → (a && b) ≡ true
 together a b p q = rw (p, q) refl
-
-pub equal-test : (a b : ℕ) → a ≡ b → eqb a b ≡ true
-equal-test a b e = subst (λ (n : ℕ). eqb a n ≡ true) e (from-T (eqb a a) (eqb-refl a))
 
 bit-one : (b : Bool) → eqb (bit b) 1 ≡ b
 bit-one true = refl
@@ -61,14 +59,14 @@ module _ (N O : List ℕ) (term : ℕ → Term ℕ) (H : TermsOf N term) (c d le
 
   -- Signs are equal exactly if the numbers leave the same remainder.
   half-signs : (x z : ℕ) → eqb (x % 2) (z % 2) ≡ true → literalOf x .0 ≡ literalOf z .0
-  half-signs x z q = ap (λ (n : ℕ). eqb n 1) (equal-to (x % 2) (z % 2) q)
+  half-signs x z q = ap (λ (n : ℕ). eqb n 1) (eqb-true (x % 2) (z % 2) q)
 
   signs-half : (x z : ℕ) → literalOf x .0 ≡ literalOf z .0 → eqb (x % 2) (z % 2) ≡ true
   signs-half x z q = try (eqb (x % 2) 1) refl
     where
       try : (b : Bool) → eqb (x % 2) 1 ≡ b → eqb (x % 2) (z % 2) ≡ true
-      try true e = equal-test (x % 2) (z % 2) (equal-to (x % 2) 1 e ∙ sym (equal-to (z % 2) 1 (sym q ∙ e)))
-      try false e = let a = differs (x % 2) 1 e in let b = differs (z % 2) 1 (sym q ∙ e) in equal-test (x % 2) (z % 2) (omega arith)
+      try true e = eq-eqb (x % 2) (z % 2) (eqb-true (x % 2) 1 e ∙ sym (eqb-true (z % 2) 1 (sym q ∙ e)))
+      try false e = let a = eqb-false (x % 2) 1 e in let b = eqb-false (z % 2) 1 (sym q ∙ e) in eq-eqb (x % 2) (z % 2) (omega arith)
 
   pub record OneCame (p : ℕ) (l : p < 64) (W : List ℕ) (R : Bool × List ℕ) : Type 0 where
     pub long : length (R .1) ≡ 4096

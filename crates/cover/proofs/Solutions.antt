@@ -8,6 +8,7 @@ use Prim.Native.Nat.{ℕ, zero, suc, _+_, _-_, _*_, _≤_, _<_}
 use native.Mathlib.Omega.{arith}
 use lib.Dec.{eqb, eqb-refl}
 use lib.ListN.{length, getD, set, replicate, length-replicate}
+use borrow.Author.Tests.{eqb-true, eqb-false}
 use Rattle.record.specs.Record.{pick}
 use Rattle.unification.specs.Nodes.{isVariable, part, nodeArity, HasRow, hasRow, argumentsFrom, NodesOk}
 use Rattle.unification.specs.Row.{argumentTerms}
@@ -15,7 +16,7 @@ use Rattle.unification.specs.Term.{Term, Terms, var, app, nil, cons, apply, app
 use Rattle.unification.proofs.Tests.{from-T, both-true, true-not-false}
 use Rattle.cover.specs.Covering.{Substitution}
 use Rattle.matching.specs.Matching.{andThen, imaged, sameHead, argumentsImaged, Images, withNotes, withRows, rowMatched, ifImaged, rowsMatched, notesOf, atomsMatched}
-use Rattle.cover.proofs.Taking.{equal-to, differs, same-or-not, Holds, Taken, taken}
+use Rattle.cover.proofs.Taking.{same-or-not, only-zeros, Holds, Taken, taken}
 
 -- The node table N has the rows whose terms, over variable numbers, `term` gives: rows name earlier rows, and equal terms are equal rows.
 pub record TermsOf (N : List ℕ) (term : ℕ → Term ℕ) : Type 0 where
@@ -144,7 +145,7 @@ module _ (N : List ℕ) (term : ℕ → Term ℕ) (H : TermsOf N term) (base : �
 
   arity-code : (r : ℕ) → HasRow N r → isVariable N r ≡ false → getD N (8 * r) 0 ≡ 2 + nodeArity N r
   unfolding isVariable nodeArity
-  arity-code r (hasRow p) v = let n = differs (getD N (8 * r) 0) 1 v in omega arith
+  arity-code r (hasRow p) v = let n = eqb-false (getD N (8 * r) 0) 1 v in omega arith
 
   -- Two rows with one head, the first an application: so is the second, with as many arguments.
   head-variable : (r y : ℕ) → isVariable N r ≡ false → getD N (8 * r) 0 ≡ getD N (8 * y) 0 → isVariable N y ≡ false
@@ -199,10 +200,10 @@ module _ (N : List ℕ) (term : ℕ → Term ℕ) (H : TermsOf N term) (base : �
         parts = both-true (eqb (getD N (8 * r) 0) (getD N (8 * y) 0)) (eqb (part N r 0) (part N y 0)) h
 
         codes : getD N (8 * r) 0 ≡ getD N (8 * y) 0
-        codes = equal-to (getD N (8 * r) 0) (getD N (8 * y) 0) (parts .0)
+        codes = eqb-true (getD N (8 * r) 0) (getD N (8 * y) 0) (parts .0)
 
         symbols : part N r 0 ≡ part N y 0
-        symbols = equal-to (part N r 0) (part N y 0) (parts .1)
+        symbols = eqb-true (part N r 0) (part N y 0) (parts .1)
 
         vy : isVariable N y ≡ false
         vy = head-variable r y v codes
@@ -365,9 +366,4 @@ module _ (N : List ℕ) (term : ℕ → Term ℕ) (H : TermsOf N term) (base : �
         }
 
     pub atoms-came : AtomsCame c d W (atomsMatched N base c d W)
-    atoms-came = from-none (replicate 4096 0) (length-replicate {A = ℕ} 4096 0) (none-in 4096)
-      where
-        none-in : (n x : ℕ) → _≡_ {A = ℕ} (getD (replicate n 0) x 0) 0
-        none-in zero x = refl
-        none-in (suc n) zero = refl
-        none-in (suc n) (suc x) = none-in n x
+    atoms-came = from-none (replicate 4096 0) (length-replicate {A = ℕ} 4096 0) (only-zeros 4096)

@@ -7,6 +7,7 @@ use Prim.Native.Nat.{ℕ, zero, suc, _+_, _-_, _/_, _≤_, _<_}
 use native.Mathlib.Omega.{arith}
 use lib.Dec.{eqb}
 use lib.ListN.{length, take, length-map, length-take}
+use borrow.Author.Tests.{eqb-true}
 use Rattle.record.specs.Record.{pick, recordCount}
 use Rattle.unification.specs.Nodes.{isVariable, part, HasRow, argumentsFrom, nodeArity}
 use Rattle.unification.specs.Repeated.{IsEarliest}
@@ -32,7 +33,6 @@ use Rattle.verdict.proofs.Shared.{ArgumentsEarliest, SharedRows}
 use Rattle.verdict.proofs.WrittenRows.{number-law, equal-terms}
 use Rattle.cover.proofs.Choices.{LiteralsAs}
 use Rattle.cover.proofs.Solutions.{TermsOf}
-use Rattle.cover.proofs.Taking.{equal-to}
 use Rattle.cover.proofs.Truth.{Formed}
 
 -- Rows name only earlier rows.
@@ -51,7 +51,7 @@ arguments-before (w ∷ ws) h r s xs l q = try (eqb r (length ws)) refl q (λ m 
         subst (λ (zs : List ℕ). Each (λ x. x < r) zs) a (before-all ws r (sym e) ys k)
 
     try : (b : Bool) → eqb r (length ws) ≡ b → pick b w (rowAt ws r) ≡ application s xs → (r < length ws → rowAt ws r ≡ application s xs → Each (λ x. x < r) xs) → Each (λ x. x < r) xs
-    try true e p ih = new w (h .0) p (equal-to r (length ws) e)
+    try true e p ih = new w (h .0) p (eqb-true r (length ws) e)
     try false e p ih = ih (below-other r (length ws) e l) p
 
 -- A stored clause whose code is 1 is an input clause, with the literals of its numbers.

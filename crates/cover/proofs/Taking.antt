@@ -5,26 +5,27 @@ use mathlib.Core.Bool.{Bool, true, false}
 use mathlib.Core.List.{List}
 use Prim.Native.Nat.{ℕ, zero, suc, _<_}
 use native.Mathlib.Omega.{arith}
-use lib.Dec.{eqb, eqb→eq, eqb-refl}
-use lib.ListN.{length, getD, set, length-set}
+use lib.Dec.{eqb}
+use lib.ListN.{length, getD, set, replicate, length-set}
 use lib.Seq.{getD-set-same, getD-set-other}
+use borrow.Author.Tests.{eqb-true, eqb-false}
 use Rattle.record.specs.Record.{pick}
-use Rattle.unification.proofs.Tests.{to-T, from-T, true-not-false}
+use Rattle.unification.proofs.Tests.{true-not-false}
 use Rattle.cover.specs.Covering.{Substitution}
 use Rattle.matching.specs.Matching.{imaged}
-
-pub equal-to : (a b : ℕ) → eqb a b ≡ true → a ≡ b
-equal-to a b q = eqb→eq a b (to-T (eqb a b) q)
-
-pub differs : (a b : ℕ) → eqb a b ≡ false → ¬ (a ≡ b)
-differs a b q e = true-not-false (subst (λ (n : ℕ). eqb a n ≡ true) e (from-T (eqb a a) (eqb-refl a))) q
 
 pub same-or-not : (a b : ℕ) → (a ≡ b) ⊎ ¬ (a ≡ b)
 same-or-not a b = try (eqb a b) refl
   where
     try : (t : Bool) → eqb a b ≡ t → (a ≡ b) ⊎ ¬ (a ≡ b)
-    try true q = inl (equal-to a b q)
-    try false q = inr (differs a b q)
+    try true q = inl (eqb-true a b q)
+    try false q = inr (eqb-false a b q)
+
+-- A list of zeros has none but zeros, and zeros past its end.
+pub only-zeros : (n i : ℕ) → _≡_ {A = ℕ} (getD (replicate n 0) i 0) 0
+only-zeros zero i = refl
+only-zeros (suc n) zero = refl
+only-zeros (suc n) (suc i) = only-zeros n i
 
 -- Every image in a table has the property E of its place and its row.
 abbrev pub Holds : (ℕ → ℕ → Type 0) → List ℕ → Type 0
@@ -75,14 +76,14 @@ module _ (There : ℕ → Type 0) (E : Substitution → ℕ → ℕ → Type 0) 
       others = λ z n. refl;
       there = h;
       forth = λ p σ k r. k;
-      back = λ p σ k. (k, k x y (equal-to (getD X x 0) (suc y) (e ∙ p)));
-      clash = λ p σ k r. differs (getD X x 0) (suc y) (e ∙ p) (q ∙ ap suc (one σ w (h x w q) (k x w q) r));
+      back = λ p σ k. (k, k x y (eqb-true (getD X x 0) (suc y) (e ∙ p)));
+      clash = λ p σ k r. eqb-false (getD X x 0) (suc y) (e ∙ p) (q ∙ ap suc (one σ w (h x w q) (k x w q) r));
     }
 
     pub taken : Taken X x y (imaged X x y)
     taken = try (getD X x 0) refl (eqb (getD X x 0) 0) refl
       where
         try : (n : ℕ) → getD X x 0 ≡ n → (b : Bool) → eqb (getD X x 0) 0 ≡ b → Taken X x y (pick b (true, set X x (suc y)) (eqb (getD X x 0) (suc y), X))
-        try n q true e = free (equal-to (getD X x 0) 0 e)
-        try zero q false e = absurd (differs (getD X x 0) 0 e q)
+        try n q true e = free (eqb-true (getD X x 0) 0 e)
+        try zero q false e = absurd (eqb-false (getD X x 0) 0 e q)
         try (suc w) q false e = full w q (eqb (getD X x 0) (suc y)) refl

@@ -41,7 +41,7 @@ numbered-there (x ∷ xs) (suc (suc n)) q = try (numbered-there xs (suc n) q)
     try (inl e) = absurd (omega arith)
     try (inr l) = inr (omega arith)
 
-numbered-within : {A : Type 0} (xs : List A) (n : ℕ) (a : A) → numbered xs n ≡ some a → (1 ≤ n) × (n ≤ length xs)
+pub numbered-within : {A : Type 0} (xs : List A) (n : ℕ) (a : A) → numbered xs n ≡ some a → (1 ≤ n) × (n ≤ length xs)
 numbered-within [] n a q = absurd (some-not-none refl q)
 numbered-within (x ∷ xs) zero a q = absurd (some-not-none refl q)
 numbered-within (x ∷ xs) (suc zero) a q = (omega arith, omega arith)
