@@ -53,9 +53,10 @@ parts (suc n) file = take 16 file ∷ parts n (drop 16 file)
 unfoldable pub records : List ℕ → List Record
 records file = map decoded (parts (recordCount file) file)
 
--- The table of kinds; 7, a resolve on several right literals, is of document 02, Q-3. A number that the table lacks is `otherKind`.
+-- The table of kinds; of document 02 are 7, a resolve on several right literals (Q-3), and 8, the window of an input clause, its first and last day
+-- (Q-6). A number that the table lacks is `otherKind`.
 pub data Kind : Type 0 where
-  symbolKind variableKind applicationKind inputKind resolveKind factorKind severalKind otherKind : Kind
+  symbolKind variableKind applicationKind inputKind resolveKind factorKind severalKind windowKind otherKind : Kind
 
 abbrev pub kindNumbered : ℕ → Kind
 kindNumbered n =
@@ -65,7 +66,8 @@ kindNumbered n =
     (pick (eqb n 4) inputKind
     (pick (eqb n 5) resolveKind
     (pick (eqb n 6) factorKind
-    (pick (eqb n 7) severalKind otherKind))))))
+    (pick (eqb n 7) severalKind
+    (pick (eqb n 8) windowKind otherKind)))))))
 
 -- Fields of a record by their letters.
 abbrev pub fieldA : Record → ℕ

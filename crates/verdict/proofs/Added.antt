@@ -8,7 +8,7 @@ use native.Mathlib.Omega.{arith}
 use lib.Dec.{eqb}
 use lib.ListN.{length, getD, take, drop, length-take, length-drop, length-map}
 use lib.Seq.{getD-take, getD-drop}
-use Rattle.record.specs.Record.{pick, Record, otherKind, Kind, symbolKind, variableKind, applicationKind, inputKind, resolveKind, factorKind, severalKind, fieldA, fieldB, fieldC}
+use Rattle.record.specs.Record.{pick, Record, otherKind, Kind, symbolKind, variableKind, applicationKind, inputKind, resolveKind, factorKind, severalKind, windowKind, fieldA, fieldB, fieldC}
 use Rattle.unification.specs.Repeated.{earliestEqual, orSame}
 use Rattle.unification.specs.Row.{variable, Row}
 use Rattle.unification.proofs.Lists.{Each}
@@ -18,7 +18,7 @@ use Rattle.unification.proofs.Tests.{both-true, some-not-none, some-injective}
 use Rattle.derivation.proofs.Literals.{each-numbered}
 use Rattle.derivation.specs.Derivation.{RowLiteral, literalOf, inputLiterals, resolve, factor, numbered}
 use Rattle.verdict.specs.Conditions.{fieldNumbered, ofApplication, ofInput}
-use Rattle.verdict.specs.Demands.{EarliestEqual, RecordOfRow, ownRecord, earliestRecord, Adds, addsSymbol, addsVariable, addsApplication, addsInput, addsResolvent, addsFactor}
+use Rattle.verdict.specs.Demands.{EarliestEqual, RecordOfRow, ownRecord, earliestRecord, Adds, addsSymbol, addsVariable, addsApplication, addsInput, addsResolvent, addsFactor, addsWindow}
 use Rattle.verdict.specs.Refusal.{kindOfRecord, inRange, hasArity, allBelow, argumentRows, leftOf, rightNumbers, rightOf, deletedOf}
 use Rattle.verdict.specs.State.{State, entry, rowsOf, arityOf, earliestOf, recordOfRow, nextClause}
 use Rattle.verdict.specs.Step.{stands, step, unifyResolve, unifyFactor, newApplication, newLiterals, enterResolvent, enter}
@@ -130,6 +130,7 @@ module _ (S : State) (k : ℕ) (r : Record) (T : State) (seven : length (r .fiel
       let s = named-stands _ (leftOf S r) (deletedOf S r) T q in
       let c = clause-added S k (factor (nextClause S) (s .0 .0) (fieldB r) (fieldC r)) (unifyFactor S (s .0) (s .1)) T (s .4) in
       addsFactor (factors S r (s .0) (s .1) e (s .2) (s .3)) (sym (c .3))
+  adds windowKind e a q = addsWindow (of-kind r windowKind e) (sym (stands-same q))
   adds otherKind e a q = absurd a
 
   pub step-adds : step S k r ≡ stands T → Adds S k r T

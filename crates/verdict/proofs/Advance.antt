@@ -8,7 +8,7 @@ use native.Mathlib.Omega.{arith}
 use lib.Dec.{eqb, leb, leb→le}
 use lib.ListN.{length, take, drop, length-take, length-map, take-append-drop}
 use lib.Seq.{take-length}
-use Rattle.record.specs.Record.{Record, records, recordCount, recordPart, countOf, decoded, otherKind, Kind, symbolKind, variableKind, applicationKind, inputKind, resolveKind, factorKind, severalKind, fieldA, fieldB, fieldC}
+use Rattle.record.specs.Record.{Record, records, recordCount, recordPart, countOf, decoded, otherKind, Kind, symbolKind, variableKind, applicationKind, inputKind, resolveKind, factorKind, severalKind, windowKind, fieldA, fieldB, fieldC}
 use Rattle.record.proofs.Records.{records-length, record-numbered}
 use Rattle.unification.specs.Row.{variable, Row, application}
 use Rattle.unification.proofs.Lists.{Each}
@@ -109,6 +109,7 @@ module _ (F : List ℕ) (k : ℕ) (S : State) (H : Standing F k S) (l : k < reco
         let s = named-stands _ (leftOf S rec) (deletedOf S rec) T z in
         let c = clause-added S k (factor (nextClause S) (s .0 .0) (fieldB rec) (fieldC rec)) (unifyFactor S (s .0) (s .1)) T (s .4) in
         clause-more (factor (nextClause S) (s .0 .0) (fieldB rec) (fieldC rec) (c .0)) (c .3)
+    one-more windowKind a z = subst (Tally F (suc k)) (stands-same z) (record { total = let t = G .total in omega arith; aritiesRead = G .aritiesRead; rowsFit = G .rowsFit })
     one-more otherKind a z = absurd a
 
     pub advance : Standing F (suc k) T

@@ -17,7 +17,7 @@ use Rattle.unification.proofs.Tests.{true-not-false}
 use Rattle.unification.proofs.Trees as trees
 use Rattle.derivation.specs.Derivation.{input, inputLiterals}
 use Rattle.verdict.specs.Cases.{recordOf, inputClause, nines, holding, Case, works, caseOf, cases, CasesHold, refusedForLength, LengthsHold}
-use Rattle.verdict.specs.Edges.{answerTo, ranges, unusedFields, outlines, severalLiterals, indexEdge, literalEdge, workEdge, eights, EdgesHold, ShortTablesHold, TextsHold}
+use Rattle.verdict.specs.Edges.{answerTo, ranges, unusedFields, outlines, severalLiterals, indexEdge, literalEdge, workEdge, eights, EdgesHold, WindowsHold, ShortTablesHold, TextsHold}
 use Rattle.verdict.specs.Readout.{linesOf, joinedLines, readout, readoutLines}
 use Rattle.verdict.specs.Refusal.{unification, mostLiterals, mostIndex}
 use Rattle.verdict.specs.State.{State, emptyState, derivations}
@@ -68,34 +68,36 @@ given-tables (untouched reason) = refl
 given-tables (readTo e) = filled-held (stateOf e)
 
 -- A case, given what becomes of its file, which is then computed once.
-abbrev caseFrom : List ℕ → Reading → Case
-caseFrom file r = record {
+abbrev caseFrom : ℕ → List ℕ → Reading → Case
+caseFrom day file r = record {
+  day = day;
   file = file;
-  answer = answerNumbers (answerOf (verdictGiven r) (stateGiven r));
+  answer = answerNumbers (answerOf (verdictGiven day r) (stateGiven r));
   tables = tablesOf r;
   work = pick (fittingLength (length file)) (works emptyState 0 (records file)) [];
-  readout = joinedLines (linesOf (verdictGiven r) (stateGiven r));
+  readout = joinedLines (linesOf (verdictGiven day r) (stateGiven r));
 }
 
-abbrev caseBy : List ℕ → Lengths → Case
-caseBy file lengths = caseFrom file (reading file lengths)
+abbrev caseBy : ℕ → List ℕ → Lengths → Case
+caseBy day file lengths = caseFrom day file (reading file lengths)
 
-case-by : (file : List ℕ) → caseOf file ≡ caseBy file ninesLengths
+case-by : (day : ℕ) (file : List ℕ) → caseOf day file ≡ caseBy day file ninesLengths
 unfolding tablesAfter check readoutLines
-case-by file = (λ i. record {
+case-by day file = (λ i. record {
+  day = day;
   file = file;
-  answer = answerNumbers (check file (lengthsOf nines));
+  answer = answerNumbers (check day file (lengthsOf nines));
   tables = given-tables (reading file (lengthsOf nines)) i;
   work = pick (fittingLength (length file)) (works emptyState 0 (records file)) [];
-  readout = readout file (lengthsOf nines);
-}) ∙ ap (caseBy file) nines-lengths
+  readout = readout day file (lengthsOf nines);
+}) ∙ ap (caseBy day file) nines-lengths
 
-computed : map (λ c. caseBy (c .file) ninesLengths) cases ≡ cases
+computed : map (λ c. caseBy (c .day) (c .file) ninesLengths) cases ≡ cases
 unfolding fileBytes recordBytes records ending require addClause clashWithin mostOutlinePairs run mostWork mostBindings mostLinks mostLiterals mostIndex
 computed = refl
 
 pub cases-hold : CasesHold
-cases-hold = ap (λ made. map (λ c. made (c .file)) cases) (fun-ext case-by) ∙ computed
+cases-hold = ap (λ made. map (λ c. made (c .day) (c .file)) cases) (fun-ext (λ day. fun-ext (case-by day))) ∙ computed
 
 -- ── The edges of the limits ──
 
@@ -133,10 +135,10 @@ module _ (isFull : List Binding → Bool) (base : Environment) where
 
 -- The answer's numbers, given how reading ended.
 numbersOf : Ending → List ℕ
-numbersOf (allStand S) = answerNumbers (answerOf (verdictOf (allStand S)) S)
+numbersOf (allStand S) = answerNumbers (answerOf (verdictOf 0 (allStand S)) S)
 numbersOf (refusedAt S reason k) = answerNumbers (answerOf (refusal reason k) S)
 
-numbers : (e : Ending) → answerNumbers (answerOf (verdictOf e) (stateOf e)) ≡ numbersOf e
+numbers : (e : Ending) → answerNumbers (answerOf (verdictOf 0 e) (stateOf e)) ≡ numbersOf e
 unfolding numbersOf
 numbers (allStand S) = refl
 numbers (refusedAt S reason k) = refl
@@ -144,7 +146,7 @@ numbers (refusedAt S reason k) = refl
 answered : (rs : List Record) → fittingLength (length (fileBytes rs)) ≡ true → answerTo rs ≡ numbersOf (ending (fileBytes rs))
 unfolding check
 answered rs fits =
-    ap (λ r. answerNumbers (answerOf (verdictGiven r) (stateGiven r))) (reading-records (fileBytes rs) named fits refl) ∙ numbers (ending (fileBytes rs))
+    ap (λ r. answerNumbers (answerOf (verdictGiven 0 r) (stateGiven r))) (reading-records (fileBytes rs) named fits refl) ∙ numbers (ending (fileBytes rs))
 
 -- The state before the two steps of `workEdge`.
 abbrev edgeState : State
@@ -157,6 +159,7 @@ edgeState = record {
       (22, input 3 (inputLiterals (inputClause (30 ∷ [])))) ∷ (21, input 2 (inputLiterals (inputClause (31 ∷ []))))
       ∷ (20, input 1 (inputLiterals (inputClause (28 ∷ [])))) ∷ (19, input 0 (inputLiterals (inputClause (29 ∷ [])))) ∷ [];
   total = 0;
+  windows = [];
 }
 
 -- Its two steps, with the fields that they do not use.
@@ -217,6 +220,10 @@ several-hold = refl
 pub edges-hold : EdgesHold
 edges-hold = λ i. ranges-hold i ++ (unused-hold i ++ (index-edge i ∷ literal-edge i ∷ (answered workEdge work-fits ∙ work-numbers) i ∷ (outlines-hold i ++ several-hold i)))
 
+pub windows-hold : WindowsHold
+unfolding fileBytes recordBytes records check ending require addClause clashWithin mostOutlinePairs run mostWork mostBindings mostLinks mostLiterals mostIndex
+windows-hold = refl
+
 -- ── Tables that are too short ──
 
 -- The check goes by the lengths of the tables alone, and one that is too short ends it.
@@ -227,7 +234,7 @@ eights-lengths : (s r c b : ℕ) → lengthsOf (eights s r c b) ≡ lengthsBy s 
 eights-lengths s r c b =
     λ i. lengthsBy (length-replicate {A = ℕ} s 8 i) (length-replicate {A = ℕ} r 8 i) (length-replicate {A = ℕ} c 8 i) (length-replicate {A = ℕ} b 8 i)
 
-short-answer : (s r c b : ℕ) → longEnough (lengthsBy s r c b) ≡ false → answerNumbers (check [] (lengthsOf (eights s r c b))) ≡ 2 ∷ 2 ∷ 0 ∷ 0 ∷ 0 ∷ 0 ∷ 0 ∷ []
+short-answer : (s r c b : ℕ) → longEnough (lengthsBy s r c b) ≡ false → answerNumbers (check 0 [] (lengthsOf (eights s r c b))) ≡ 2 ∷ 2 ∷ 0 ∷ 0 ∷ 0 ∷ 0 ∷ 0 ∷ []
 unfolding check
 short-answer s r c b short = rw (ap longEnough (eights-lengths s r c b) ∙ short)
 
@@ -250,13 +257,13 @@ short-tables-hold = record {
 pub texts-hold : TextsHold
 texts-hold = record { digits = refl; occurrences64 = refl; occurrences65 = refl }
 
-bad-length : (file : List ℕ) (lengths : Lengths) → fittingLength (length file) ≡ false → answerNumbers (check file lengths) ≡ refusedForLength
+bad-length : (day : ℕ) (file : List ℕ) (lengths : Lengths) → fittingLength (length file) ≡ false → answerNumbers (check day file lengths) ≡ refusedForLength
 unfolding check
-bad-length file lengths f = rw f
+bad-length day file lengths f = rw f
 
 pub lengths-hold : LengthsHold
 lengths-hold = record {
-  longest = λ file tables k l z. true-not-false (rw l refl) (length-only file tables k z);
-  fifteen = λ file lengths l. bad-length file lengths (rw l refl);
-  tooLong = λ file lengths l. bad-length file lengths (rw l refl);
+  longest = λ day file tables k l z. true-not-false (rw l refl) (length-only day file tables k z);
+  fifteen = λ day file lengths l. bad-length day file lengths (rw l refl);
+  tooLong = λ day file lengths l. bad-length day file lengths (rw l refl);
 }

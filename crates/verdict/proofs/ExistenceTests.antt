@@ -9,14 +9,14 @@ use native.Mathlib.Omega.{arith}
 use lib.Dec.{eqb, leb, ltb}
 use lib.ListN.{length, getD, take, drop, length-take, length-drop, length-map, List·getD-map}
 use lib.Seq.{getD-take, getD-drop}
-use Rattle.record.specs.Record.{pick, Record, Kind, applicationKind, inputKind, factorKind, kindNumbered, fieldA, fieldB, fieldC}
+use Rattle.record.specs.Record.{pick, Record, Kind, applicationKind, inputKind, factorKind, windowKind, kindNumbered, fieldA, fieldB, fieldC}
 use Rattle.unification.specs.Row.{Row}
 use Rattle.unification.proofs.Lists.{map-map}
 use Rattle.unification.proofs.Tests.{both-true, true-not-false, some-not-none, some-injective}
-use Rattle.derivation.specs.Derivation.{literals, Literal, RowLiteral, literalOf, inputLiterals, Derivation, numbered, numberedAll}
+use Rattle.derivation.specs.Derivation.{literals, input, resolve, factor, Literal, RowLiteral, literalOf, inputLiterals, Derivation, numbered, numberedAll}
 use Rattle.derivation.proofs.Literals.{numbered-cons}
-use Rattle.verdict.specs.Conditions.{OneOf, fieldNumbered, RightLiterals, NamesClause, leftClause, rightClause, factoredClause, Names, leftLiteral, rightLiteral, keptLiteral, deletedLiteral, NotThere, noSymbolThere, otherArity, noArgumentRow, noLiteralRow, noClause, noLiteral}
-use Rattle.verdict.specs.Refusal.{tests, resolveTests, kindOfRecord, argumentRows, literalIn, literalNamed, leftOf, rightNumbers, literalsIn, rightOf, deletedOf, isThere, hasArity, allBelow, argumentsThere, literalRowsThere, bothThere}
+use Rattle.verdict.specs.Conditions.{OneOf, fieldNumbered, RightLiterals, NamesClause, leftClause, rightClause, factoredClause, datedClause, Names, leftLiteral, rightLiteral, keptLiteral, deletedLiteral, NotThere, noSymbolThere, otherArity, noArgumentRow, noLiteralRow, noClause, noLiteral, derivedClause}
+use Rattle.verdict.specs.Refusal.{tests, resolveTests, kindOfRecord, argumentRows, literalIn, literalNamed, leftOf, rightNumbers, literalsIn, rightOf, deletedOf, isThere, isInput, hasArity, allBelow, argumentsThere, literalRowsThere, bothThere}
 use Rattle.verdict.specs.State.{arities, State, entry, rowsOf, derivations, arityOf, clauseOf}
 use Rattle.verdict.proofs.Inversions.{literal-named, literals-named, is-there, has-arity, all-below, entry-below, testFor}
 use Rattle.verdict.proofs.RangeTests.{at-most, either-false, not-true, not-under, of-kind, unequal, IsResolve, on-one, on-several, right-literals, resolve-kind}
@@ -59,6 +59,12 @@ below-true : (n : ℕ) (xs : List ℕ) → allBelow n xs ≡ true → (i : ℕ) 
 below-true n [] q i l = absurd (omega arith)
 below-true n (a ∷ xs) q zero l = all-below n (a ∷ xs) q .0
 below-true n (a ∷ xs) q (suc i) l = below-true n xs (both-true (ltb a n) (allBelow n xs) q .1) i (omega arith)
+
+pub is-input : (o : Option Derivation) → isInput o ≡ true → (number : ℕ) × (ls : List RowLiteral) × (o ≡ some (input number ls))
+is-input none q = absurd (true-not-false q refl)
+is-input (some (input number ls)) q = (number, ls, refl)
+is-input (some (resolve number l a t ns bs)) q = absurd (true-not-false q refl)
+is-input (some (factor number c a b bs)) q = absurd (true-not-false q refl)
 
 module _ (S : State) (r : Record) (seven : length (r .fields) ≡ 7) where
   many-rows : length (rowsOf S) ≡ length (S .rows)
@@ -162,6 +168,17 @@ module _ (S : State) (r : Record) (seven : length (r .fields) ≡ 7) where
       try (inl p) = literal-absent (fieldA r) (fieldB r) (factoredClause k) (keptLiteral k) p
       try (inr p) = literal-absent (fieldA r) (fieldC r) (factoredClause k) (deletedLiteral k) p
 
+  -- Of a window.
+  pub window-absent : kindOfRecord r ≡ windowKind → isInput (clauseOf S (fieldA r)) ≡ false → NotThere S r
+  window-absent e q = try (clauseOf S (fieldA r)) refl q
+    where
+      k : r .kind ≡ 8
+      k = of-kind r windowKind e
+
+      try : (o : Option Derivation) → clauseOf S (fieldA r) ≡ o → isInput o ≡ false → NotThere S r
+      try none p z = noClause (datedClause k) (let l = entry-there (derivations S) (fieldA r) p in omega (arith, many-clauses))
+      try (some d) p z = derivedClause k p (λ number ls y. true-not-false (ap (λ (x : Derivation). isInput (some x)) y) z)
+
   -- The test for a number fails, by the record's kind.
   abbrev TestFails : ℕ → Type 0
   TestFails n = testFor (tests S (kindOfRecord r) r) n ≡ false
@@ -191,6 +208,10 @@ module _ (S : State) (r : Record) (seven : length (r .fields) ≡ 7) where
   factor-fails : r .kind ≡ 6 → (isThere (leftOf S r) ≡ true → isThere (deletedOf S r) ≡ true → ⊥) → TestFails 5
   factor-fails e never = at-number 6 5 e (not-true (bothThere (leftOf S r) (deletedOf S r)) (λ t. let b = both-true (isThere (leftOf S r)) (isThere (deletedOf S r)) t in never (b .0) (b .1)))
 
+  -- The clause of a window.
+  window-fails : r .kind ≡ 8 → (isInput (clauseOf S (fieldA r)) ≡ true → ⊥) → TestFails 5
+  window-fails e never = at-number 8 5 e (not-true (isInput (clauseOf S (fieldA r))) never)
+
   -- A clause that does not exist.
   rights-within : (ns : List ℕ) → isThere (literalsIn ns (clauseOf S (fieldC r))) ≡ true → (d : Derivation) × (ls : List Literal) × (clauseOf S (fieldC r) ≡ some d) × (numberedAll (literals d) ns ≡ some ls) × (fieldC r < length (S .clauses))
   rights-within ns q =
@@ -202,6 +223,10 @@ module _ (S : State) (r : Record) (seven : length (r .fields) ≡ 7) where
   no-clause-fails (leftClause R) l = resolve-fails R (λ p q. let z = named-within (fieldA r) (fieldB r) p .2 in omega arith)
   no-clause-fails (rightClause {ns} R) l = resolve-fails R (λ p q. let z = rights-within ns q .4 in omega arith)
   no-clause-fails (factoredClause e) l = factor-fails e (λ p q. let z = named-within (fieldA r) (fieldB r) p .2 in omega arith)
+  no-clause-fails (datedClause e) l = window-fails e (λ t.
+      let x = is-input (clauseOf S (fieldA r)) t in
+      let z = entry-below (derivations S) (fieldA r) (input (x .0) (x .1)) (x .2) in
+      omega (arith, many-clauses))
 
   -- A literal that does not exist in a clause that does.
   abbrev Outside : Derivation → ℕ → Type 0
@@ -273,3 +298,4 @@ module _ (S : State) (r : Record) (seven : length (r .fields) ≡ 7) where
       try false q = inl (at-number 4 4 e (rw q refl))
   not-there (noClause names l) = inr (no-clause-fails names l)
   not-there (noLiteral {d = d} names p h) = inr (no-literal-fails d names p h)
+  not-there (derivedClause e p n) = inr (window-fails e (λ t. let x = is-input (clauseOf S (fieldA r)) t in n (x .0) (x .1) (some-injective (sym p ∙ x .2))))

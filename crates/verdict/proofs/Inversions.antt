@@ -8,7 +8,7 @@ use Prim.Native.Nat.{ℕ, suc, _≤_, _<_}
 use native.Mathlib.Omega.{arith}
 use lib.Dec.{eqb, leb, ltb, T, eqb→eq, eqb-refl, leb→le, ltb→lt, lt→ltb}
 use lib.ListN.{length}
-use Rattle.record.specs.Record.{pick, Record, otherKind, Kind, symbolKind, variableKind, applicationKind, inputKind, resolveKind, factorKind, severalKind}
+use Rattle.record.specs.Record.{pick, Record, otherKind, Kind, symbolKind, variableKind, applicationKind, inputKind, resolveKind, factorKind, severalKind, windowKind, fieldA, fieldB, fieldC}
 use Rattle.unification.specs.Environment.{Binding}
 use Rattle.unification.specs.Unification.{Failure, Outcome, unified, failed}
 use Rattle.unification.proofs.Lists.{Each}
@@ -16,7 +16,7 @@ use Rattle.unification.proofs.Rows.{Below, eqb-below}
 use Rattle.unification.proofs.Tests.{to-T, from-T, both-true, true-not-false, some-not-none, some-injective}
 use Rattle.derivation.specs.Derivation.{literals, Literal, RowLiteral, inputLiterals, Derivation, numbered, numberedAll, StrictlyRising}
 use Rattle.derivation.proofs.Literals.{leb-false-lt}
-use Rattle.verdict.specs.Refusal.{tests, outlineTests, Reason, reasonNumber, unification, kindOfRecord, inRange, literalIn, literalNamed, leftOf, rightNumbers, literalsIn, rightOf, deletedOf, isThere, hasArity, allBelow, argumentsThere, literalRowsThere, bothThere, allApplications, equalSigns, allOpposite, oppositeSigns, factorSigns, resolventFits, factorFits, rising, resolveTests}
+use Rattle.verdict.specs.Refusal.{tests, outlineTests, Reason, reasonNumber, unification, kindOfRecord, inRange, literalIn, literalNamed, leftOf, rightNumbers, literalsIn, rightOf, deletedOf, isThere, isInput, hasArity, allBelow, argumentsThere, literalRowsThere, bothThere, allApplications, equalSigns, allOpposite, oppositeSigns, factorSigns, resolventFits, factorFits, rising, resolveTests}
 use Rattle.verdict.specs.State.{State, withClause, entry, rowsOf, clauseOf, rowOf}
 use Rattle.verdict.specs.Step.{stands, refused, Result, require, requireAll, enter, step, addClause, onNamed}
 
@@ -244,6 +244,11 @@ pub record PassedFactor (S : State) (r : Record) : Type 0 where
   pub signs : factorSigns S r ≡ true
   pub limits : factorFits S r ≡ true
 
+pub record PassedWindow (S : State) (r : Record) : Type 0 where
+  pub ranged : inRange windowKind r ≡ true
+  pub there : isInput (clauseOf S (fieldA r)) ≡ true
+  pub days : leb (fieldB r) (fieldC r) ≡ true
+
 abbrev pub Passed : State → Kind → Record → Type 0
 Passed S symbolKind r = inRange symbolKind r ≡ true
 Passed S variableKind r = inRange variableKind r ≡ true
@@ -252,6 +257,7 @@ Passed S inputKind r = PassedInput S r
 Passed S resolveKind r = PassedResolve S resolveKind r
 Passed S severalKind r = PassedResolve S severalKind r
 Passed S factorKind r = PassedFactor S r
+Passed S windowKind r = PassedWindow S r
 Passed S otherKind r = ⊥
 
 -- The test that a list has for a number; true where it has none.
@@ -286,6 +292,9 @@ tests-passed S severalKind r a = resolve-passed S severalKind r a
 tests-passed S factorKind r a =
     let p = passed-for (tests S factorKind r) a in
     record { ranged = p 4; there = p 5; signs = p 8; limits = p 9 }
+tests-passed S windowKind r a =
+    let p = passed-for (tests S windowKind r) a in
+    record { ranged = p 4; there = p 5; days = p 16 }
 tests-passed S otherKind r a = true-not-false (passed-for (tests S otherKind r) a 3) refl
 
 pub not-below : (i n : ℕ) → ltb i n ≡ false → n ≤ i

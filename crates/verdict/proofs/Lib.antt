@@ -10,6 +10,7 @@ pub mod StepTests
 pub mod Added
 pub mod Resolution
 pub mod Refusals
+pub mod InForceShown
 pub mod Demanded
 pub mod Shared
 pub mod Sources
@@ -23,3 +24,4 @@ pub mod RepeatsShown
 pub mod SeveralShown
 pub mod TotalShown
 pub mod LiftingShown
+pub mod DaysShown

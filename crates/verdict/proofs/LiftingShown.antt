@@ -92,8 +92,8 @@ module _ (file : List ℕ) (k : ℕ) (S : State) (r : Record) (R : Reached file 
 
     resolve-not-lost : NotLost S k r E
     resolve-not-lost = record {
-      notRefused = λ reason z o. demand2 file noTables (Unit {0}) .noUnifier k S r reason R z o _ (resolveAtoms resolves) υ unified;
-      instanceMade = λ T z. lifted T (demand2 file noTables (Unit {0}) .resolvents k S T r ns R N z);
+      notRefused = λ reason z o. demand2 0 file noTables (Unit {0}) .noUnifier k S r reason R z o _ (resolveAtoms resolves) υ unified;
+      instanceMade = λ T z. lifted T (demand2 0 file noTables (Unit {0}) .resolvents k S T r ns R N z);
     }
       where
         lifted : (T : State) → ResolventAdded (Unit {0}) S k r ns T → (clause : Derivation) × (T ≡ withClause S k clause) × InstanceOf E (written (termOf S) clause)
@@ -123,9 +123,9 @@ module _ (file : List ℕ) (k : ℕ) (S : State) (r : Record) (R : Reached file 
 
     factor-not-lost : NotLost S k r E
     factor-not-lost = record {
-      notRefused = λ reason z o. demand2 file noTables (Unit {0}) .noUnifier k S r reason R z o _
+      notRefused = λ reason z o. demand2 0 file noTables (Unit {0}) .noUnifier k S r reason R z o _
           (factorAtoms (record { isFactor = is6; isParent = p; isKept = kept .1; isDeleted = deleted .1 })) γ (kept .2 ∙ sym (deleted .2), tt);
-      instanceMade = λ T z. lifted T (demand2 file noTables (Unit {0}) .factors k S T r R is6 z);
+      instanceMade = λ T z. lifted T (demand2 0 file noTables (Unit {0}) .factors k S T r R is6 z);
     }
       where
         lifted : (T : State) → FactorAdded (Unit {0}) S k r T → (clause : Derivation) × (T ≡ withClause S k clause) × InstanceOf E (written (termOf S) clause)

@@ -7,7 +7,7 @@ use mathlib.Core.List.{List, [], _∷_}
 use Prim.Native.Nat.{ℕ, _≤_, _<_}
 use native.Mathlib.Omega.{arith}
 use borrow.Author.Tests.{not-false}
-use Rattle.record.specs.Record.{Record, otherKind, Kind, symbolKind, variableKind, applicationKind, inputKind, resolveKind, factorKind, severalKind, fieldB, fieldC}
+use Rattle.record.specs.Record.{Record, otherKind, Kind, symbolKind, variableKind, applicationKind, inputKind, resolveKind, factorKind, severalKind, windowKind, fieldB, fieldC}
 use Rattle.unification.specs.Environment.{Binding, Environment}
 use Rattle.unification.specs.Outlines.{outlinesClash}
 use Rattle.unification.specs.Unification.{mostWork, mostLinks, endless, Failure, clash, occurs, overwork, full, failureNumber, unify, unified, Pair, noRoom}
@@ -75,6 +75,7 @@ module _ (S : State) where
             (λ z. unified-agree (lookup (s .0 .0)) ((s .0 .1 .1, s .1 .1 .1) ∷ []) (one-clash (s .0 .1) (s .1 .1) z) (c .0) (c .1) (c .2)),
         tt,
       )
+  entered-agrees k r T windowKind q = tt
   entered-agrees k r T otherKind q = tt
 
   stood-stands : (T : State) (k : ℕ) (r : Record) → stepWithoutOutlines S k r ≡ stands T → step S k r ≡ stands T

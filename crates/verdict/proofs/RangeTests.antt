@@ -8,10 +8,10 @@ use native.Mathlib.Omega.{arith}
 use lib.Dec.{eqb, leb, ltb, eqb→eq, eqb-refl, leb→le, nltb→le}
 use lib.ListN.{getD, drop}
 use lib.Seq.{getD-drop}
-use Rattle.record.specs.Record.{pick, Record, otherKind, Kind, symbolKind, variableKind, applicationKind, inputKind, resolveKind, factorKind, severalKind, kindNumbered, fieldA, fieldD}
+use Rattle.record.specs.Record.{pick, Record, otherKind, Kind, symbolKind, variableKind, applicationKind, inputKind, resolveKind, factorKind, severalKind, windowKind, kindNumbered, fieldA, fieldD}
 use Rattle.unification.proofs.Tests.{to-T, from-T, both-true, true-not-false}
 use Rattle.derivation.proofs.Literals.{leb-false-lt}
-use Rattle.verdict.specs.Conditions.{fieldNumbered, Layout, ofSymbol, ofVariable, ofApplication, ofInput, ofResolve, ofFactor, ofSeveral, OutOfRange, countOver, noRightLiteral, variableOver, unusedField, RightLiterals, ofOne, ofSome}
+use Rattle.verdict.specs.Conditions.{fieldNumbered, Layout, ofSymbol, ofVariable, ofApplication, ofInput, ofResolve, ofFactor, ofSeveral, ofWindow, OutOfRange, countOver, noRightLiteral, variableOver, unusedField, RightLiterals, ofOne, ofSome}
 use Rattle.verdict.specs.Refusal.{kindOfRecord, zeros, inRange, rightNumbers}
 
 -- Tests that fail.
@@ -44,46 +44,51 @@ KindNumber inputKind n = n ≡ 4
 KindNumber resolveKind n = n ≡ 5
 KindNumber factorKind n = n ≡ 6
 KindNumber severalKind n = n ≡ 7
-KindNumber otherKind n = (n < 1) ⊎ (7 < n)
+KindNumber windowKind n = n ≡ 8
+KindNumber otherKind n = (n < 1) ⊎ (8 < n)
 
 above-three : (n : ℕ) → 1 ≤ n → ¬ (n ≡ 1) → ¬ (n ≡ 2) → ¬ (n ≡ 3) → 3 < n
 above-three n l a b c = omega arith
 
-above-seven : (n : ℕ) → 3 < n → ¬ (n ≡ 4) → ¬ (n ≡ 5) → ¬ (n ≡ 6) → ¬ (n ≡ 7) → 7 < n
-above-seven n l d e f g = omega arith
+above-eight : (n : ℕ) → 3 < n → ¬ (n ≡ 4) → ¬ (n ≡ 5) → ¬ (n ≡ 6) → ¬ (n ≡ 7) → ¬ (n ≡ 8) → 8 < n
+above-eight n l d e f g h = omega arith
 
 kind-number : (n : ℕ) → KindNumber (kindNumbered n) n
 kind-number n = one (eqb n 1) refl
   where
-    outside : ¬ (n ≡ 1) → ¬ (n ≡ 2) → ¬ (n ≡ 3) → ¬ (n ≡ 4) → ¬ (n ≡ 5) → ¬ (n ≡ 6) → ¬ (n ≡ 7) → (b : Bool) → leb 1 n ≡ b → (n < 1) ⊎ (7 < n)
-    outside a b c d e f g true q = inr (above-seven n (above-three n (at-most 1 n q) a b c) d e f g)
-    outside a b c d e f g false q = inl (leb-false-lt 1 n q)
+    outside : ¬ (n ≡ 1) → ¬ (n ≡ 2) → ¬ (n ≡ 3) → ¬ (n ≡ 4) → ¬ (n ≡ 5) → ¬ (n ≡ 6) → ¬ (n ≡ 7) → ¬ (n ≡ 8) → (b : Bool) → leb 1 n ≡ b → (n < 1) ⊎ (8 < n)
+    outside a b c d e f g h true q = inr (above-eight n (above-three n (at-most 1 n q) a b c) d e f g h)
+    outside a b c d e f g h false q = inl (leb-false-lt 1 n q)
 
-    seven : ¬ (n ≡ 1) → ¬ (n ≡ 2) → ¬ (n ≡ 3) → ¬ (n ≡ 4) → ¬ (n ≡ 5) → ¬ (n ≡ 6) → (b : Bool) → eqb n 7 ≡ b → KindNumber (pick b severalKind otherKind) n
+    eight : ¬ (n ≡ 1) → ¬ (n ≡ 2) → ¬ (n ≡ 3) → ¬ (n ≡ 4) → ¬ (n ≡ 5) → ¬ (n ≡ 6) → ¬ (n ≡ 7) → (b : Bool) → eqb n 8 ≡ b → KindNumber (pick b windowKind otherKind) n
+    eight a b c d e f g true q = equal n 8 q
+    eight a b c d e f g false q = outside a b c d e f g (unequal n 8 q) (leb 1 n) refl
+
+    seven : ¬ (n ≡ 1) → ¬ (n ≡ 2) → ¬ (n ≡ 3) → ¬ (n ≡ 4) → ¬ (n ≡ 5) → ¬ (n ≡ 6) → (b : Bool) → eqb n 7 ≡ b → KindNumber (pick b severalKind (pick (eqb n 8) windowKind otherKind)) n
     seven a b c d e f true q = equal n 7 q
-    seven a b c d e f false q = outside a b c d e f (unequal n 7 q) (leb 1 n) refl
+    seven a b c d e f false q = eight a b c d e f (unequal n 7 q) (eqb n 8) refl
 
-    six : ¬ (n ≡ 1) → ¬ (n ≡ 2) → ¬ (n ≡ 3) → ¬ (n ≡ 4) → ¬ (n ≡ 5) → (b : Bool) → eqb n 6 ≡ b → KindNumber (pick b factorKind (pick (eqb n 7) severalKind otherKind)) n
+    six : ¬ (n ≡ 1) → ¬ (n ≡ 2) → ¬ (n ≡ 3) → ¬ (n ≡ 4) → ¬ (n ≡ 5) → (b : Bool) → eqb n 6 ≡ b → KindNumber (pick b factorKind (pick (eqb n 7) severalKind (pick (eqb n 8) windowKind otherKind))) n
     six a b c d e true q = equal n 6 q
     six a b c d e false q = seven a b c d e (unequal n 6 q) (eqb n 7) refl
 
-    five : ¬ (n ≡ 1) → ¬ (n ≡ 2) → ¬ (n ≡ 3) → ¬ (n ≡ 4) → (b : Bool) → eqb n 5 ≡ b → KindNumber (pick b resolveKind (pick (eqb n 6) factorKind (pick (eqb n 7) severalKind otherKind))) n
+    five : ¬ (n ≡ 1) → ¬ (n ≡ 2) → ¬ (n ≡ 3) → ¬ (n ≡ 4) → (b : Bool) → eqb n 5 ≡ b → KindNumber (pick b resolveKind (pick (eqb n 6) factorKind (pick (eqb n 7) severalKind (pick (eqb n 8) windowKind otherKind)))) n
     five a b c d true q = equal n 5 q
     five a b c d false q = six a b c d (unequal n 5 q) (eqb n 6) refl
 
-    four : ¬ (n ≡ 1) → ¬ (n ≡ 2) → ¬ (n ≡ 3) → (b : Bool) → eqb n 4 ≡ b → KindNumber (pick b inputKind (pick (eqb n 5) resolveKind (pick (eqb n 6) factorKind (pick (eqb n 7) severalKind otherKind)))) n
+    four : ¬ (n ≡ 1) → ¬ (n ≡ 2) → ¬ (n ≡ 3) → (b : Bool) → eqb n 4 ≡ b → KindNumber (pick b inputKind (pick (eqb n 5) resolveKind (pick (eqb n 6) factorKind (pick (eqb n 7) severalKind (pick (eqb n 8) windowKind otherKind))))) n
     four a b c true q = equal n 4 q
     four a b c false q = five a b c (unequal n 4 q) (eqb n 5) refl
 
-    three : ¬ (n ≡ 1) → ¬ (n ≡ 2) → (b : Bool) → eqb n 3 ≡ b → KindNumber (pick b applicationKind (pick (eqb n 4) inputKind (pick (eqb n 5) resolveKind (pick (eqb n 6) factorKind (pick (eqb n 7) severalKind otherKind))))) n
+    three : ¬ (n ≡ 1) → ¬ (n ≡ 2) → (b : Bool) → eqb n 3 ≡ b → KindNumber (pick b applicationKind (pick (eqb n 4) inputKind (pick (eqb n 5) resolveKind (pick (eqb n 6) factorKind (pick (eqb n 7) severalKind (pick (eqb n 8) windowKind otherKind)))))) n
     three a b true q = equal n 3 q
     three a b false q = four a b (unequal n 3 q) (eqb n 4) refl
 
-    two : ¬ (n ≡ 1) → (b : Bool) → eqb n 2 ≡ b → KindNumber (pick b variableKind (pick (eqb n 3) applicationKind (pick (eqb n 4) inputKind (pick (eqb n 5) resolveKind (pick (eqb n 6) factorKind (pick (eqb n 7) severalKind otherKind)))))) n
+    two : ¬ (n ≡ 1) → (b : Bool) → eqb n 2 ≡ b → KindNumber (pick b variableKind (pick (eqb n 3) applicationKind (pick (eqb n 4) inputKind (pick (eqb n 5) resolveKind (pick (eqb n 6) factorKind (pick (eqb n 7) severalKind (pick (eqb n 8) windowKind otherKind))))))) n
     two a true q = equal n 2 q
     two a false q = three a (unequal n 2 q) (eqb n 3) refl
 
-    one : (b : Bool) → eqb n 1 ≡ b → KindNumber (pick b symbolKind (pick (eqb n 2) variableKind (pick (eqb n 3) applicationKind (pick (eqb n 4) inputKind (pick (eqb n 5) resolveKind (pick (eqb n 6) factorKind (pick (eqb n 7) severalKind otherKind))))))) n
+    one : (b : Bool) → eqb n 1 ≡ b → KindNumber (pick b symbolKind (pick (eqb n 2) variableKind (pick (eqb n 3) applicationKind (pick (eqb n 4) inputKind (pick (eqb n 5) resolveKind (pick (eqb n 6) factorKind (pick (eqb n 7) severalKind (pick (eqb n 8) windowKind otherKind)))))))) n
     one true q = equal n 1 q
     one false q = two (unequal n 1 q) (eqb n 2) refl
 
@@ -91,10 +96,10 @@ pub of-kind : (r : Record) (kind : Kind) → kindOfRecord r ≡ kind → KindNum
 of-kind r kind e = subst (λ (k : Kind). KindNumber k (r .kind)) e (kind-number (r .kind))
 
 -- A record whose kind has no number of the table.
-pub other-kind : (r : Record) → (r .kind < 1) ⊎ (7 < r .kind) → kindOfRecord r ≡ otherKind
+pub other-kind : (r : Record) → (r .kind < 1) ⊎ (8 < r .kind) → kindOfRecord r ≡ otherKind
 other-kind r h = try (kindOfRecord r) (kind-number (r .kind)) h
   where
-    try : (k : Kind) → KindNumber k (r .kind) → (r .kind < 1) ⊎ (7 < r .kind) → k ≡ otherKind
+    try : (k : Kind) → KindNumber k (r .kind) → (r .kind < 1) ⊎ (8 < r .kind) → k ≡ otherKind
     try symbolKind e (inl l) = absurd (omega arith)
     try symbolKind e (inr l) = absurd (omega arith)
     try variableKind e (inl l) = absurd (omega arith)
@@ -109,6 +114,8 @@ other-kind r h = try (kindOfRecord r) (kind-number (r .kind)) h
     try factorKind e (inr l) = absurd (omega arith)
     try severalKind e (inl l) = absurd (omega arith)
     try severalKind e (inr l) = absurd (omega arith)
+    try windowKind e (inl l) = absurd (omega arith)
+    try windowKind e (inr l) = absurd (omega arith)
     try otherKind e l = refl
 
 -- The two kinds of a resolve, and their right literals.
@@ -202,6 +209,7 @@ module _ (r : Record) where
   range-over resolveKind e q = step-over (ofResolve (of-kind r resolveKind e)) q
   range-over factorKind e q = step-over (ofFactor (of-kind r factorKind e)) q
   range-over severalKind e q = several-over (of-kind r severalKind e) q
+  range-over windowKind e q = step-over (ofWindow (of-kind r windowKind e)) q
   range-over otherKind e q = absurd (true-not-false refl q)
 
   -- And one that holds.
@@ -243,6 +251,7 @@ module _ (r : Record) where
   range-fits (ofResolve e) q = step-fits 4 (ranged-at 5 e q)
   range-fits (ofFactor e) q = step-fits 3 (ranged-at 6 e q)
   range-fits (ofSeveral e) q = several-fits (ranged-at 7 e q) .0
+  range-fits (ofWindow e) q = step-fits 3 (ranged-at 8 e q)
 
   not-in-range : OutOfRange r → ¬ (inRange (kindOfRecord r) r ≡ true)
   not-in-range (countOver a l) q = let z = range-fits a q .0 in omega arith

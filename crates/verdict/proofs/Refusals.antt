@@ -9,7 +9,7 @@ use native.Mathlib.Omega.{arith}
 use lib.Dec.{eqb, leb, eqb→eq}
 use lib.ListN.{length, take}
 use borrow.Author.Tests.{not-false}
-use Rattle.record.specs.Record.{pick, Record, records, otherKind, Kind, kindNumbered, symbolKind, variableKind, applicationKind, inputKind, resolveKind, factorKind, severalKind, fieldB, fieldC}
+use Rattle.record.specs.Record.{pick, Record, records, otherKind, Kind, kindNumbered, symbolKind, variableKind, applicationKind, inputKind, resolveKind, factorKind, severalKind, windowKind, fieldB, fieldC}
 use Rattle.unification.specs.Environment.{Binding, Environment}
 use Rattle.unification.specs.Failing.{Failing}
 use Rattle.unification.specs.Outlines.{outlinesClash}
@@ -23,14 +23,14 @@ use Rattle.unification.proofs.Tests.{to-T, both-true, true-not-false, some-inje
 use Rattle.derivation.specs.Derivation.{Literal, Derivation, resolve, factor, pairsWith, maximumIndex, joined, lookup}
 use Rattle.derivation.specs.Written.{renamed}
 use Rattle.derivation.proofs.Validity.{signed}
-use Rattle.verdict.specs.Conditions.{OneOf, RightLiterals, ofOne, ofSome, Resolves, OutlinesClash, resolveOutlines, factorOutlines, Fails, StepFails, resolveFails, factorFails, Condition, unknownKind, outsideRange, nothingThere, fallingLiterals, variableAsLiteral, unfitSigns, largeResult, clashingOutlines, clashing, occurring, overworking, overfull}
+use Rattle.verdict.specs.Conditions.{OneOf, RightLiterals, ofOne, ofSome, Resolves, OutlinesClash, resolveOutlines, factorOutlines, Fails, StepFails, resolveFails, factorFails, Condition, unknownKind, outsideRange, nothingThere, fallingLiterals, crossingDays, variableAsLiteral, unfitSigns, largeResult, clashingOutlines, clashing, occurring, overworking, overfull}
 use Rattle.verdict.specs.Demands.{Reached, atomOf, StepAtoms, resolveAtoms, factorAtoms}
 use Rattle.verdict.specs.Refusal.{tests, resolveTests, outlineTests, outlinesOfResolve, outlinesAgree, onBoth, Reason, unification, reasonNumber, precedence, kindOfRecord, inRange, leftOf, rightNumbers, rightOf, deletedOf}
 use Rattle.verdict.specs.State.{State, emptyState, rowsOf, rowOf, nextClause}
 use Rattle.verdict.specs.Step.{stands, refused, Result, require, requireAll, step, addClause, atoms, unifyResolve, unifyFactor, enterResolvent, enter}
 use Rattle.verdict.proofs.RangeTests.{not-true, either-false, of-kind, other-kind, range-over, out-of-range, IsResolve, on-one, on-several}
-use Rattle.verdict.proofs.ExistenceTests.{arguments-absent, literal-rows-absent, resolve-absent, factor-absent, not-there}
-use Rattle.verdict.proofs.StepTests.{literal-on-variable, on-variable-fails, not-rising, rising-fails, kind-of-resolve, resolves-left, factors-kept, factors-deleted, resolves, factors, both-named, resolve-signs, factor-signs, signs-fail, resolvent-over, factor-over, result-fails}
+use Rattle.verdict.proofs.ExistenceTests.{arguments-absent, literal-rows-absent, resolve-absent, factor-absent, window-absent, not-there}
+use Rattle.verdict.proofs.StepTests.{literal-on-variable, on-variable-fails, not-rising, rising-fails, days-cross, days-fail, kind-of-resolve, resolves-left, factors-kept, factors-deleted, resolves, factors, both-named, resolve-signs, factor-signs, signs-fail, resolvent-over, factor-over, result-fails}
 use Rattle.verdict.proofs.Inversions.{FirstFailing, failsHere, passesHere, AllPass, all-refused, all-passed, clause-refused, never-both, refused-injective, PassedResolve, Passed, tests-passed, testFor}
 use Rattle.verdict.proofs.Reading.{reached-seven, reached-ok}
 use Rattle.verdict.proofs.Resolution.{at-kind, enter-resolve, enter-factor, resolvePairs, resolve-no-unifier, factor-no-unifier, resolve-outlines-apart, factor-outlines-apart, resolve-not-endless, factor-not-endless}
@@ -52,6 +52,7 @@ tests-rising S inputKind r = (omega arith, omega arith, (omega arith, omega arit
 tests-rising S resolveKind r = (omega arith, omega arith, (omega arith, omega arith, (omega arith, omega arith, (omega arith, omega arith, (omega arith, omega arith, tt)))))
 tests-rising S severalKind r = (omega arith, omega arith, (omega arith, omega arith, (omega arith, omega arith, (omega arith, omega arith, (omega arith, omega arith, tt)))))
 tests-rising S factorKind r = (omega arith, omega arith, (omega arith, omega arith, (omega arith, omega arith, (omega arith, omega arith, tt))))
+tests-rising S windowKind r = (omega arith, omega arith, (omega arith, omega arith, (omega arith, omega arith, tt)))
 tests-rising S otherKind r = (omega arith, omega arith, tt)
 
 pub rising-first : (m : ℕ) (ts : List (Bool × Reason)) (q : Reason) → Rising m ts → FirstFailing ts q → (m ≤ precedence (reasonNumber q)) × (precedence (reasonNumber q) < 10)
@@ -139,6 +140,7 @@ module _ (k : ℕ) (S : State) (r : Record) where
       let n = both-named S r (leftOf S r) (deletedOf S r) (a .there) in
       let c = clause-refused S k (factor (nextClause S) (n .0 .0) (fieldB r) (fieldC r)) (unifyFactor S (n .0) (n .1)) q (sym (enter-factor S k r (n .0) (n .1) (n .2) (n .3)) ∙ z) in
       (c .0, c .2, factoring e (n .2) (n .3) (signs-factor S r (n .0) (n .1) (n .2) (n .3) (a .signs) .0) (c .1))
+  by-unification windowKind q e a z = absurd (stands-refused z)
   by-unification otherKind q e a z = absurd a
 
   -- ── A refusal by outlines ──
@@ -163,6 +165,7 @@ module _ (k : ℕ) (S : State) (r : Record) where
       let n = both-named S r (leftOf S r) (deletedOf S r) (a .there) in
       let o = only-test-fails f in
       (o .1, factorApart e (n .2) (n .3) (named-fails (λ x y. outlinesAgree (rowOf S) (x .1) (y .1 ∷ [])) (leftOf S r) (deletedOf S r) (n .0) (n .1) (n .2) (n .3) (o .0)))
+  by-outlines windowKind q e a f = absurd (no-test-fails f)
   by-outlines otherKind q e a f = absurd a
 
   -- Among the right literals there is one whose outline clashes with the left one's; and with such a one the test fails.
@@ -241,6 +244,7 @@ module _ (k : ℕ) (S : State) (r : Record) where
   outline-number resolveKind q f = ap place (sym (only-test-fails f .1))
   outline-number severalKind q f = ap place (sym (only-test-fails f .1))
   outline-number factorKind q f = ap place (sym (only-test-fails f .1))
+  outline-number windowKind q f = absurd (no-test-fails f)
   outline-number otherKind q f = absurd (no-test-fails f)
 
   outlines-or : (n : ℕ) → 10 ≤ precedence n → (kind : Kind) → kindOfRecord r ≡ kind → (f : Failure) → failureNumber f ≡ n → enter S k kind r ≡ refused (unification f) → RefusedUpTo n
@@ -326,6 +330,7 @@ module _ (k : ℕ) (S : State) (r : Record) where
     tests-sound resolveKind e = resolve-sound resolveKind on-one e
     tests-sound severalKind e = resolve-sound severalKind on-several e
     tests-sound factorKind e = (λ p. outsideRange (range-over r factorKind e p), λ ranged. (λ p. nothingThere (factor-absent S r seven e p), λ there. (λ p. unfitSigns (factor-signs S r seven e there p), λ signs. (λ p. largeResult (factor-over S r seven e there p), λ fits. tt))))
+    tests-sound windowKind e = (λ p. outsideRange (range-over r windowKind e p), λ ranged. (λ p. nothingThere (window-absent S r seven e p), λ there. (λ p. crossingDays (days-cross S r seven e p), λ days. tt)))
     tests-sound otherKind e = (λ p. unknownKind (of-kind r otherKind e), λ p. tt)
 
     pub not-endless : (f : Failure) → ByUnification f → ¬ (f ≡ endless)
@@ -364,6 +369,7 @@ module _ (k : ℕ) (S : State) (r : Record) where
     ranges-differ resolveKind q = q
     ranges-differ severalKind q = q
     ranges-differ factorKind q = q
+    ranges-differ windowKind q = q
     ranges-differ otherKind q = absurd (true-not-false refl q)
 
     pub condition-refused : (n : ℕ) → Condition S r n → (q : Reason) × (step S k r ≡ refused q) × (precedence (reasonNumber q) ≤ precedence n)
@@ -371,6 +377,7 @@ module _ (k : ℕ) (S : State) (r : Record) where
     condition-refused n (outsideRange h) = test-refuses 4 (ranges-differ (kindOfRecord r) (out-of-range r h))
     condition-refused n (nothingThere h) = two-refuse 4 5 (omega arith) (not-there S r seven h)
     condition-refused n (fallingLiterals h) = two-refuse 4 14 (omega arith) (rising-fails S r seven h)
+    condition-refused n (crossingDays h) = test-refuses 16 (days-fail S r seven h)
     condition-refused n (variableAsLiteral h) = two-refuse 4 7 (omega arith) (on-variable-fails S r seven h)
     condition-refused n (unfitSigns h) = test-refuses 8 (signs-fail S r seven h)
     condition-refused n (largeResult h) = test-refuses 9 (result-fails S r seven h)
@@ -461,6 +468,7 @@ condition-number n (unknownKind h) = (omega arith, omega arith)
 condition-number n (outsideRange h) = (omega arith, omega arith)
 condition-number n (nothingThere h) = (omega arith, omega arith)
 condition-number n (fallingLiterals h) = (omega arith, omega arith)
+condition-number n (crossingDays h) = (omega arith, omega arith)
 condition-number n (variableAsLiteral h) = (omega arith, omega arith)
 condition-number n (unfitSigns h) = (omega arith, omega arith)
 condition-number n (largeResult h) = (omega arith, omega arith)

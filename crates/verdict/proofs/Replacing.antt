@@ -7,7 +7,7 @@ use native.Mathlib.Omega.{arith}
 use lib.Dec.{eqb, leb, ltb, ltb→lt, lt→ltb}
 use lib.ListN.{length, take, drop, length-drop}
 use lib.Seq.{drop-drop}
-use Rattle.record.specs.Record.{Record, records, otherKind, Kind, symbolKind, variableKind, applicationKind, inputKind, resolveKind, factorKind, severalKind, fieldA}
+use Rattle.record.specs.Record.{Record, records, otherKind, Kind, symbolKind, variableKind, applicationKind, inputKind, resolveKind, factorKind, severalKind, windowKind, fieldA}
 use Rattle.record.proofs.Bytes.{file-length, file-records}
 use Rattle.record.proofs.Records.{Shaped, records-length, records-shaped}
 use Rattle.unification.specs.Repeated.{earliestRow}
@@ -159,6 +159,7 @@ module _ (S : State) (k : ℕ) (r : Record) where
   kind-alike resolveKind = refl
   kind-alike severalKind = refl
   kind-alike factorKind = refl
+  kind-alike windowKind = refl
   kind-alike otherKind = refl
 
   -- A replaced record is read as it was, and has seven fields.
@@ -175,6 +176,7 @@ module _ (S : State) (k : ℕ) (r : Record) where
   changed-seven e resolveKind = e
   changed-seven e severalKind = e
   changed-seven e factorKind = e
+  changed-seven e windowKind = e
   changed-seven e otherKind = e
 
 -- ── All records ──

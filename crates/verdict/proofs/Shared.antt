@@ -7,7 +7,7 @@ use Prim.Native.Nat.{ℕ, suc, _<_}
 use native.Mathlib.Omega.{arith}
 use lib.Dec.{eqb}
 use lib.ListN.{length}
-use Rattle.record.specs.Record.{pick, Record, otherKind, Kind, symbolKind, variableKind, applicationKind, inputKind, resolveKind, factorKind, severalKind, fieldA, fieldB, fieldC}
+use Rattle.record.specs.Record.{pick, Record, otherKind, Kind, symbolKind, variableKind, applicationKind, inputKind, resolveKind, factorKind, severalKind, windowKind, fieldA, fieldB, fieldC}
 use Rattle.unification.specs.Repeated.{IsEarliest}
 use Rattle.unification.specs.Row.{variable, Row, application, rowAt}
 use Rattle.unification.proofs.Lists.{Each, each-more}
@@ -91,6 +91,7 @@ module _ (S : State) (k : ℕ) (r : Record) (T : State) (H : Shared S) where
       let s = named-stands _ (leftOf S r) (deletedOf S r) T q in
       let c = clause-added S k (factor (nextClause S) (s .0 .0) (fieldB r) (fieldC r)) (unifyFactor S (s .0) (s .1)) T (s .4) in
       subst Shared (c .3) (clause-shared (factor (nextClause S) (s .0 .0) (fieldB r) (fieldC r) (c .0)) (parent-shared (fieldA r) (s .0 .0) (literal-named S (fieldA r) (fieldB r) (s .0) (s .2) .0)))
+  entered-shared windowKind a q = subst Shared (stands-same q) (record { rowsShared = H .rowsShared; clausesShared = H .clausesShared })
   entered-shared otherKind a q = absurd a
 
   pub step-shared : step S k r ≡ stands T → Shared T

@@ -7,7 +7,7 @@ use Prim.Native.Nat.{ℕ, _≤_}
 use native.Mathlib.Omega.{arith}
 use lib.Dec.{eqb, eqb→eq}
 use lib.ListN.{length, length-map, length-take}
-use Rattle.record.specs.Record.{pick, Record, otherKind, Kind, symbolKind, variableKind, applicationKind, inputKind, resolveKind, factorKind, severalKind, fieldA, fieldB, fieldC}
+use Rattle.record.specs.Record.{pick, Record, otherKind, Kind, symbolKind, variableKind, applicationKind, inputKind, resolveKind, factorKind, severalKind, windowKind, fieldA, fieldB, fieldC}
 use Rattle.unification.proofs.Tests.{to-T, some-not-none, some-injective}
 use Rattle.derivation.specs.Derivation.{input, Derivation, resolve, factor, clauseNumber}
 use Rattle.verdict.specs.Refusal.{tests, kindOfRecord, leftOf, rightNumbers, rightOf, deletedOf}
@@ -89,6 +89,7 @@ module _ (S : State) (k : ℕ) (rec : Record) (T : State) (seven : length (rec .
       let N = named-factor S rec (s .0) (s .1) (s .2) (s .3) a in
       let c = clause-added S k (factor (nextClause S) (s .0 .0) (fieldB rec) (fieldC rec)) (unifyFactor S (s .0) (s .1)) T (s .4) in
       subst Kept (c .3) ((refl, at-own h (fieldA rec) (s .0 .0) (N .isParent)), h)
+  source-entered windowKind a q h = subst Kept (stands-same q) h
   source-entered otherKind a q h = absurd a
 
   pub step-sourced : step S k rec ≡ stands T → Sourced (derivations S) → Sourced (derivations T)

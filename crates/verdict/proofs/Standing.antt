@@ -26,7 +26,7 @@ use Rattle.derivation.proofs.Literals.{each-numbered-all, leb-false-lt}
 use Rattle.derivation.proofs.Validity.{Valid, pairs-kept, lookup-in}
 use Rattle.verdict.specs.Demands.{InputsOf}
 use Rattle.verdict.specs.Refusal.{mostLiterals, mostIndex}
-use Rattle.verdict.specs.State.{arities, State, emptyState, withSymbol, withRow, withClause, entry, rowsOf, derivations, arityOf, clauseOf, rowOf}
+use Rattle.verdict.specs.State.{arities, State, Window, emptyState, withSymbol, withRow, withClause, withWindow, entry, rowsOf, derivations, arityOf, clauseOf, rowOf}
 use Rattle.verdict.specs.Step.{atoms, unifyResolve, unifyFactor}
 use Rattle.verdict.specs.Tables.{bindingsOf}
 use Rattle.verdict.proofs.Inversions.{not-equal, entry-more, entry-each}
@@ -130,6 +130,9 @@ module _ (n : ℕ) (S : State) (H : StateOk n S) where
 
   pub below : (r s : ℕ) (xs : List ℕ) → rowOf S r ≡ application s xs → r < length (rowsOf S) → Below (length (rowsOf S)) xs
   below r s xs q l = rw q at (row-below (arityOf S) ws (H .rowsOk) r)
+
+  pub window-added : (w : Window) → StateOk (suc n) (withWindow S w)
+  window-added w = record { rowsOk = H .rowsOk; few = let z = H .few in omega arith; totalOk = H .totalOk; heldOk = H .heldOk; clausesOk = H .clausesOk; inputsOk = H .inputsOk }
 
   pub symbol-added : (k a : ℕ) → StateOk (suc n) (withSymbol S k a)
   symbol-added k a = record {

@@ -1,4 +1,4 @@
--- The tests of literals, signs and sizes say what the conditions of 7, 8 and 9 say.
+-- The tests of literals, signs, sizes and days say what the conditions of 7, 8, 9, 14 and 16 say.
 use mathlib.Core.Path.{_≡_, refl, sym, ap, _∙_, subst}
 use mathlib.Core.Logic.{_⊎_, inl, inr}
 use mathlib.Core.Bool.{Bool, true, false, _&&_, not}
@@ -9,12 +9,12 @@ use native.Mathlib.Omega.{arith}
 use lib.Dec.{eqb, leb, ltb, eqb-refl, ltb→lt}
 use lib.ListN.{length, getD, take, drop, length-take, length-drop, length-map, length-append}
 use lib.Seq.{getD-take, getD-drop}
-use Rattle.record.specs.Record.{Record, Kind, inputKind, factorKind, severalKind, fieldA, fieldB, fieldC}
+use Rattle.record.specs.Record.{Record, Kind, inputKind, factorKind, severalKind, windowKind, fieldA, fieldB, fieldC}
 use Rattle.unification.specs.Row.{variable, Row, application}
 use Rattle.unification.proofs.Tests.{to-T, from-T, both-true, true-not-false}
 use Rattle.derivation.specs.Derivation.{literals, Literal, RowLiteral, literalOf, inputLiterals, Derivation, resolve, factor, numbered, without, withoutAll, raiseLiteral, maximumIndex}
 use Rattle.derivation.proofs.Literals.{leb-false-lt}
-use Rattle.verdict.specs.Conditions.{OneOf, fieldNumbered, LiteralOnVariable, NotRising, Resolves, Factors, SignsUnfit, equalInResolve, oppositeInFactor, oneLiteralTwice, ResultOver, resolventLiterals, resolventIndex, factorLiterals, factorIndex}
+use Rattle.verdict.specs.Conditions.{OneOf, fieldNumbered, LiteralOnVariable, NotRising, DaysCrossed, Resolves, Factors, SignsUnfit, equalInResolve, oppositeInFactor, oneLiteralTwice, ResultOver, resolventLiterals, resolventIndex, factorLiterals, factorIndex}
 use Rattle.verdict.specs.Refusal.{tests, mostLiterals, mostIndex, kindOfRecord, inRange, literalIn, literalNamed, leftOf, rightNumbers, literalsIn, rightOf, deletedOf, isThere, bothThere, isApplication, allApplications, equalSigns, allOpposite, rising, onBoth, oppositeSigns, factorSigns, resultFits, resolventFits, factorFits}
 use Rattle.verdict.specs.State.{State, clauseOf, rowOf, nextClause}
 use Rattle.verdict.proofs.ExistenceTests.{at-number, resolve-test, literal-row-at}
@@ -193,6 +193,13 @@ module _ (S : State) (r : Record) (seven : length (r .fields) ≡ 7) where
           let e : 3 + suc (F .place) ≡ 4 + F .place = omega arith in
           let x : fieldNumbered r (3 + suc (F .place)) ≡ fieldNumbered r (4 + F .place) = ap (fieldNumbered r) e in
           inr (at-number S r seven 7 14 (F .isSeveral) (not-true (rising (rightNumbers severalKind r)) (λ t. let z = rises-at (rightNumbers severalKind r) t (F .place) (omega arith) in let y = F .falls in omega arith)))
+
+  -- 16: crossed days.
+  pub days-cross : kindOfRecord r ≡ windowKind → leb (fieldB r) (fieldC r) ≡ false → DaysCrossed r
+  days-cross e q = record { isWindow = of-kind r windowKind e; crossed = leb-false-lt (fieldB r) (fieldC r) q }
+
+  pub days-fail : DaysCrossed r → testFor (tests S (kindOfRecord r) r) 16 ≡ false
+  days-fail D = at-number S r seven 8 16 (D .isWindow) (not-true (leb (fieldB r) (fieldC r)) (λ t. let l = at-most (fieldB r) (fieldC r) t in let z = D .crossed in omega arith))
 
   -- 8, of a resolve: one of the right signs equals the left one.
   one-equal : (s : Bool) (ms : List Literal) → allOpposite s ms ≡ false → (m : Literal) × OneOf m ms × (s ≡ m .0)

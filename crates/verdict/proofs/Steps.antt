@@ -7,7 +7,7 @@ use Prim.Native.Nat.{ℕ, suc, _+_, _≤_, _<_}
 use native.Mathlib.Omega.{arith}
 use lib.Dec.{eqb, leb, leb→le}
 use lib.ListN.{length, drop, length-take, length-drop, length-map}
-use Rattle.record.specs.Record.{Record, otherKind, Kind, symbolKind, variableKind, applicationKind, inputKind, resolveKind, factorKind, severalKind, fieldA, fieldB, fieldC}
+use Rattle.record.specs.Record.{Record, otherKind, Kind, symbolKind, variableKind, applicationKind, inputKind, resolveKind, factorKind, severalKind, windowKind, fieldA, fieldB, fieldC}
 use Rattle.unification.specs.Environment.{Binding}
 use Rattle.unification.specs.Repeated.{IsEarliest}
 use Rattle.unification.specs.Row.{variable, Row}
@@ -21,9 +21,9 @@ use Rattle.derivation.specs.Derivation.{literals, input, Literal, RowLiteral, i
 use Rattle.derivation.proofs.Validity.{Valid, signed}
 use Rattle.verdict.specs.Refusal.{tests, mostLiterals, mostIndex, kindOfRecord, zeros, argumentRows, leftOf, rightNumbers, rightOf, deletedOf, hasArity, allBelow, equalSigns, oppositeSigns, factorSigns, resultFits}
 use Rattle.verdict.specs.State.{State, rowsOf, derivations, arityOf, clauseOf, rowOf, earliestOf, recordOfRow, nextClause}
-use Rattle.verdict.specs.Step.{stands, step, addClause, atoms, unifyResolve, unifyFactor, newApplication, newLiterals, enterResolvent, enter}
+use Rattle.verdict.specs.Step.{windowIn, stands, step, addClause, atoms, unifyResolve, unifyFactor, newApplication, newLiterals, enterResolvent, enter}
 use Rattle.verdict.proofs.Inversions.{tests-passed, stands-same, step-stands, named-stands, literal-named, literals-named, has-arity, all-below, rows-below, all-opposite, strictly-rising, equal-signs, not-equal, entry-new, clause-added, PassedResolve, PassedFactor, Passed}
-use Rattle.verdict.proofs.Standing.{StateOk, literals-enough, index-enough, inputs-append, inputs-kept, no-chains, symbol-added, row-added, clause-entered, order-of, inputs-of, ChainsAfter, resolve-chains, factor-chains}
+use Rattle.verdict.proofs.Standing.{window-added, StateOk, literals-enough, index-enough, inputs-append, inputs-kept, no-chains, symbol-added, row-added, clause-entered, order-of, inputs-of, ChainsAfter, resolve-chains, factor-chains}
 
 -- What a resolve or a factor that came to its unification has named.
 pub record NamedResolve (S : State) (r : Record) (ns : List ℕ) (x : Derivation × Literal) (y : Derivation × List Literal) : Type 0 where
@@ -164,6 +164,7 @@ module _ (n : ℕ) (S : State) (H : StateOk n S) (k : ℕ) (r : Record) (T : Sta
   entered factorKind l a q =
       let s = named-stands _ (leftOf S r) (deletedOf S r) T q in
       factor-entered (s .0) (s .1) (named-factor S r (s .0) (s .1) (s .2) (s .3) a) (s .4)
+  entered windowKind l a q = subst (StateOk (suc n)) (stands-same q) (window-added n S H (windowIn r))
   entered otherKind l a q = absurd a
 
   pub step-ok : length (r .fields) ≡ 7 → step S k r ≡ stands T → StateOk (suc n) T

@@ -32,7 +32,7 @@ fifth-sum (c ∷ cs) rest =
 pub total-sum : (n : ℕ) (S : State) → StateOk n S → (t : Tables) → S .total ≡ fifthCells (filledTables S t .clauses) (length (S .clauses))
 total-sum n S H t = H .totalOk ∙ sym (fifth-sum (S .clauses) _)
 
-module _ (file : List ℕ) (tables : Tables) where
+module _ (day : ℕ) (file : List ℕ) (tables : Tables) where
   after-ok : (k : ℕ) → StateOk (0 + length (take k (records file))) (stateAfter file k)
   after-ok k = read-ok 0 emptyState 0 (take k (records file)) (shaped-take k (records file) (records-shaped file)) start-ok
 
@@ -44,17 +44,17 @@ module _ (file : List ℕ) (tables : Tables) where
   unfolding ending
   after-all = ap (λ (rs : List Record). stateOf (read emptyState 0 rs)) (take-length (records file))
 
-  at-end : fittingLength (length file) ≡ true → longEnough (lengthsOf tables) ≡ true → check file (lengthsOf tables) .bindings ≡ totalAfter file (length (records file))
-  at-end f l = ap (λ (a : Answer). a .bindings) (check-reads file tables f l) ∙ ap (λ (S : State). S .total) (sym after-all)
+  at-end : fittingLength (length file) ≡ true → longEnough (lengthsOf tables) ≡ true → check day file (lengthsOf tables) .bindings ≡ totalAfter file (length (records file))
+  at-end f l = ap (λ (a : Answer). a .bindings) (check-reads day file tables f l) ∙ ap (λ (S : State). S .total) (sym after-all)
 
-  in-table : check file (lengthsOf tables) .bindings ≡ fifthCells (tablesAfter file tables .clauses) (check file (lengthsOf tables) .clauses)
+  in-table : check day file (lengthsOf tables) .bindings ≡ fifthCells (tablesAfter file tables .clauses) (check day file (lengthsOf tables) .clauses)
   in-table = try (fittingLength (length file)) refl (longEnough (lengthsOf tables)) refl
     where
       try : (b : Bool) → fittingLength (length file) ≡ b → (d : Bool) → longEnough (lengthsOf tables) ≡ d
-          → check file (lengthsOf tables) .bindings ≡ fifthCells (tablesAfter file tables .clauses) (check file (lengthsOf tables) .clauses)
-      try false f d l = rw (check-length file tables f) refl
-      try true f false l = rw (check-tables file tables f l) refl
-      try true f true l = rw (check-reads file tables f l, tables-read file tables f l, ← after-all) (after-each (length (records file)))
+          → check day file (lengthsOf tables) .bindings ≡ fifthCells (tablesAfter file tables .clauses) (check day file (lengthsOf tables) .clauses)
+      try false f d l = rw (check-length day file tables f) refl
+      try true f false l = rw (check-tables day file tables f l) refl
+      try true f true l = rw (check-reads day file tables f l, tables-read file tables f l, ← after-all) (after-each (length (records file)))
 
-pub bindings-held : (file : List ℕ) (tables : Tables) → BindingsHeld file tables
-bindings-held file tables = record { afterEach = after-each file tables; atEnd = at-end file tables; inTable = in-table file tables }
+pub bindings-held : (day : ℕ) (file : List ℕ) (tables : Tables) → BindingsHeld day file tables
+bindings-held day file tables = record { afterEach = after-each day file tables; atEnd = at-end day file tables; inTable = in-table day file tables }

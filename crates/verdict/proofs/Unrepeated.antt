@@ -7,7 +7,7 @@ use Prim.Native.Nat.{ℕ, suc, _<_}
 use native.Mathlib.Omega.{arith}
 use lib.Dec.{ltb, ltb→lt}
 use lib.ListN.{length}
-use Rattle.record.specs.Record.{Record, otherKind, Kind, symbolKind, variableKind, applicationKind, inputKind, resolveKind, factorKind, severalKind, fieldA}
+use Rattle.record.specs.Record.{Record, otherKind, Kind, symbolKind, variableKind, applicationKind, inputKind, resolveKind, factorKind, severalKind, windowKind, fieldA}
 use Rattle.unification.specs.Repeated.{earliestEqual, orSame, earliestRow}
 use Rattle.unification.specs.Row.{variable, Row, application, rowAt}
 use Rattle.unification.proofs.Repeats.{row-old, row-new, earliest-found, earliest-itself, earliest-absent}
@@ -35,6 +35,7 @@ distinct-with ws r inputKind d = d
 distinct-with ws r resolveKind d = d
 distinct-with ws r severalKind d = d
 distinct-with ws r factorKind d = d
+distinct-with ws r windowKind d = d
 distinct-with ws r otherKind d = d
 
 distinct-before : (ws : List Row) (rs : List Record) → Distinct (writtenAfter ws rs) → Distinct ws
@@ -88,6 +89,7 @@ module _ (S : State) (k : ℕ) where
   entered-as-written r resolveKind d = refl
   entered-as-written r severalKind d = refl
   entered-as-written r factorKind d = refl
+  entered-as-written r windowKind d = refl
   entered-as-written r otherKind d = refl
 
   step-as-written : (r : Record) → Distinct (withWritten (rowsOf S) (kindOfRecord r) r) → step S k r ≡ stepAsWritten S k r
@@ -102,6 +104,7 @@ module _ (S : State) (k : ℕ) where
   rows-as-written r resolveKind d = refl
   rows-as-written r severalKind d = refl
   rows-as-written r factorKind d = refl
+  rows-as-written r windowKind d = refl
   rows-as-written r otherKind d = refl
 
 -- All along, by the records read.

@@ -6,7 +6,7 @@ use Prim.Native.Nat.{ℕ, suc, _<_}
 use native.Mathlib.Omega.{arith}
 use lib.Dec.{eqb, ltb, ltb→lt}
 use lib.ListN.{length}
-use Rattle.record.specs.Record.{pick, Record, otherKind, Kind, symbolKind, variableKind, applicationKind, inputKind, resolveKind, factorKind, severalKind, fieldA, fieldB, fieldC}
+use Rattle.record.specs.Record.{pick, Record, otherKind, Kind, symbolKind, variableKind, applicationKind, inputKind, resolveKind, factorKind, severalKind, windowKind, fieldA, fieldB, fieldC}
 use Rattle.unification.specs.Repeated.{IsEarliest, earliestRow}
 use Rattle.unification.specs.Row.{variable, Row, application, rowAt, argumentTerms}
 use Rattle.unification.specs.Term.{Term, app, cons}
@@ -109,6 +109,7 @@ rowsEntered S inputKind r = rowsOf S
 rowsEntered S resolveKind r = rowsOf S
 rowsEntered S severalKind r = rowsOf S
 rowsEntered S factorKind r = rowsOf S
+rowsEntered S windowKind r = rowsOf S
 rowsEntered S otherKind r = rowsOf S
 
 resolvent-rows : (S : State) (k : ℕ) (r : Record) (T : State) (kind : Kind) → enterResolvent S k kind r ≡ stands T → rowsOf T ≡ rowsOf S
@@ -128,6 +129,7 @@ entered-rows S k r T factorKind q =
     let s = named-stands _ (leftOf S r) (deletedOf S r) T q in
     let c = clause-added S k (factor (nextClause S) (s .0 .0) (fieldB r) (fieldC r)) (unifyFactor S (s .0) (s .1)) T (s .4) in
     sym (ap rowsOf (c .3))
+entered-rows S k r T windowKind q = sym (ap rowsOf (stands-same q))
 entered-rows S k r T otherKind q = absurd (never-both (enter S k otherKind r) q refl)
 
 -- Two lists of rows with the same terms at the same numbers.
@@ -153,6 +155,7 @@ after-same S us r h A inputKind = A
 after-same S us r h A resolveKind = A
 after-same S us r h A severalKind = A
 after-same S us r h A factorKind = A
+after-same S us r h A windowKind = A
 after-same S us r h A otherKind = A
 
 step-same : (S : State) (us : List Row) (k : ℕ) (r : Record) (T : State) → Shared S → SameTerms (rowsOf S) us → step S k r ≡ stands T → SameTerms (rowsOf T) (withWritten us (kindOfRecord r) r)

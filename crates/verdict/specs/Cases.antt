@@ -76,6 +76,8 @@ holding symbols rows clauses bindings = record {
 }
 
 pub record Case : Type 0 where
+  -- The day on which the file is checked (document 02, Q-6); without windows it does not matter.
+  pub day : ℕ
   pub file : List ℕ
   -- 0 open, 1 accepted, 2 refused; clause or reason; record; counts of symbols, rows, clauses, bindings.
   pub answer : List ℕ
@@ -105,13 +107,14 @@ abbrev pub works : State → ℕ → List Record → List ℕ
 works S k [] = []
 works S k (r ∷ rs) = elim (step S k r) [ stands T ↦ stepWork S r ++ works T (suc k) rs | refused reason ↦ [] ]
 
-abbrev pub caseOf : List ℕ → Case
-caseOf file = record {
+abbrev pub caseOf : ℕ → List ℕ → Case
+caseOf day file = record {
+  day = day;
   file = file;
-  answer = answerNumbers (check file (lengthsOf nines));
+  answer = answerNumbers (check day file (lengthsOf nines));
   tables = tablesAfter file nines;
   work = pick (fittingLength (length file)) (works emptyState 0 (records file)) [];
-  readout = readout file (lengthsOf nines);
+  readout = readout day file (lengthsOf nines);
 }
 
 -- ── The cases ──
@@ -119,6 +122,7 @@ caseOf file = record {
 -- A: two resolutions to the empty clause, each with work 3.
 abbrev pub caseA : Case
 caseA = record {
+  day = 0;
   file = fileBytes
       (symbolOf 1 ∷ symbolOf 1 ∷ symbolOf 0
       ∷ applicationRow 2 [] ∷ applicationRow 0 (0 ∷ []) ∷ variableRow 0 ∷ applicationRow 1 (2 ∷ [])
@@ -148,6 +152,7 @@ caseA = record {
 -- B: the empty file is open.
 abbrev pub caseB : Case
 caseB = record {
+  day = 0;
   file = [];
   answer = 0 ∷ 0 ∷ 0 ∷ 0 ∷ 0 ∷ 0 ∷ 0 ∷ [];
   tables = holding [] [] [] [];
@@ -158,6 +163,7 @@ caseB = record {
 -- C: fifteen bytes are refused with 1, and the tables are untouched.
 abbrev pub caseC : Case
 caseC = record {
+  day = 0;
   file = replicate 15 0;
   answer = 2 ∷ 1 ∷ 0 ∷ 0 ∷ 0 ∷ 0 ∷ 0 ∷ [];
   tables = nines;
@@ -168,6 +174,7 @@ caseC = record {
 -- 65,536 bytes pass the length test: the first record, of kind 0, is refused with 3. 65,552 bytes give 1.
 abbrev pub caseLongest : Case
 caseLongest = record {
+  day = 0;
   file = replicate 65536 0;
   answer = 2 ∷ 3 ∷ 0 ∷ 0 ∷ 0 ∷ 0 ∷ 0 ∷ [];
   tables = holding [] [] [] [];
@@ -177,6 +184,7 @@ caseLongest = record {
 
 abbrev pub caseTooLong : Case
 caseTooLong = record {
+  day = 0;
   file = replicate 65552 0;
   answer = 2 ∷ 1 ∷ 0 ∷ 0 ∷ 0 ∷ 0 ∷ 0 ∷ [];
   tables = nines;
@@ -187,6 +195,7 @@ caseTooLong = record {
 -- D: +s0(v0,v0) with -s0(v1,s1(v1)): the variable occurs in its own value. A binding made before that is not left behind.
 abbrev pub caseD : Case
 caseD = record {
+  day = 0;
   file = fileBytes
       (symbolOf 2 ∷ symbolOf 1
       ∷ variableRow 0 ∷ variableRow 1 ∷ applicationRow 0 (0 ∷ 0 ∷ []) ∷ applicationRow 1 (1 ∷ []) ∷ applicationRow 0 (1 ∷ 3 ∷ [])
@@ -200,6 +209,7 @@ caseD = record {
 -- E: s2 against another constant.
 abbrev pub caseE : Case
 caseE = record {
+  day = 0;
   file = fileBytes
       (symbolOf 1 ∷ symbolOf 1 ∷ symbolOf 0 ∷ symbolOf 0
       ∷ applicationRow 2 [] ∷ applicationRow 3 [] ∷ applicationRow 0 (0 ∷ []) ∷ applicationRow 0 (1 ∷ [])
@@ -213,6 +223,7 @@ caseE = record {
 -- F: +s0(v0,v1) +s0(v1,v0), keep 1, delete 2: stands with work 4, since the right side is followed before the occurrence test.
 abbrev pub caseF : Case
 caseF = record {
+  day = 0;
   file = fileBytes
       (symbolOf 2 ∷ variableRow 0 ∷ variableRow 1 ∷ applicationRow 0 (0 ∷ 1 ∷ []) ∷ applicationRow 0 (1 ∷ 0 ∷ [])
       ∷ inputClause (5 ∷ 7 ∷ []) ∷ factorStep 0 1 2 ∷ []);
@@ -225,6 +236,7 @@ caseF = record {
 -- G: one input clause without literals is accepted, with maximum index 1; with a bad record after it the file is refused.
 abbrev pub caseG : Case
 caseG = record {
+  day = 0;
   file = fileBytes (inputClause [] ∷ []);
   answer = 1 ∷ 0 ∷ 0 ∷ 0 ∷ 0 ∷ 1 ∷ 0 ∷ [];
   tables = holding [] [] (0 ∷ 0 ∷ 1 ∷ 0 ∷ 0 ∷ []) [];
@@ -234,6 +246,7 @@ caseG = record {
 
 abbrev pub caseGBad : Case
 caseGBad = record {
+  day = 0;
   file = fileBytes (inputClause [] ∷ recordOf 0 0 [] ∷ []);
   answer = 2 ∷ 3 ∷ 1 ∷ 0 ∷ 0 ∷ 1 ∷ 0 ∷ [];
   tables = holding [] [] (0 ∷ 0 ∷ 1 ∷ 0 ∷ 0 ∷ []) [];
@@ -244,6 +257,7 @@ caseGBad = record {
 -- H: a step that names literal 0.
 abbrev pub caseH : Case
 caseH = record {
+  day = 0;
   file = fileBytes (symbolOf 0 ∷ applicationRow 0 [] ∷ inputClause (1 ∷ []) ∷ inputClause (0 ∷ []) ∷ resolveStep 0 0 1 1 ∷ []);
   answer = 2 ∷ 5 ∷ 4 ∷ 1 ∷ 1 ∷ 2 ∷ 0 ∷ [];
   tables = holding (0 ∷ []) (1 ∷ []) (2 ∷ 1 ∷ 1 ∷ 0 ∷ 0 ∷ 3 ∷ 1 ∷ 1 ∷ 0 ∷ 0 ∷ []) [];
@@ -254,6 +268,7 @@ caseH = record {
 -- I: a literal on a variable row.
 abbrev pub caseI : Case
 caseI = record {
+  day = 0;
   file = fileBytes (variableRow 0 ∷ inputClause (1 ∷ []) ∷ []);
   answer = 2 ∷ 7 ∷ 1 ∷ 0 ∷ 1 ∷ 0 ∷ 0 ∷ [];
   tables = holding [] (0 ∷ []) [] [];
@@ -264,6 +279,7 @@ caseI = record {
 -- J: v0 declared twice. It stands since document 02's Q-2: the second row is taken as the first, whose record the table has twice.
 abbrev pub caseJ : Case
 caseJ = record {
+  day = 0;
   file = fileBytes (variableRow 0 ∷ variableRow 0 ∷ []);
   answer = 0 ∷ 0 ∷ 0 ∷ 0 ∷ 2 ∷ 0 ∷ 0 ∷ [];
   tables = holding [] (0 ∷ 0 ∷ []) [] [];
@@ -275,6 +291,7 @@ caseJ = record {
 -- and -row 5, resolved. The binding names earliest rows: row 0 at index 2 is bound to row 2 at index 1.
 abbrev pub caseRepeats : Case
 caseRepeats = record {
+  day = 0;
   file = fileBytes (symbolOf 1 ∷ symbolOf 1 ∷ variableRow 0 ∷ variableRow 0 ∷ applicationRow 1 (1 ∷ []) ∷ applicationRow 1 (0 ∷ []) ∷ applicationRow 0 (3 ∷ [])
       ∷ applicationRow 0 (1 ∷ []) ∷ applicationRow 0 (2 ∷ []) ∷ inputClause (13 ∷ []) ∷ inputClause (10 ∷ []) ∷ resolveStep 0 1 1 1 ∷ []);
   answer = 1 ∷ 2 ∷ 0 ∷ 2 ∷ 7 ∷ 3 ∷ 1 ∷ [];
@@ -287,6 +304,7 @@ caseRepeats = record {
 -- work 3, and both variables are bound to s1.
 abbrev pub caseSeveral : Case
 caseSeveral = record {
+  day = 0;
   file = fileBytes (symbolOf 1 ∷ symbolOf 0 ∷ symbolOf 1 ∷ variableRow 0 ∷ variableRow 1 ∷ applicationRow 1 [] ∷ applicationRow 0 (0 ∷ []) ∷ applicationRow 0 (1 ∷ [])
       ∷ applicationRow 0 (2 ∷ []) ∷ applicationRow 2 (0 ∷ []) ∷ inputClause (10 ∷ []) ∷ inputClause (7 ∷ 9 ∷ 13 ∷ []) ∷ recordOf 7 2 (0 ∷ 1 ∷ 1 ∷ 1 ∷ 2 ∷ []) ∷ []);
   answer = 0 ∷ 0 ∷ 0 ∷ 3 ∷ 7 ∷ 3 ∷ 2 ∷ [];
@@ -298,6 +316,7 @@ caseSeveral = record {
 -- K: -s0 +s0, 2 resolved with 1 on itself, and so on: twelve steps reach index 4,096, the thirteenth gives 9.
 abbrev pub caseK : Case
 caseK = record {
+  day = 0;
   file = fileBytes (symbolOf 0 ∷ applicationRow 0 [] ∷ inputClause (0 ∷ 1 ∷ []) ∷ map (λ n. resolveStep n 2 n 1) (numbersFrom 0 13));
   answer = 2 ∷ 9 ∷ 15 ∷ 1 ∷ 1 ∷ 13 ∷ 0 ∷ [];
   tables = holding
@@ -315,20 +334,38 @@ caseK = record {
       ∷ "7 128 -s0 +s0" ∷ "8 256 -s0 +s0" ∷ "9 512 -s0 +s0" ∷ "10 1024 -s0 +s0" ∷ "11 2048 -s0 +s0" ∷ "12 4096 -s0 +s0" ∷ []);
 }
 
+-- Document 02, Q-6: a curfew, clause 0, and its breach, clause 1, resolved to the empty clause 2. The curfew is first dated 300 to 310, and after the
+-- step 100 to 200, which supersedes that. The windows are in no table. Accepted on day 200, and open on day 300.
+abbrev pub seasonOn : ℕ → List ℕ → List ℕ → Case
+seasonOn day answer firstLine = record {
+  day = day;
+  file = fileBytes (symbolOf 0 ∷ applicationRow 0 [] ∷ inputClause (0 ∷ []) ∷ recordOf 8 0 (0 ∷ 300 ∷ 310 ∷ []) ∷ inputClause (1 ∷ []) ∷ resolveStep 1 1 0 1 ∷ recordOf 8 0 (0 ∷ 100 ∷ 200 ∷ []) ∷ []);
+  answer = answer;
+  tables = holding (0 ∷ []) (1 ∷ []) (2 ∷ 1 ∷ 1 ∷ 0 ∷ 0 ∷ 4 ∷ 1 ∷ 1 ∷ 0 ∷ 0 ∷ 5 ∷ 0 ∷ 2 ∷ 0 ∷ 0 ∷ []) [];
+  work = 1 ∷ [];
+  readout = firstLine ++ lines ("0 1 -s0" ∷ "1 1 +s0" ∷ "2 2" ∷ []);
+}
+
+abbrev pub caseInSeason : Case
+caseInSeason = seasonOn 200 (1 ∷ 2 ∷ 0 ∷ 1 ∷ 1 ∷ 3 ∷ 0 ∷ []) (lines ("accepted 2" ∷ []))
+
+abbrev pub caseOutOfSeason : Case
+caseOutOfSeason = seasonOn 300 (0 ∷ 0 ∷ 0 ∷ 1 ∷ 1 ∷ 3 ∷ 0 ∷ []) (lines ("open" ∷ []))
+
 abbrev pub cases : List Case
 cases =
-    caseA ∷ caseB ∷ caseC ∷ caseLongest ∷ caseTooLong ∷ caseD ∷ caseE ∷ caseF ∷ caseG ∷ caseGBad ∷ caseH ∷ caseI ∷ caseJ ∷ caseRepeats ∷ caseSeveral ∷ caseK ∷ []
+    caseA ∷ caseB ∷ caseC ∷ caseLongest ∷ caseTooLong ∷ caseD ∷ caseE ∷ caseF ∷ caseG ∷ caseGBad ∷ caseH ∷ caseI ∷ caseJ ∷ caseRepeats ∷ caseSeveral ∷ caseInSeason ∷ caseOutOfSeason ∷ caseK ∷ []
 
 -- The definitions give what is written.
 abbrev pub CasesHold : Type 0
-CasesHold = map (λ c. caseOf (c .file)) cases ≡ cases
+CasesHold = map (λ c. caseOf (c .day) (c .file)) cases ≡ cases
 
--- The lengths of C for every file and whatever tables: one of 65,536 bytes is never refused with 1, and those of 15 and of 65,552 bytes
+-- The lengths of C for every file, on every day and whatever the tables: one of 65,536 bytes is never refused with 1, and those of 15 and of 65,552 bytes
 -- always are.
 abbrev pub refusedForLength : List ℕ
 refusedForLength = 2 ∷ 1 ∷ 0 ∷ 0 ∷ 0 ∷ 0 ∷ 0 ∷ []
 
 pub record LengthsHold : Type 0 where
-  pub longest : (file : List ℕ) (tables : Tables) (k : ℕ) → length file ≡ 65536 → ¬ (check file (lengthsOf tables) .verdict ≡ refusal badLength k)
-  pub fifteen : (file : List ℕ) (lengths : Lengths) → length file ≡ 15 → answerNumbers (check file lengths) ≡ refusedForLength
-  pub tooLong : (file : List ℕ) (lengths : Lengths) → length file ≡ 65552 → answerNumbers (check file lengths) ≡ refusedForLength
+  pub longest : (day : ℕ) (file : List ℕ) (tables : Tables) (k : ℕ) → length file ≡ 65536 → ¬ (check day file (lengthsOf tables) .verdict ≡ refusal badLength k)
+  pub fifteen : (day : ℕ) (file : List ℕ) (lengths : Lengths) → length file ≡ 15 → answerNumbers (check day file lengths) ≡ refusedForLength
+  pub tooLong : (day : ℕ) (file : List ℕ) (lengths : Lengths) → length file ≡ 65552 → answerNumbers (check day file lengths) ≡ refusedForLength

@@ -13,7 +13,7 @@ use Rattle.unification.specs.Failing.{Failing}
 use Rattle.unification.specs.Outlines.{ClashFound}
 use Rattle.unification.specs.Row.{variable}
 use Rattle.unification.specs.Unification.{mostLinks, Failure, clash, occurs, overwork, full, Pair, unifying}
-use Rattle.derivation.specs.Derivation.{literals, Literal, Derivation, numbered, without, numberedAll, withoutAll, pairsWith, maximumIndex, joined, lookup}
+use Rattle.derivation.specs.Derivation.{literals, input, Literal, RowLiteral, Derivation, numbered, without, numberedAll, withoutAll, pairsWith, maximumIndex, joined, lookup}
 use Rattle.verdict.specs.State.{State, arityOf, clauseOf, rowOf}
 use Rattle.verdict.specs.Tables.{Tables}
 
@@ -47,6 +47,7 @@ pub data Layout (r : Record) : (most used : ℕ) → Type 0 where
   ofResolve : r .kind ≡ 5 → Layout r 0 4
   ofFactor : r .kind ≡ 6 → Layout r 0 3
   ofSeveral : r .kind ≡ 7 → Layout r 4 (3 + r .count)
+  ofWindow : r .kind ≡ 8 → Layout r 0 3
 
 -- 4: byte 1 or variable number out of its range, or an unused field not zero.
 pub data OutOfRange (r : Record) : Type 0 where
@@ -60,12 +61,13 @@ pub data RightLiterals (r : Record) : List ℕ → Type 0 where
   ofOne : r .kind ≡ 5 → RightLiterals r (fieldD r ∷ [])
   ofSome : r .kind ≡ 7 → RightLiterals r (take (r .count) (drop 3 (r .fields)))
 
--- The clauses that a step names: in a resolve a and c, in a factor a. And its literals in them: in a resolve those of a, b and of c with each
+-- The clauses that a step names: in a resolve a and c, in a factor a; and the one that a window is for. And a step's literals in them: in a resolve those of a, b and of c with each
 -- right literal; in a factor those of a, b and of a, c.
 pub data NamesClause (r : Record) : ℕ → Type 0 where
   leftClause : {ns : List ℕ} → RightLiterals r ns → NamesClause r (fieldA r)
   rightClause : {ns : List ℕ} → RightLiterals r ns → NamesClause r (fieldC r)
   factoredClause : r .kind ≡ 6 → NamesClause r (fieldA r)
+  datedClause : r .kind ≡ 8 → NamesClause r (fieldA r)
 
 pub data Names (r : Record) : (clause literal : ℕ) → Type 0 where
   leftLiteral : {ns : List ℕ} → RightLiterals r ns → Names r (fieldA r) (fieldB r)
@@ -73,8 +75,8 @@ pub data Names (r : Record) : (clause literal : ℕ) → Type 0 where
   keptLiteral : r .kind ≡ 6 → Names r (fieldA r) (fieldB r)
   deletedLiteral : r .kind ≡ 6 → Names r (fieldA r) (fieldC r)
 
--- 5: a symbol, row, clause or literal that does not exist, or an argument count that is not the symbol's arity. Numbers start at 0, those
--- of literals at 1.
+-- 5: a symbol, row, clause or literal that does not exist, or an argument count that is not the symbol's arity; document 02, Q-6: a window for a clause
+-- that is no input clause. Numbers start at 0, those of literals at 1.
 pub data NotThere (S : State) (r : Record) : Type 0 where
   noSymbolThere : r .kind ≡ 3 → length (S .symbols) ≤ fieldA r → NotThere S r
   otherArity : {n : ℕ} → r .kind ≡ 3 → arityOf S (fieldA r) ≡ some n → ¬ (r .count ≡ n) → NotThere S r
@@ -82,6 +84,7 @@ pub data NotThere (S : State) (r : Record) : Type 0 where
   noLiteralRow : r .kind ≡ 4 → (i : ℕ) → i < r .count → length (S .rows) ≤ fieldNumbered r i / 2 → NotThere S r
   noClause : {c : ℕ} → NamesClause r c → length (S .clauses) ≤ c → NotThere S r
   noLiteral : {c n : ℕ} {d : Derivation} → Names r c n → clauseOf S c ≡ some d → (n ≡ 0) ⊎ (length (literals d) < n) → NotThere S r
+  derivedClause : {d : Derivation} → r .kind ≡ 8 → clauseOf S (fieldA r) ≡ some d → ((number : ℕ) (ls : List RowLiteral) → ¬ (d ≡ input number ls)) → NotThere S r
 
 -- 7: a literal whose row is a variable.
 pub record LiteralOnVariable (S : State) (r : Record) : Type 0 where
@@ -97,6 +100,11 @@ pub record NotRising (r : Record) : Type 0 where
   pub place : ℕ
   pub isPlace : 1 + place < r .count
   pub falls : fieldNumbered r (4 + place) ≤ fieldNumbered r (3 + place)
+
+-- 16, document 02, Q-6: first day after last.
+pub record DaysCrossed (r : Record) : Type 0 where
+  pub isWindow : r .kind ≡ 8
+  pub crossed : fieldC r < fieldB r
 
 -- A resolve on literals that exist, and a factor on such.
 pub record Resolves (S : State) (r : Record) (left right : Derivation) (l : Literal) (ns : List ℕ) (ms : List Literal) : Type 0 where
@@ -144,11 +152,12 @@ pub data StepFails (S : State) (r : Record) (f : Failure) : Type 0 where
 
 -- The conditions of a record, by their numbers; S is the state that the records before it leave. There is none for 6 (document 02, Q-2).
 pub data Condition (S : State) (r : Record) : ℕ → Type 0 where
-  -- kind not 1 to 7
-  unknownKind : (r .kind < 1) ⊎ (7 < r .kind) → Condition S r 3
+  -- kind not 1 to 8
+  unknownKind : (r .kind < 1) ⊎ (8 < r .kind) → Condition S r 3
   outsideRange : OutOfRange r → Condition S r 4
   nothingThere : NotThere S r → Condition S r 5
   fallingLiterals : NotRising r → Condition S r 14
+  crossingDays : DaysCrossed r → Condition S r 16
   variableAsLiteral : LiteralOnVariable S r → Condition S r 7
   unfitSigns : SignsUnfit S r → Condition S r 8
   largeResult : ResultOver S r → Condition S r 9

@@ -1,7 +1,7 @@
--- The mission's three demands, stated of the definitions, for every file and every four tables.
+-- The mission's three demands, stated of the definitions, for every file, every four tables and, since document 02's Q-6, every day.
 use mathlib.Core.Path.{_≡_}
 use mathlib.Core.Logic.{_⊎_}
-use mathlib.Core.Bool.{Bool, true}
+use mathlib.Core.Bool.{true}
 use mathlib.Core.Option.{some}
 use mathlib.Core.List.{List, [], _∷_, map}
 use Prim.Native.Nat.{ℕ, _+_, _*_, _≤_, _<_}
@@ -19,15 +19,20 @@ use Rattle.derivation.specs.Textbook.{Resolvent, Factor}
 use Rattle.derivation.specs.Written.{written, substitution, renamed, WritesOut}
 use Rattle.verdict.specs.Conditions.{OneOf, fieldNumbered, LengthUnfit, TableShort, OutOfRange, RightLiterals, NotRising, Resolves, Factors, SignsUnfit, Condition}
 use Rattle.verdict.specs.Refusal.{Reason, reasonNumber, precedence}
-use Rattle.verdict.specs.State.{State, emptyState, withSymbol, withRow, withClause, entry, rowsOf, derivations, nextClause, arityOf, clauseOf, rowOf, termOf}
+use Rattle.verdict.specs.State.{State, emptyState, withSymbol, withRow, withClause, withWindow, entry, rowsOf, derivations, nextClause, arityOf, clauseOf, rowOf, termOf}
 use Rattle.verdict.specs.Step.{stands, refused, step, read, allStand, stateOf}
 use Rattle.verdict.specs.Tables.{Tables, lengthsOf, filledTables, tablesAfter}
-use Rattle.verdict.specs.Verdict.{refusal, check, accepted, open′, everyClause, answerOf, fittingLength, ending, Stands}
+use Rattle.verdict.specs.Verdict.{refusal, check, accepted, open′, answerOf, fittingLength, ending, Stands}
 
 -- Reading comes to record k, which is r: the file's length fits, and the records before it stand and leave the state S.
 pub record Reached (file : List ℕ) (k : ℕ) (S : State) (r : Record) : Type 0 where
   pub fits : fittingLength (length file) ≡ true
   pub before : read emptyState 0 (take k (records file)) ≡ allStand S
+  pub after : List Record
+  pub here : drop k (records file) ≡ r ∷ after
+
+-- Record k of a file.
+pub record RecordAt (file : List ℕ) (k : ℕ) (r : Record) : Type 0 where
   pub after : List Record
   pub here : drop k (records file) ≡ r ∷ after
 
@@ -41,31 +46,31 @@ pub data ComesTo (file : List ℕ) : State → Type 0 where
 -- of a file that is refused, and of one that is not.
 
 -- Refused with 1 or 2, for its length or the tables' lengths: record 0, counts 0, tables untouched.
-pub record Untouched (file : List ℕ) (tables : Tables) (reason : Reason) (k : ℕ) : Type 0 where
+pub record Untouched (day : ℕ) (file : List ℕ) (tables : Tables) (reason : Reason) (k : ℕ) : Type 0 where
   pub number : OneOf (reasonNumber reason) (1 ∷ 2 ∷ [])
   pub record0 : k ≡ 0
-  pub counts : check file (lengthsOf tables) ≡ answerOf (refusal reason 0) emptyState
+  pub counts : check day file (lengthsOf tables) ≡ answerOf (refusal reason 0) emptyState
   pub tablesKept : tablesAfter file tables ≡ tables
 
 -- Refused at a record, with 3 or more: counts and tables are those of the state that the records before it leave, and of nothing else.
-pub record LeftBefore (file : List ℕ) (tables : Tables) (reason : Reason) (k : ℕ) : Type 0 where
+pub record LeftBefore (day : ℕ) (file : List ℕ) (tables : Tables) (reason : Reason) (k : ℕ) : Type 0 where
   pub number : 3 ≤ reasonNumber reason
   pub state : State
   pub refusedRecord : Record
   pub reached : Reached file k state refusedRecord
-  pub counts : check file (lengthsOf tables) ≡ answerOf (refusal reason k) state
+  pub counts : check day file (lengthsOf tables) ≡ answerOf (refusal reason k) state
   pub tablesFilled : tablesAfter file tables ≡ filledTables state tables
 
 -- Not refused: counts and tables are those of the state that all records leave.
-pub record LeftByAll (file : List ℕ) (tables : Tables) (S : State) : Type 0 where
-  pub counts : check file (lengthsOf tables) ≡ answerOf (check file (lengthsOf tables) .verdict) S
+pub record LeftByAll (day : ℕ) (file : List ℕ) (tables : Tables) (S : State) : Type 0 where
+  pub counts : check day file (lengthsOf tables) ≡ answerOf (check day file (lengthsOf tables) .verdict) S
   pub tablesFilled : tablesAfter file tables ≡ filledTables S tables
 
-pub record Demand1 (file : List ℕ) (tables : Tables) : Type 0 where
+pub record Demand1 (day : ℕ) (file : List ℕ) (tables : Tables) : Type 0 where
   -- A file that stands, with tables long enough, leaves the tables with exactly its records.
-  pub tablesOfStanding : (S : State) → Stands file S → ¬ TableShort tables → LeftByAll file tables S
+  pub tablesOfStanding : (S : State) → Stands file S → ¬ TableShort tables → LeftByAll day file tables S
   -- A refusal leaves the tables with exactly the records before it, or for reasons 1 and 2 untouched.
-  pub tablesOfRefusal : (reason : Reason) (k : ℕ) → check file (lengthsOf tables) .verdict ≡ refusal reason k → Untouched file tables reason k ⊎ LeftBefore file tables reason k
+  pub tablesOfRefusal : (reason : Reason) (k : ℕ) → check day file (lengthsOf tables) .verdict ≡ refusal reason k → Untouched day file tables reason k ⊎ LeftBefore day file tables reason k
 
 -- ── Demand 2: the textbook's resolution, and refusals only where they are due ──
 
@@ -80,7 +85,8 @@ pub data RecordOfRow (S : State) (k : ℕ) (w : Row) : ℕ → Type 0 where
   earliestRecord : {q j : ℕ} → IsEarliest (rowsOf S) q → rowOf S q ≡ w → entry (map (λ u. u .0) (S .rows)) q ≡ some j → RecordOfRow S k w j
 
 -- What a record that stands adds to the state, as the table of kinds has it: a symbol with its arity; a row; an input clause with its
--- literals, each 2 × row, plus 1 if positive; the clause of a step, over its parents. Arguments and literals are on earliest rows.
+-- literals, each 2 × row, plus 1 if positive; the clause of a step, over its parents; the window of a clause, and no clause. Arguments and literals are
+-- on earliest rows.
 pub data Adds (S : State) (k : ℕ) (r : Record) (T : State) : Type 0 where
   addsSymbol : r .kind ≡ 1 → T ≡ withSymbol S k (r .count) → Adds S k r T
   addsVariable : {j : ℕ} → r .kind ≡ 2 → RecordOfRow S k (variable (fieldA r)) j → T ≡ withRow S j (variable (fieldA r)) → Adds S k r T
@@ -93,6 +99,7 @@ pub data Adds (S : State) (k : ℕ) (r : Record) (T : State) : Type 0 where
       → T ≡ withClause S k (resolve (nextClause S) left (fieldB r) right ns bs) → Adds S k r T
   addsFactor : {parent : Derivation} {l m : Literal} {bs : List Binding} → Factors S r parent l m
       → T ≡ withClause S k (factor (nextClause S) parent (fieldB r) (fieldC r) bs) → Adds S k r T
+  addsWindow : r .kind ≡ 8 → T ≡ withWindow S (record { clause = fieldA r; first = fieldB r; last = fieldC r }) → Adds S k r T
 
 -- An atom of a clause, written out.
 abbrev pub atomOf : State → Derivation → Literal → Term Variable
@@ -139,20 +146,36 @@ pub record Due (file : List ℕ) (tables : Tables) (number k : ℕ) : Type 0 whe
   pub holds : ConditionAt file tables number k
   pub first : (other j : ℕ) → ConditionAt file tables other j → precedence number ≤ precedence other
 
--- (e) Clause n is empty, and no clause with a lower number is. Only clauses whose derivation passes the test count.
-pub record LowestEmpty (test : Derivation → Bool) (S : State) (n : ℕ) : Type 0 where
+-- (e) Document 02, Q-6. Record k is the one that has the days of clause n: the last record of kind 8 for it, wherever steps that use the clause stand.
+pub record DaysOf (file : List ℕ) (n k : ℕ) (r : Record) : Type 0 where
+  pub here : RecordAt file k r
+  pub isWindow : r .kind ≡ 8
+  pub forClause : fieldA r ≡ n
+  pub last : (j : ℕ) (q : Record) → k < j → RecordAt file j q → q .kind ≡ 8 → ¬ (fieldA q ≡ n)
+
+-- A clause is in force from its first day to its last, both included, and without such a record always.
+pub data InForce (file : List ℕ) (day n : ℕ) : Type 0 where
+  always : ((k : ℕ) (r : Record) → RecordAt file k r → r .kind ≡ 8 → ¬ (fieldA r ≡ n)) → InForce file day n
+  onDay : {k : ℕ} {r : Record} → DaysOf file n k r → fieldB r ≤ day → day ≤ fieldC r → InForce file day n
+
+-- A derivation uses only clauses in force on the day.
+abbrev pub UsesInForce : List ℕ → ℕ → Derivation → Type 0
+UsesInForce file day c = (u : Use) → OneOf u (uses c) → InForce file day (u .0)
+
+-- Clause n is empty, and no clause with a lower number is. Only clauses whose derivation counts are looked at.
+pub record LowestEmpty (Counts : Derivation → Type 0) (S : State) (n : ℕ) : Type 0 where
   pub clause : Derivation
   pub isClause : clauseOf S n ≡ some clause
-  pub passes : test clause ≡ true
+  pub counts : Counts clause
   pub empty : literals clause ≡ []
-  pub lowest : (i : ℕ) (c : Derivation) → i < n → clauseOf S i ≡ some c → test c ≡ true → ¬ (literals c ≡ [])
+  pub lowest : (i : ℕ) (c : Derivation) → i < n → clauseOf S i ≡ some c → Counts c → ¬ (literals c ≡ [])
 
--- No clause whose derivation passes the test is empty.
-abbrev pub NoneEmpty : (Derivation → Bool) → State → Type 0
-NoneEmpty test S = (n : ℕ) (c : Derivation) → clauseOf S n ≡ some c → test c ≡ true → ¬ (literals c ≡ [])
+-- No clause whose derivation counts is empty.
+abbrev pub NoneEmpty : (Derivation → Type 0) → State → Type 0
+NoneEmpty Counts S = (n : ℕ) (c : Derivation) → clauseOf S n ≡ some c → Counts c → ¬ (literals c ≡ [])
 
 -- Unifiers have values that are terms over Y; the textbook's own are those with Y = Variable. It is proved for every Y.
-pub record Demand2 (Y : Type 0) (file : List ℕ) (tables : Tables) : Type 0 where
+pub record Demand2 (Y : Type 0) (day : ℕ) (file : List ℕ) (tables : Tables) : Type 0 where
   -- What stands is what the file says.
   pub declared : (k : ℕ) (S T : State) (r : Record) → Reached file k S r → step S k r ≡ stands T → Adds S k r T
   -- Following an expression over rows that exist ends, in every clause of every state that reading comes to.
@@ -175,20 +198,20 @@ pub record Demand2 (Y : Type 0) (file : List ℕ) (tables : Tables) : Type 0 whe
   -- (d) No record and no file is refused unless the condition stated for the number given holds of it, and none that is given before it.
   pub recordDue : (k : ℕ) (S : State) (r : Record) (reason : Reason) → Reached file k S r → step S k r ≡ refused reason
       → Condition S r (reasonNumber reason) × ((other : ℕ) → Condition S r other → precedence (reasonNumber reason) ≤ precedence other)
-  pub refusals : (reason : Reason) (k : ℕ) → check file (lengthsOf tables) .verdict ≡ refusal reason k → Due file tables (reasonNumber reason) k
-  pub statedNumbers : (reason : Reason) (k : ℕ) → check file (lengthsOf tables) .verdict ≡ refusal reason k
-      → OneOf (reasonNumber reason) (1 ∷ 2 ∷ 3 ∷ 4 ∷ 5 ∷ 7 ∷ 8 ∷ 9 ∷ 10 ∷ 11 ∷ 12 ∷ 13 ∷ 14 ∷ [])
+  pub refusals : (reason : Reason) (k : ℕ) → check day file (lengthsOf tables) .verdict ≡ refusal reason k → Due file tables (reasonNumber reason) k
+  pub statedNumbers : (reason : Reason) (k : ℕ) → check day file (lengthsOf tables) .verdict ≡ refusal reason k
+      → OneOf (reasonNumber reason) (1 ∷ 2 ∷ 3 ∷ 4 ∷ 5 ∷ 7 ∷ 8 ∷ 9 ∷ 10 ∷ 11 ∷ 12 ∷ 13 ∷ 14 ∷ 16 ∷ [])
   -- Where a condition holds, the record is refused, and the file too, with its number or one that is given before it.
   pub recordRefused : (k : ℕ) (S : State) (r : Record) → Reached file k S r → (number : ℕ) → Condition S r number
       → (reason : Reason) × (step S k r ≡ refused reason) × (precedence (reasonNumber reason) ≤ precedence number)
-  pub fileRefused : (number k : ℕ) → ConditionAt file tables number k → (reason : Reason) × (j : ℕ) × (check file (lengthsOf tables) .verdict ≡ refusal reason j) × (precedence (reasonNumber reason) ≤ precedence number)
-  -- (e) With length and tables as stated, a file is accepted exactly if every record stands and some clause is empty; it is open exactly if
-  -- every record stands and none is.
-  pub acceptedOnly : (n : ℕ) → check file (lengthsOf tables) .verdict ≡ accepted n → (S : State) × Stands file S × LowestEmpty everyClause S n
-  pub acceptedIf : ¬ TableShort tables → (S : State) → Stands file S → (i : ℕ) (c : Derivation) → clauseOf S i ≡ some c → everyClause c ≡ true → literals c ≡ []
-      → (n : ℕ) × (check file (lengthsOf tables) .verdict ≡ accepted n)
-  pub openOnly : check file (lengthsOf tables) .verdict ≡ open′ → (S : State) × Stands file S × NoneEmpty everyClause S
-  pub openIf : ¬ TableShort tables → (S : State) → Stands file S → NoneEmpty everyClause S → check file (lengthsOf tables) .verdict ≡ open′
+  pub fileRefused : (number k : ℕ) → ConditionAt file tables number k → (reason : Reason) × (j : ℕ) × (check day file (lengthsOf tables) .verdict ≡ refusal reason j) × (precedence (reasonNumber reason) ≤ precedence number)
+  -- (e) With length and tables as stated, a file is accepted exactly if every record stands and some clause is empty whose derivation uses only clauses
+  -- in force on the day, with the lowest such clause; it is open exactly if every record stands and there is none.
+  pub acceptedOnly : (n : ℕ) → check day file (lengthsOf tables) .verdict ≡ accepted n → (S : State) × Stands file S × LowestEmpty (UsesInForce file day) S n
+  pub acceptedIf : ¬ TableShort tables → (S : State) → Stands file S → (i : ℕ) (c : Derivation) → clauseOf S i ≡ some c → UsesInForce file day c → literals c ≡ []
+      → (n : ℕ) × (check day file (lengthsOf tables) .verdict ≡ accepted n)
+  pub openOnly : check day file (lengthsOf tables) .verdict ≡ open′ → (S : State) × Stands file S × NoneEmpty (UsesInForce file day) S
+  pub openIf : ¬ TableShort tables → (S : State) → Stands file S → NoneEmpty (UsesInForce file day) S → check day file (lengthsOf tables) .verdict ≡ open′
 
 -- ── Demand 3: a variable-free refutation behind every acceptance ──
 
@@ -197,9 +220,9 @@ abbrev pub InputsOf : List Derivation → List Use → Type 0
 InputsOf cs [] = Unit {0}
 InputsOf cs (u ∷ us) = (entry cs (u .0) ≡ some (input (u .0) (u .1))) × InputsOf cs us
 
--- What holds of the first empty clause, clause n, of a file that stands and leaves S; m is the number of its uses.
-pub record Refutation (test : Derivation → Bool) (file : List ℕ) (tables : Tables) (S : State) (n : ℕ) : Type 0 where
-  pub first : LowestEmpty test S n
+-- What holds of the first empty clause that counts, clause n, of a file that stands and leaves S; m is the number of its uses.
+pub record Refutation (Counts : Derivation → Type 0) (file : List ℕ) (tables : Tables) (S : State) (n : ℕ) : Type 0 where
+  pub first : LowestEmpty Counts S n
   -- The uses are input clauses of the file, each counted as often as it is used.
   pub inputs : InputsOf (derivations S) (uses (first .clause))
   -- m equals the clause's maximum index, and the check leaves it in its table as such.
@@ -213,5 +236,8 @@ pub record Refutation (test : Derivation → Bool) (file : List ℕ) (tables : T
   pub formed : WellFormedInstances (arityOf S) (instances (termOf S) (valueIn (termOf S) (first .clause)) 1 (uses (first .clause)))
   pub unsatisfiable : (A : Assignment) → ¬ AllTrue A (instances (termOf S) (valueIn (termOf S) (first .clause)) 1 (uses (first .clause)))
 
-pub record Demand3 (file : List ℕ) (tables : Tables) : Type 0 where
-  pub refuted : (n : ℕ) → check file (lengthsOf tables) .verdict ≡ accepted n → (S : State) × Stands file S × Refutation everyClause file tables S n
+pub record Demand3 (day : ℕ) (file : List ℕ) (tables : Tables) : Type 0 where
+  pub refuted : (n : ℕ) → check day file (lengthsOf tables) .verdict ≡ accepted n → (S : State) × Stands file S × Refutation (UsesInForce file day) file tables S n
+  -- All uses of the accepted clause are in force on the day.
+  pub inForce : (n : ℕ) → check day file (lengthsOf tables) .verdict ≡ accepted n → (S : State) → Stands file S → (c : Derivation) → clauseOf S n ≡ some c
+      → (u : Use) → OneOf u (uses c) → InForce file day (u .0)

@@ -1,5 +1,6 @@
 -- Edges of document 01's limits ("The file", "Verdict, tables and refusals", "The readout"): what is at a limit stands, and what is one
--- past it is refused; and of document 02's outlines. The limits of bindings and of outlines are in the crate unification.
+-- past it is refused; and of document 02's outlines, steps on
+-- several literals and windows. The limits of bindings and of outlines are in the crate unification.
 use mathlib.Core.Path.{_≡_}
 use mathlib.Core.Bool.{true}
 use mathlib.Core.List.{List, [], _∷_, _++_, map}
@@ -19,8 +20,11 @@ use Rattle.verdict.specs.Verdict.{check, answerNumbers, named}
 abbrev pub Answered : Type 0
 Answered = List Record × List ℕ
 
+abbrev pub answerOn : ℕ → List Record → List ℕ
+answerOn day rs = answerNumbers (check day (fileBytes rs) named)
+
 abbrev pub answerTo : List Record → List ℕ
-answerTo rs = answerNumbers (check (fileBytes rs) named)
+answerTo rs = answerOn 0 rs
 
 -- Reason 4, "byte 1 or variable number out of its range": arity 6 and 7, variable 63 and 64, 6 and 7 arguments, 7 and 8 literals, and
 -- a byte 1 of kinds 2, 5 and 6, which is to be 0. With 0 there the two steps are refused with 5: they name nothing.
@@ -130,6 +134,39 @@ edges = ranges ++ (unusedFields ++ (limits ++ (outlines ++ severalLiterals)))
 abbrev pub EdgesHold : Type 0
 EdgesHold = map (λ e. answerTo (e .0)) edges ≡ map (λ e. e .1) edges
 
+-- Document 02, Q-6: clause 0 is +s0, clause 1 is -s0, and clause 2, their resolvent, is empty; then come windows. With days 10 to 20 for clause 0 the days
+-- 9, 10, 20 and 21; one day alone; days 30 to 40 after these, which supersede them; a later record for clause 1 supersedes nothing of clause 0; two
+-- empty clauses, of which the lower uses clause 0 and the other does not. Then what is refused: byte 1 and the first and last spare field (4), a clause
+-- that does not exist and one that is derived (5, also with crossed days), crossed days (16), kind 9 (3).
+abbrev pub dated : List Record → List Record
+dated rs = symbolOf 0 ∷ applicationRow 0 [] ∷ inputClause (1 ∷ []) ∷ inputClause (0 ∷ []) ∷ resolveStep 0 1 1 1 ∷ rs
+
+abbrev pub windowFor : ℕ → ℕ → ℕ → Record
+windowFor clause first last = recordOf 8 0 (clause ∷ first ∷ last ∷ [])
+
+abbrev pub windows : List (ℕ × List Record × List ℕ)
+windows =
+    (9, dated (windowFor 0 10 20 ∷ []), 0 ∷ 0 ∷ 0 ∷ 1 ∷ 1 ∷ 3 ∷ 0 ∷ [])
+    ∷ (10, dated (windowFor 0 10 20 ∷ []), 1 ∷ 2 ∷ 0 ∷ 1 ∷ 1 ∷ 3 ∷ 0 ∷ [])
+    ∷ (20, dated (windowFor 0 10 20 ∷ []), 1 ∷ 2 ∷ 0 ∷ 1 ∷ 1 ∷ 3 ∷ 0 ∷ [])
+    ∷ (21, dated (windowFor 0 10 20 ∷ []), 0 ∷ 0 ∷ 0 ∷ 1 ∷ 1 ∷ 3 ∷ 0 ∷ [])
+    ∷ (10, dated (windowFor 0 10 10 ∷ []), 1 ∷ 2 ∷ 0 ∷ 1 ∷ 1 ∷ 3 ∷ 0 ∷ [])
+    ∷ (20, dated (windowFor 0 10 20 ∷ windowFor 0 30 40 ∷ []), 0 ∷ 0 ∷ 0 ∷ 1 ∷ 1 ∷ 3 ∷ 0 ∷ [])
+    ∷ (30, dated (windowFor 0 10 20 ∷ windowFor 0 30 40 ∷ []), 1 ∷ 2 ∷ 0 ∷ 1 ∷ 1 ∷ 3 ∷ 0 ∷ [])
+    ∷ (30, dated (windowFor 0 10 20 ∷ windowFor 1 30 40 ∷ []), 0 ∷ 0 ∷ 0 ∷ 1 ∷ 1 ∷ 3 ∷ 0 ∷ [])
+    ∷ (30, dated (windowFor 0 10 20 ∷ inputClause (1 ∷ []) ∷ resolveStep 3 1 1 1 ∷ []), 1 ∷ 4 ∷ 0 ∷ 1 ∷ 1 ∷ 5 ∷ 0 ∷ [])
+    ∷ (0, dated (recordOf 8 1 (0 ∷ 10 ∷ 20 ∷ []) ∷ []), 2 ∷ 4 ∷ 5 ∷ 1 ∷ 1 ∷ 3 ∷ 0 ∷ [])
+    ∷ (0, dated (recordOf 8 0 (0 ∷ 10 ∷ 20 ∷ 1 ∷ []) ∷ []), 2 ∷ 4 ∷ 5 ∷ 1 ∷ 1 ∷ 3 ∷ 0 ∷ [])
+    ∷ (0, dated (recordOf 8 0 (0 ∷ 10 ∷ 20 ∷ 0 ∷ 0 ∷ 0 ∷ 1 ∷ []) ∷ []), 2 ∷ 4 ∷ 5 ∷ 1 ∷ 1 ∷ 3 ∷ 0 ∷ [])
+    ∷ (0, dated (windowFor 3 10 20 ∷ []), 2 ∷ 5 ∷ 5 ∷ 1 ∷ 1 ∷ 3 ∷ 0 ∷ [])
+    ∷ (0, dated (windowFor 2 20 10 ∷ []), 2 ∷ 5 ∷ 5 ∷ 1 ∷ 1 ∷ 3 ∷ 0 ∷ [])
+    ∷ (0, dated (windowFor 1 20 10 ∷ []), 2 ∷ 16 ∷ 5 ∷ 1 ∷ 1 ∷ 3 ∷ 0 ∷ [])
+    ∷ (0, dated (recordOf 9 0 (0 ∷ 10 ∷ 20 ∷ []) ∷ []), 2 ∷ 3 ∷ 5 ∷ 1 ∷ 1 ∷ 3 ∷ 0 ∷ [])
+    ∷ []
+
+abbrev pub WindowsHold : Type 0
+WindowsHold = map (λ e. answerOn (e .0) (e .1)) windows ≡ map (λ e. e .2) windows
+
 -- Reason 2: each table in turn is one cell too short, and all are untouched.
 abbrev pub eights : ℕ → ℕ → ℕ → ℕ → Tables
 eights symbols rows clauses bindings =
@@ -139,7 +176,7 @@ abbrev pub shortTables : List Tables
 shortTables = eights 4095 4096 20480 32768 ∷ eights 4096 4095 20480 32768 ∷ eights 4096 4096 20479 32768 ∷ eights 4096 4096 20480 32767 ∷ []
 
 pub record ShortTablesHold : Type 0 where
-  pub answers : map (λ t. answerNumbers (check [] (lengthsOf t))) shortTables ≡ replicate 4 (2 ∷ 2 ∷ 0 ∷ 0 ∷ 0 ∷ 0 ∷ 0 ∷ [])
+  pub answers : map (λ t. answerNumbers (check 0 [] (lengthsOf t))) shortTables ≡ replicate 4 (2 ∷ 2 ∷ 0 ∷ 0 ∷ 0 ∷ 0 ∷ 0 ∷ [])
   pub untouched : map (tablesAfter []) shortTables ≡ shortTables
 
 -- The readout: digits in their order, and a term of 64 occurrences, which is written out, and of 65, which is `~`.

@@ -1,6 +1,7 @@
 pub mod State
 pub mod Refusal
 pub mod Step
+pub mod Force
 pub mod Verdict
 pub mod Tables
 pub mod Text
@@ -12,5 +13,6 @@ pub mod Repeats
 pub mod Several
 pub mod Total
 pub mod Lifting
+pub mod Days
 pub mod Cases
 pub mod Edges

@@ -39,13 +39,14 @@ clauseLines S (c ∷ cs) = clauseLines S cs ++ (clauseLine S (length cs) c ∷ [
 abbrev pub linesOf : Verdict → State → List (List ℕ)
 linesOf v S = verdictLine v ∷ clauseLines S (derivations S)
 
--- The readout of a file, line by line and as a whole. It goes by the check of the file, whatever the tables held before.
-unfoldable pub readoutLines : List ℕ → Lengths → List (List ℕ)
-readoutLines file lengths = linesOf (verdictGiven (reading file lengths)) (stateGiven (reading file lengths))
+-- The readout of a file on a day, line by line and as a whole. It goes by the check of the file, whatever the tables held before. All clauses are
+-- listed; only the first line looks at the day.
+unfoldable pub readoutLines : ℕ → List ℕ → Lengths → List (List ℕ)
+readoutLines day file lengths = linesOf (verdictGiven day (reading file lengths)) (stateGiven (reading file lengths))
 
 abbrev pub joinedLines : List (List ℕ) → List ℕ
 joinedLines [] = []
 joinedLines (l ∷ ls) = l ++ joinedLines ls
 
-abbrev pub readout : List ℕ → Lengths → List ℕ
-readout file lengths = joinedLines (readoutLines file lengths)
+abbrev pub readout : ℕ → List ℕ → Lengths → List ℕ
+readout day file lengths = joinedLines (readoutLines day file lengths)

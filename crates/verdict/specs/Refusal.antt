@@ -1,21 +1,22 @@
 -- Document 01, "Verdict, tables and refusals": the reasons with their numbers, and the tests of a record that give 3 to 9; document 02, Q-1: the
--- outlines of a step; Q-3: reason 14, and several right literals.
+-- outlines of a step; Q-3: reason 14, and several right literals; Q-6: reason 16,
+-- and windows.
 use mathlib.Core.Bool.{Bool, true, false, _&&_, not}
 use mathlib.Core.Option.{Option, none, some}
 use mathlib.Core.List.{List, [], _∷_, map}
 use Prim.Native.Nat.{ℕ, _+_}
 use lib.Dec.{eqb, leb, ltb}
 use lib.ListN.{length, take, drop}
-use Rattle.record.specs.Record.{pick, Record, otherKind, Kind, symbolKind, variableKind, applicationKind, inputKind, resolveKind, factorKind, severalKind, kindNumbered, fieldA, fieldB, fieldC, fieldD}
+use Rattle.record.specs.Record.{pick, Record, otherKind, Kind, symbolKind, variableKind, applicationKind, inputKind, resolveKind, factorKind, severalKind, windowKind, kindNumbered, fieldA, fieldB, fieldC, fieldD}
 use Rattle.unification.specs.Outlines.{outlinesClash}
 use Rattle.unification.specs.Row.{variable, Row, application}
 use Rattle.unification.specs.Unification.{Failure, failureNumber, clash}
-use Rattle.derivation.specs.Derivation.{literals, Literal, RowLiteral, inputLiterals, Derivation, resolve, factor, numbered, numberedAll, maximumIndex}
+use Rattle.derivation.specs.Derivation.{literals, input, Literal, RowLiteral, inputLiterals, Derivation, resolve, factor, numbered, numberedAll, maximumIndex}
 use Rattle.verdict.specs.State.{State, rowsOf, arityOf, clauseOf, rowOf, nextClause}
 
--- Reasons 1 to 9 and 14; 6, a repeated row, is not given any more (document 02, Q-2). What unification gives is in the crate unification.
+-- Reasons 1 to 9, 14 and 16; 6, a repeated row, is not given any more (document 02, Q-2). What unification gives is in the crate unification.
 pub data Reason : Type 0 where
-  badLength shortTable badKind outOfRange notThere notRising variableLiteral wrongSigns tooLarge : Reason
+  badLength shortTable badKind outOfRange notThere notRising crossedDays variableLiteral wrongSigns tooLarge : Reason
   unification : Failure → Reason
 
 abbrev pub reasonNumber : Reason → ℕ
@@ -25,14 +26,16 @@ reasonNumber badKind = 3
 reasonNumber outOfRange = 4
 reasonNumber notThere = 5
 reasonNumber notRising = 14
+reasonNumber crossedDays = 16
 reasonNumber variableLiteral = 7
 reasonNumber wrongSigns = 8
 reasonNumber tooLarge = 9
 reasonNumber (unification f) = failureNumber f
 
--- The order in which reasons are given is that of their numbers; but 14 comes after 5 and before 7 (document 02, Q-3), where 6 was.
+-- The order in which reasons are given is that of their numbers; but 14 (document 02, Q-3) and 16 (Q-6) come after 5 and before 7, where 6 was. No kind
+-- has both.
 abbrev pub precedence : ℕ → ℕ
-precedence n = pick (eqb n 14) 6 n
+precedence n = pick (eqb n 14) 6 (pick (eqb n 16) 6 n)
 
 -- The limits of document 01 on a clause.
 unfoldable pub mostLiterals : ℕ
@@ -57,6 +60,7 @@ inRange inputKind r = leb (r .count) 7 && zeros (drop (r .count) (r .fields))
 inRange resolveKind r = eqb (r .count) 0 && zeros (drop 4 (r .fields))
 inRange factorKind r = eqb (r .count) 0 && zeros (drop 3 (r .fields))
 inRange severalKind r = leb 1 (r .count) && leb (r .count) 4 && zeros (drop (3 + r .count) (r .fields))
+inRange windowKind r = eqb (r .count) 0 && zeros (drop 3 (r .fields))
 -- Any other kind is refused with 3, before its range matters.
 inRange otherKind r = true
 
@@ -84,6 +88,7 @@ rightNumbers variableKind r = []
 rightNumbers applicationKind r = []
 rightNumbers inputKind r = []
 rightNumbers factorKind r = []
+rightNumbers windowKind r = []
 rightNumbers otherKind r = []
 
 abbrev pub literalsIn : List ℕ → Option Derivation → Option (Derivation × List Literal)
@@ -109,6 +114,13 @@ hasArity n (some a) = eqb a n
 abbrev pub allBelow : ℕ → List ℕ → Bool
 allBelow n [] = true
 allBelow n (a ∷ xs) = ltb a n && allBelow n xs
+
+-- A clause that is there and is an input clause.
+abbrev pub isInput : Option Derivation → Bool
+isInput none = false
+isInput (some (input number ls)) = true
+isInput (some (resolve number l a r ns bs)) = false
+isInput (some (factor number c a b bs)) = false
 
 -- 5, of an application, of an input clause, and of a step.
 abbrev pub argumentsThere : State → Record → Bool
@@ -194,6 +206,10 @@ tests S factorKind r =
     ∷ (bothThere (leftOf S r) (deletedOf S r), notThere)
     ∷ (factorSigns S r, wrongSigns)
     ∷ (factorFits S r, tooLarge) ∷ []
+tests S windowKind r =
+    (inRange windowKind r, outOfRange)
+    ∷ (isInput (clauseOf S (fieldA r)), notThere)
+    ∷ (leb (fieldB r) (fieldC r), crossedDays) ∷ []
 -- 3: the kind is none of these.
 tests S otherKind r = (false, badKind) ∷ []
 
@@ -214,4 +230,5 @@ outlineTests S symbolKind r = []
 outlineTests S variableKind r = []
 outlineTests S applicationKind r = []
 outlineTests S inputKind r = []
+outlineTests S windowKind r = []
 outlineTests S otherKind r = []

@@ -6,7 +6,7 @@ use Prim.Native.Nat.{ℕ, suc, _+_, _*_, _/_, _%_, _<_}
 use lib.Dec.{eqb}
 use lib.ListN.{length, take, drop}
 use Rattle.record.specs.Bytes.{fileBytes}
-use Rattle.record.specs.Record.{pick, Record, records, otherKind, Kind, symbolKind, variableKind, applicationKind, inputKind, resolveKind, factorKind, severalKind, fieldA}
+use Rattle.record.specs.Record.{pick, Record, records, otherKind, Kind, symbolKind, variableKind, applicationKind, inputKind, resolveKind, factorKind, severalKind, windowKind, fieldA}
 use Rattle.unification.specs.Row.{variable, Row, application, noSymbol, rowAt, argumentTerms}
 use Rattle.unification.specs.Term.{Term, var, app, nil}
 use Rattle.derivation.specs.Derivation.{input, inputLiterals}
@@ -27,6 +27,7 @@ withWritten ws inputKind r = ws
 withWritten ws resolveKind r = ws
 withWritten ws severalKind r = ws
 withWritten ws factorKind r = ws
+withWritten ws windowKind r = ws
 withWritten ws otherKind r = ws
 
 abbrev pub writtenAfter : List Row → List Record → List Row
@@ -56,6 +57,7 @@ enterAsWritten S k symbolKind r = enter S k symbolKind r
 enterAsWritten S k resolveKind r = enter S k resolveKind r
 enterAsWritten S k severalKind r = enter S k severalKind r
 enterAsWritten S k factorKind r = enter S k factorKind r
+enterAsWritten S k windowKind r = enter S k windowKind r
 enterAsWritten S k otherKind r = enter S k otherKind r
 
 abbrev pub stepAsWritten : State → ℕ → Record → Result
@@ -86,6 +88,7 @@ replacedFields S variableKind r = r .fields
 replacedFields S resolveKind r = r .fields
 replacedFields S severalKind r = r .fields
 replacedFields S factorKind r = r .fields
+replacedFields S windowKind r = r .fields
 replacedFields S otherKind r = r .fields
 
 abbrev pub replaced : State → Record → Record

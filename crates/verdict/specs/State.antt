@@ -10,27 +10,38 @@ use Rattle.unification.specs.Row.{Row, rowAt, termAt}
 use Rattle.unification.specs.Term.{Term}
 use Rattle.derivation.specs.Derivation.{Derivation, ownBindings}
 
--- Symbols with their arities, rows, and clauses, each with the number of its record; a repeated row with that of the earliest equal one. And
--- document 02, Q-4: the running total of bindings, which goes from record to record.
+-- Document 02, Q-6: the window of an input clause, by the clause's number: its first and its last day.
+pub record Window : Type 0 where
+  pub clause : ℕ
+  pub first : ℕ
+  pub last : ℕ
+
+-- Symbols with their arities, rows, and clauses, each with the number of its record; a repeated row with that of the earliest equal one. Of
+-- document 02: the running total of bindings, which goes from record to record (Q-4), and the windows (Q-6).
 pub record State : Type 0 where
   pub symbols : List (ℕ × ℕ)
   pub rows : List (ℕ × Row)
   pub clauses : List (ℕ × Derivation)
   pub total : ℕ
+  pub windows : List Window
 
 -- Before any record.
 abbrev pub emptyState : State
-emptyState = record { symbols = []; rows = []; clauses = []; total = 0 }
+emptyState = record { symbols = []; rows = []; clauses = []; total = 0; windows = [] }
 
 abbrev pub withSymbol : State → ℕ → ℕ → State
-withSymbol S k arity = record { symbols = (k, arity) ∷ S .symbols; rows = S .rows; clauses = S .clauses; total = S .total }
+withSymbol S k arity = record { symbols = (k, arity) ∷ S .symbols; rows = S .rows; clauses = S .clauses; total = S .total; windows = S .windows }
 
 abbrev pub withRow : State → ℕ → Row → State
-withRow S k row = record { symbols = S .symbols; rows = (k, row) ∷ S .rows; clauses = S .clauses; total = S .total }
+withRow S k row = record { symbols = S .symbols; rows = (k, row) ∷ S .rows; clauses = S .clauses; total = S .total; windows = S .windows }
 
 -- A clause. The total grows by the bindings that its step has made, which for an input clause are none; no other record adds to it.
 abbrev pub withClause : State → ℕ → Derivation → State
-withClause S k c = record { symbols = S .symbols; rows = S .rows; clauses = (k, c) ∷ S .clauses; total = S .total + length (ownBindings c) }
+withClause S k c = record { symbols = S .symbols; rows = S .rows; clauses = (k, c) ∷ S .clauses; total = S .total + length (ownBindings c); windows = S .windows }
+
+-- A window. No symbol, row, clause or binding comes of it.
+abbrev pub withWindow : State → Window → State
+withWindow S w = record { symbols = S .symbols; rows = S .rows; clauses = S .clauses; total = S .total; windows = w ∷ S .windows }
 
 -- The element numbered n of a list that has the newest first.
 abbrev pub entry {ℓ} : {A : Type ℓ} → List A → ℕ → Option A

@@ -3,13 +3,13 @@ use mathlib.Core.Bool.{Bool, true, false}
 use mathlib.Core.Option.{Option, none, some}
 use mathlib.Core.List.{List, [], _∷_, map}
 use Prim.Native.Nat.{ℕ, suc}
-use Rattle.record.specs.Record.{Record, otherKind, Kind, symbolKind, variableKind, applicationKind, inputKind, resolveKind, factorKind, severalKind, fieldA, fieldB, fieldC}
+use Rattle.record.specs.Record.{Record, otherKind, Kind, symbolKind, variableKind, applicationKind, inputKind, resolveKind, factorKind, severalKind, windowKind, fieldA, fieldB, fieldC}
 use Rattle.unification.specs.Environment.{Binding}
 use Rattle.unification.specs.Row.{variable, Row, application, Expression}
 use Rattle.unification.specs.Unification.{unify, Outcome, unified, failed}
 use Rattle.derivation.specs.Derivation.{input, Literal, RowLiteral, inputLiterals, Derivation, resolve, factor, pairsWith, maximumIndex, joined, lookup}
 use Rattle.verdict.specs.Refusal.{tests, outlineTests, Reason, unification, badKind, notThere, kindOfRecord, leftOf, rightNumbers, rightOf, deletedOf, argumentRows}
-use Rattle.verdict.specs.State.{State, withSymbol, withRow, withClause, rowOf, earliestOf, recordOfRow, nextClause}
+use Rattle.verdict.specs.State.{State, Window, withSymbol, withRow, withClause, withWindow, rowOf, earliestOf, recordOfRow, nextClause}
 
 -- A record that stands gives the next state; a refused one its reason.
 pub data Result : Type 0 where
@@ -65,6 +65,10 @@ abbrev pub enterResolvent : State → ℕ → Kind → Record → Result
 enterResolvent S k kind r =
     onNamed (λ x y. addClause S k (resolve (nextClause S) (x .0) (fieldB r) (y .0) (rightNumbers kind r)) (unifyResolve S x y)) (leftOf S r) (rightOf S kind r)
 
+-- The window that a record of kind 8 gives its clause.
+abbrev pub windowIn : Record → Window
+windowIn r = record { clause = fieldA r; first = fieldB r; last = fieldC r }
+
 -- What a record that has passed all tests adds.
 abbrev pub enter : State → ℕ → Kind → Record → Result
 enter S k symbolKind r = stands (withSymbol S k (r .count))
@@ -75,6 +79,8 @@ enter S k resolveKind r = enterResolvent S k resolveKind r
 enter S k severalKind r = enterResolvent S k severalKind r
 enter S k factorKind r =
     onNamed (λ x y. addClause S k (factor (nextClause S) (x .0) (fieldB r) (fieldC r)) (unifyFactor S x y)) (leftOf S r) (deletedOf S r)
+-- Document 02, Q-6: a window is no clause and takes no number.
+enter S k windowKind r = stands (withWindow S (windowIn r))
 enter S k otherKind r = refused badKind
 
 -- Record k on a state: its tests, its outlines, and what it adds.

@@ -24,9 +24,9 @@ abbrev pub fifthCells : List ℕ → ℕ → ℕ
 fifthCells C zero = 0
 fifthCells C (suc n) = fifthCells C n + getD C (5 * n + 4) 0
 
-pub record BindingsHeld (file : List ℕ) (tables : Tables) : Type 0 where
+pub record BindingsHeld (day : ℕ) (file : List ℕ) (tables : Tables) : Type 0 where
   -- After each record, a refused one too, the total is the sum over the clauses then held, off the table that has them.
   pub afterEach : (k : ℕ) → totalAfter file k ≡ fifthCells (filledTables (stateAfter file k) tables .clauses) (length (stateAfter file k .clauses))
   -- The count in the answer is the total at the end; it is the sum over the table that the check leaves.
-  pub atEnd : fittingLength (length file) ≡ true → longEnough (lengthsOf tables) ≡ true → check file (lengthsOf tables) .bindings ≡ totalAfter file (length (records file))
-  pub inTable : check file (lengthsOf tables) .bindings ≡ fifthCells (tablesAfter file tables .clauses) (check file (lengthsOf tables) .clauses)
+  pub atEnd : fittingLength (length file) ≡ true → longEnough (lengthsOf tables) ≡ true → check day file (lengthsOf tables) .bindings ≡ totalAfter file (length (records file))
+  pub inTable : check day file (lengthsOf tables) .bindings ≡ fifthCells (tablesAfter file tables .clauses) (check day file (lengthsOf tables) .clauses)

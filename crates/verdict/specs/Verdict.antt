@@ -1,4 +1,4 @@
--- Document 01, "Verdict, tables and refusals": the answer to a whole file.
+-- Document 01, "Verdict, tables and refusals": the answer to a whole file; document 02, Q-6: on a day.
 use mathlib.Core.Path.{_≡_}
 use mathlib.Core.Bool.{Bool, true, false, _&&_}
 use mathlib.Core.Option.{Option, none, some}
@@ -8,6 +8,7 @@ use lib.Dec.{eqb, leb}
 use lib.ListN.{length}
 use Rattle.record.specs.Record.{pick, records}
 use Rattle.derivation.specs.Derivation.{literals, Derivation}
+use Rattle.verdict.specs.Force.{usesInForce}
 use Rattle.verdict.specs.Refusal.{Reason, badLength, shortTable, reasonNumber}
 use Rattle.verdict.specs.State.{State, emptyState, derivations}
 use Rattle.verdict.specs.Step.{read, Ending, allStand, refusedAt, stateOf}
@@ -45,17 +46,15 @@ abbrev pub firstEmpty : (Derivation → Bool) → List Derivation → Option ℕ
 firstEmpty test [] = none
 firstEmpty test (c ∷ cs) = elim (firstEmpty test cs) [ some n ↦ some n | none ↦ pick (test c && isEmpty (literals c)) (some (length cs)) none ]
 
--- Every derivation may make a file accepted.
-abbrev pub everyClause : Derivation → Bool
-everyClause c = true
-
 abbrev pub standing : Option ℕ → Verdict
 standing none = open′
 standing (some n) = accepted n
 
-abbrev pub verdictOf : Ending → Verdict
-verdictOf (allStand S) = standing (firstEmpty everyClause (derivations S))
-verdictOf (refusedAt S reason k) = refusal reason k
+-- Document 02, Q-6: accepted with the lowest empty clause whose derivation uses only clauses in force on the day, otherwise open. A refusal does not
+-- look at the day.
+abbrev pub verdictOf : ℕ → Ending → Verdict
+verdictOf day (allStand S) = standing (firstEmpty (usesInForce S day) (derivations S))
+verdictOf day (refusedAt S reason k) = refusal reason k
 
 abbrev pub answerOf : Verdict → State → Answer
 answerOf v S = record { verdict = v; symbols = length (S .symbols); rows = length (S .rows); clauses = length (S .clauses); bindings = S .total }
@@ -101,13 +100,13 @@ reading file lengths =
     (untouched badLength)
 
 -- The verdict, and the state that the records read have left.
-abbrev pub verdictGiven : Reading → Verdict
-verdictGiven (untouched reason) = refusal reason 0
-verdictGiven (readTo e) = verdictOf e
+abbrev pub verdictGiven : ℕ → Reading → Verdict
+verdictGiven day (untouched reason) = refusal reason 0
+verdictGiven day (readTo e) = verdictOf day e
 
 abbrev pub stateGiven : Reading → State
 stateGiven (untouched reason) = emptyState
 stateGiven (readTo e) = stateOf e
 
-unfoldable pub check : List ℕ → Lengths → Answer
-check file lengths = answerOf (verdictGiven (reading file lengths)) (stateGiven (reading file lengths))
+unfoldable pub check : ℕ → List ℕ → Lengths → Answer
+check day file lengths = answerOf (verdictGiven day (reading file lengths)) (stateGiven (reading file lengths))
