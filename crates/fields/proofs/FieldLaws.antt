@@ -115,8 +115,8 @@ module _ (p : List ℕ) (n i : ℕ) (few : n ≤ 4) where
       try false q = ap rising (fields-end p i (n + 3) (ltb-false i (n + 3) q))
 
 -- A number that no kind has.
-pub kind-other : (k : ℕ) → (k ≡ 1 → ⊥) → (k ≡ 2 → ⊥) → (k ≡ 3 → ⊥) → (k ≡ 4 → ⊥) → (k ≡ 5 → ⊥) → (k ≡ 6 → ⊥) → (k ≡ 7 → ⊥) → kindNumbered k ≡ otherKind
-kind-other k a b d e f g h = rw (ne-eqb k 1 a, ne-eqb k 2 b, ne-eqb k 3 d, ne-eqb k 4 e, ne-eqb k 5 f, ne-eqb k 6 g, ne-eqb k 7 h)
+pub kind-other : (k : ℕ) → (k ≡ 1 → ⊥) → (k ≡ 2 → ⊥) → (k ≡ 3 → ⊥) → (k ≡ 4 → ⊥) → (k ≡ 5 → ⊥) → (k ≡ 6 → ⊥) → (k ≡ 7 → ⊥) → (k ≡ 8 → ⊥) → kindNumbered k ≡ otherKind
+kind-other k a b d e f g h i = rw (ne-eqb k 1 a, ne-eqb k 2 b, ne-eqb k 3 d, ne-eqb k 4 e, ne-eqb k 5 f, ne-eqb k 6 g, ne-eqb k 7 h, ne-eqb k 8 i)
 
 -- A symbol's arity.
 pub arity-found : (file symbols : List ℕ) (n s : ℕ) {k a : ℕ} {p : List ℕ} → s < n → k ≡ getD symbols s 0 → p ≡ recordPart file k → a ≡ countOf p

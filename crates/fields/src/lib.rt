@@ -79,7 +79,7 @@ pub fn input_in_range(part: &[u8]) -> bool
     if n <= 7 { zeros_from(part, n) } else { false }
 }
 
-// A resolve uses four fields, a factor three; byte 1 is zero in both.
+// A resolve uses four fields, a factor and a window three; byte 1 is zero in all.
 pub fn step_in_range(part: &[u8], used: u8) -> bool
     ensures { λ b. ⌜ b ≡ stepInRange used (decoded (now (part .entry))) ⌝ }
 {

@@ -9,7 +9,7 @@ use tables::cell;
 use tables::set_cell;
 ghost use mathlib.Core.Path.{_≡_};
 ghost use lib.ListN.{length};
-ghost use Rattle.force.specs.Flags.{dayFlag, flagsAfter, flagFrom, derivedFlags, flagsInForce};
+ghost use Rattle.force.specs.Flags.{dayFlag, withRecord, flagsAfter, flagFrom, derivedFlags, flagsInForce};
 ghost use Rattle.record.specs.Record.{recordCount};
 
 // The flag that a window gives on a day: both its days are included.
@@ -22,16 +22,22 @@ fn day_flag(day: u16, part: &[u8]) -> u16
     if field(part, 2) < day { 0 } else { 1 }
 }
 
-// The flags of input clauses, by the windows of a file: each sets its clause's, so that the last one for a clause stays.
+// The flags after a record: a window sets that of its clause, whatever it was.
+fn put_window(day: u16, part: &[u8], flags: &mut [u16])
+    ensures { λ _. ⌜ now (flags .exit) ≡ withRecord day (now (part .entry)) (now (flags .entry)) ⌝ }
+{
+    if kind(part) == 8 {
+        set_cell(flags, field(part, 0) as usize, day_flag(day, part));
+    }
+}
+
+// The flags of input clauses, by the windows of a file: the last one for a clause stays.
 fn dated(day: u16, file: &[u8], flags: &mut [u16])
     ensures { λ _. ⌜ now (flags .exit) ≡ flagsAfter day (now (file .entry)) (recordCount (now (file .entry))) (now (flags .entry)) ⌝ }
 {
     let mut k: usize = 0;
     while k < file.len() / 16 {
-        let part = record_part(file, k);
-        if kind(part) == 8 {
-            set_cell(flags, field(part, 0) as usize, day_flag(day, part));
-        }
+        put_window(day, record_part(file, k), flags);
         k += 1;
     }
 }
