@@ -1,3 +1,4 @@
 pub mod WindowLaws
 pub mod FlagSteps
 pub mod FlagLaws
+pub mod WindowRead

@@ -22,7 +22,7 @@ use Rattle.verdict.proofs.Inversions.{literal-named, literals-named, is
 use Rattle.verdict.proofs.RangeTests.{at-most, either-false, not-true, not-under, of-kind, unequal, IsResolve, on-one, on-several, right-literals, resolve-kind}
 
 -- 5: what exists.
-entry-there : {A : Type 0} (xs : List A) (n : ℕ) → entry xs n ≡ none → length xs ≤ n
+pub entry-there : {A : Type 0} (xs : List A) (n : ℕ) → entry xs n ≡ none → length xs ≤ n
 entry-there [] n q = omega arith
 entry-there {A} (x ∷ xs) n q = try (eqb n (length xs)) refl q (λ z. entry-there xs n z)
   where
