@@ -14,9 +14,9 @@ use Rattle.answer.specs.declared.Verdict.the-variants as given-variants
 abbrev pub stateLeft : List ℕ → Lengths → State
 stateLeft file lengths = stateGiven (reading file lengths)
 
-counts-left : (F : List ℕ) (lengths : Lengths) → check F lengths .clauses ≡ length (stateLeft F lengths .clauses)
+counts-left : (day : ℕ) (F : List ℕ) (lengths : Lengths) → check day F lengths .clauses ≡ length (stateLeft F lengths .clauses)
 unfolding check
-counts-left F lengths = refl
+counts-left day F lengths = refl
 
 -- The verdict's numbers and the counts, taken apart.
 rest-given : (v : given.Verdict) (xs : List ℕ) → drop 3 (verdictGiven v ++ xs) ≡ xs
@@ -42,17 +42,17 @@ three-numbers (accepted n) xs = refl
 three-numbers open′ xs = refl
 three-numbers (refusal reason k) xs = refl
 
-module _ (F : List ℕ) (lengths : Lengths) (a : Answer) (isAnswer : answerGiven a ≡ answerNumbers (check F lengths)) where
-  pub verdict-given : verdictGiven (a .verdict) ≡ verdictNumbers (check F lengths .verdict)
+module _ (day : ℕ) (F : List ℕ) (lengths : Lengths) (a : Answer) (isAnswer : answerGiven a ≡ answerNumbers (check day F lengths)) where
+  pub verdict-given : verdictGiven (a .verdict) ≡ verdictNumbers (check day F lengths .verdict)
   verdict-given =
       sym (three-given (a .verdict) (a .symbols ∷ a .rows ∷ a .clauses ∷ a .bindings ∷ []))
       ∙ ap three isAnswer
-      ∙ three-numbers (check F lengths .verdict) (check F lengths .symbols ∷ check F lengths .rows ∷ check F lengths .clauses ∷ check F lengths .bindings ∷ [])
+      ∙ three-numbers (check day F lengths .verdict) (check day F lengths .symbols ∷ check day F lengths .rows ∷ check day F lengths .clauses ∷ check day F lengths .bindings ∷ [])
 
   pub clauses-given : a .clauses ≡ length (stateLeft F lengths .clauses)
   clauses-given =
       ap (λ (l : List ℕ). getD l 2 0)
       (sym (rest-given (a .verdict) (a .symbols ∷ a .rows ∷ a .clauses ∷ a .bindings ∷ []))
       ∙ ap (drop 3) isAnswer
-      ∙ rest-numbers (check F lengths .verdict) (check F lengths .symbols ∷ check F lengths .rows ∷ check F lengths .clauses ∷ check F lengths .bindings ∷ []))
-      ∙ counts-left F lengths
+      ∙ rest-numbers (check day F lengths .verdict) (check day F lengths .symbols ∷ check day F lengths .rows ∷ check day F lengths .clauses ∷ check day F lengths .bindings ∷ []))
+      ∙ counts-left day F lengths

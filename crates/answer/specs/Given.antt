@@ -1,11 +1,14 @@
 -- The answer as the program gives it, in the seven numbers of document 01, "Verdict, tables and refusals".
+use mathlib.Core.Bool.{Bool, _&&_}
 use mathlib.Core.Option.{Option, none, some}
 use mathlib.Core.List.{List, [], _∷_, _++_}
 use Prim.Native.Nat.{ℕ, zero, suc}
 use lib.Dec.{eqb}
+use lib.ListN.{getD, replicate}
 use Rattle.record.specs.Record.{pick}
 use Rattle.derivation.specs.Stored.{literalsCell}
 use Rattle.verdict.specs.Verdict.{verdictNumbers, standing}
+use Rattle.force.specs.Flags.{flagsInForce}
 use Rattle.entry.specs.declared.entry.Counts.{Counts}
 use Rattle.answer.specs.declared.Ended.{Ended}
 use Rattle.answer.specs.declared.Ended.the-variants.{All, Refused}
@@ -29,15 +32,22 @@ numbersWith v n = v ++ (n .symbols ∷ n .rows ∷ n .clauses ∷ n .bindings �
 abbrev pub untouchedNumbers : ℕ → List ℕ
 untouchedNumbers q = 2 ∷ q ∷ 0 ∷ 0 ∷ 0 ∷ 0 ∷ 0 ∷ []
 
--- The lowest of the first n clauses whose cell says that it has no literals.
-abbrev pub firstZero : List ℕ → ℕ → Option ℕ
-firstZero C zero = none
-firstZero C (suc n) = elim (firstZero C n) [ some m ↦ some m | none ↦ pick (eqb (literalsCell C n) 0) (some n) none ]
+-- The lowest of the first n clauses that has no literals, by its cell, and is in force, by its flag.
+abbrev pub accepts : List ℕ → List ℕ → ℕ → Bool
+accepts C L n = eqb (getD L n 0) 1 && eqb (literalsCell C n) 0
 
-abbrev pub standingNumbers : List ℕ → ℕ → List ℕ
-standingNumbers C n = verdictNumbers (standing (firstZero C n))
+abbrev pub firstAccepted : List ℕ → List ℕ → ℕ → Option ℕ
+firstAccepted C L zero = none
+firstAccepted C L (suc n) = elim (firstAccepted C L n) [ some m ↦ some m | none ↦ pick (accepts C L n) (some n) none ]
 
--- How reading ended, in numbers.
-abbrev pub endedNumbers : Ended → List ℕ → List ℕ
-endedNumbers (All n) C = numbersWith (standingNumbers C (n .clauses)) n
-endedNumbers (Refused q k n) C = numbersWith (2 ∷ q ∷ k ∷ []) n
+abbrev pub standingNumbers : List ℕ → List ℕ → ℕ → List ℕ
+standingNumbers C L n = verdictNumbers (standing (firstAccepted C L n))
+
+-- The flags before any window is looked at: every clause is in force.
+unfoldable pub allSet : List ℕ
+allSet = replicate 4096 1
+
+-- How the reading of the file F ended, in numbers, on a day.
+abbrev pub endedNumbers : ℕ → List ℕ → Ended → List ℕ → List ℕ → List ℕ
+endedNumbers day F (All n) C O = numbersWith (standingNumbers C (flagsInForce day F O (n .clauses) allSet) (n .clauses)) n
+endedNumbers day F (Refused q k n) C O = numbersWith (2 ∷ q ∷ k ∷ []) n

@@ -5,8 +5,13 @@ pub mod numbers;
 
 use clauses::literals_cell;
 use entry::entry::Counts;
+use following::nodes::Origins;
+use force::flags::in_force;
+use tables::cell;
 ghost use mathlib.Core.Path.{_≡_};
-ghost use Rattle.answer.specs.Given.{verdictGiven, answerGiven, untouchedNumbers, endedNumbers, standingNumbers};
+ghost use lib.ListN.{length};
+ghost use Rattle.force.specs.Flags.{flagsInForce};
+ghost use Rattle.answer.specs.Given.{verdictGiven, answerGiven, untouchedNumbers, endedNumbers, standingNumbers, accepts, allSet};
 
 // All records stand, with the counts after the last; or one is refused: its reason's number, its own, and the counts before it.
 pub enum Ended {
@@ -14,7 +19,7 @@ pub enum Ended {
     Refused(u8, u16, Counts),
 }
 
-// No empty clause; an empty clause, with the lowest number of one; or a refusal's number and its record.
+// No empty clause in force; the lowest number of one; or a refusal's number and its record.
 pub enum Verdict {
     Open,
     Accepted(u16),
@@ -30,18 +35,39 @@ pub struct Answer {
     pub bindings: u16,
 }
 
-// The verdict on a file whose records all stand: the first clause without literals.
-fn standing(clauses: &[u16], count: u16) -> Verdict
-    ensures { λ v. ⌜ verdictGiven v ≡ standingNumbers (now (clauses .entry)) count ⌝ }
+// Whether clause c has no literals and is in force.
+fn is_accepted(clauses: &[u16], flags: &[u16], c: u16) -> bool
+    ensures { λ b. ⌜ b ≡ accepts (now (clauses .entry)) (now (flags .entry)) c ⌝ }
+{
+    if literals_cell(clauses, c) == 0 {
+        cell(flags, c as usize) == 1
+    } else {
+        false
+    }
+}
+
+// The first clause without literals among those in force.
+fn first_accepted(clauses: &[u16], flags: &[u16], count: u16) -> Verdict
+    ensures { λ v. ⌜ verdictGiven v ≡ standingNumbers (now (clauses .entry)) (now (flags .entry)) count ⌝ }
 {
     let mut c = 0u16;
     while c < count {
-        if literals_cell(clauses, c) == 0 {
+        if is_accepted(clauses, flags, c) {
             return Verdict::Accepted(c);
         }
         c += 1;
     }
     Verdict::Open
+}
+
+// The verdict on a file whose records all stand, on a day: flags say which clauses are in force.
+fn standing(day: u16, file: &[u8], clauses: &[u16], origins: &Origins, count: u16) -> Verdict
+    requires { ⌜ length (now origins) ≡ 32768 ⌝ }
+    ensures { λ v. ⌜ verdictGiven v ≡ standingNumbers (now (clauses .entry)) (flagsInForce day (now (file .entry)) (now (origins .entry)) count allSet) count ⌝ }
+{
+    let mut flags = [1u16; 4096];
+    in_force(day, file, origins, count, &mut flags);
+    first_accepted(clauses, &flags, count)
 }
 
 // A verdict with its counts.
@@ -72,12 +98,13 @@ pub fn untouched(q: u8) -> Answer
     )
 }
 
-// The answer on a file that was read.
-pub fn ended_answer(e: Ended, clauses: &[u16]) -> Answer
-    ensures { λ a. ⌜ answerGiven a ≡ endedNumbers e (now (clauses .entry)) ⌝ }
+// The answer on a file that was read. The day matters only where all records stand.
+pub fn ended_answer(day: u16, file: &[u8], e: Ended, clauses: &[u16], origins: &Origins) -> Answer
+    requires { ⌜ length (now origins) ≡ 32768 ⌝ }
+    ensures { λ a. ⌜ answerGiven a ≡ endedNumbers day (now (file .entry)) e (now (clauses .entry)) (now (origins .entry)) ⌝ }
 {
     match e {
-        Ended::All(n) => with_counts(standing(clauses, n.clauses), n),
+        Ended::All(n) => with_counts(standing(day, file, clauses, origins, n.clauses), n),
         Ended::Refused(q, k, n) => with_counts(Verdict::Refused(q, k), n),
     }
 }

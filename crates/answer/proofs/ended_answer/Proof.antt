@@ -2,6 +2,10 @@ use Rattle.answer.proofs.AnswerLaws.{all-numbers, refused-numbers}
 use borrow.Author.Needs.{needs}
 use Rattle.answer.proofs.ended_answer.Statement.{statement}
 use Rattle.answer.proofs.ended_answer.Tie as tie
+use Rattle.answer.proofs.ended_answer.Reads as reads
+use Rattle.answer.proofs.ended_answer.Lts as lts
+use Rattle.answer.proofs.standing.Reads as standing-reads
+use Rattle.answer.proofs.with_counts.Reads as with-counts-reads
 
 enum-known-e : tie.Need-enum-known-e
 enum-known-e c = search needs
@@ -20,11 +24,11 @@ with-counts-requires-2 c κs = search needs
 
 returns : tie.Need-returns
 returns c =
-    all-numbers _ _ _ _ _ (c .before .before .before .e .given .1) (c .before .standing .ensures) (c .with-counts .ensures)
+    all-numbers _ _ _ _ _ _ _ _ (c .before .before .before .e .given .1) (c .before .standing .ensures) (c .with-counts .ensures)
 
 returns-2 : tie.Need-returns-2
 returns-2 c =
-    refused-numbers _ _ _ _ _ _ (c .before .before .e2 .given .1) (c .with-counts2 .ensures)
+    refused-numbers _ _ _ _ _ _ _ _ _ (c .before .before .e2 .given .1) (c .with-counts2 .ensures)
 
 pub ended-answer-spec : {M : Type 1} → statement M
 ended-answer-spec =

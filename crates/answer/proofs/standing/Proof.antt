@@ -1,56 +1,38 @@
-use mathlib.Core.Path.{_≡_, refl}
-use mathlib.Core.Option.{none}
-use Prim.Native.Nat.{_-_, _≤_}
-use native.Mathlib.Omega.{arith}
-use Rattle.answer.specs.Given.{firstZero}
-use Rattle.answer.proofs.AnswerLaws.{first-found, none-yet, none-found}
+use mathlib.Core.Path.{_≡_, ap, _∙_}
+use mathlib.Core.List.{List}
+use Prim.Native.Nat.{ℕ}
+use Rattle.answer.specs.Given.{standingNumbers, allSet}
 use borrow.Author.Needs.{needs}
 use Rattle.answer.proofs.standing.Statement.{statement}
 use Rattle.answer.proofs.standing.Tie as tie
+use Rattle.answer.proofs.standing.Reads as reads
+use Rattle.answer.proofs.standing.Lts as lts
+use Rattle.answer.proofs.first_accepted.Reads as first-accepted-reads
+use Rattle.force.proofs.flags.in_force.Reads as in-force-reads
 
-abbrev Inv-loop : tie.InvT-loop
-Inv-loop clauses count c₀ c =
-    (c ≤ count) × (firstZero clauses c ≡ none)
+slice-aggregate-in-force : tie.Need-slice-aggregate-in-force
+slice-aggregate-in-force c = search needs
 
-abbrev μ-loop : tie.MeasureT-loop
-μ-loop clauses count c₀ c =
-    count - c
+in-force-requires : tie.Need-in-force-requires
+in-force-requires c κs = search needs
 
-loop-holds : tie.Need-loop-holds Inv-loop μ-loop
-loop-holds c =
-    (omega arith, refl)
+slice-aggregate-first-accepted : tie.Need-slice-aggregate-first-accepted
+slice-aggregate-first-accepted c = search needs
 
-literals-cell-requires : tie.Need-literals-cell-requires Inv-loop μ-loop
-literals-cell-requires c κs = search needs
+first-accepted-requires : tie.Need-first-accepted-requires
+first-accepted-requires c κs = search needs
 
-returns : tie.Need-returns Inv-loop μ-loop
+returns : tie.Need-returns
+unfolding allSet
 returns c =
-    first-found _ _ (c .before .before .before .loop .inv .1) _ (c .before .literals-cell .ensures) _ (c .before .before .loop-test .taken) (c .if1 .taken)
-
-add-c : tie.Need-add-c Inv-loop μ-loop
-add-c c = search needs
-
-loop-less : tie.Need-loop-less Inv-loop μ-loop
-loop-less c = search needs
-
-loop-again : tie.Need-loop-again Inv-loop μ-loop
-loop-again c =
-    (omega arith, none-yet (c .before .before .before .before .before .args .clauses .now) (c .before .before .before .loop .c) (c .before .before .before .loop .inv .1) _ (c .before .literals-cell .ensures) (c .if1 .left))
-
-returns-2 : tie.Need-returns-2 Inv-loop μ-loop
-returns-2 c =
-    none-found _ _ _ (c .before .loop .inv .1) (c .before .loop .inv .0) (c .loop-test .left)
+    c .first-accepted .ensures ∙ ap (λ (L : List ℕ). standingNumbers (c .before .before .before .before .before .before .before .args .clauses .now) L (c .before .before .before .before .before .before .before .args .count)) (c .before .before .before .in-force .ensures)
 
 pub standing-spec : {M : Type 1} → statement M
 standing-spec =
     tie.close
     (tie.spec
-    Inv-loop
-    μ-loop
-    loop-holds
-    literals-cell-requires
-    returns
-    add-c
-    loop-less
-    loop-again
-    returns-2)
+    slice-aggregate-in-force
+    in-force-requires
+    slice-aggregate-first-accepted
+    first-accepted-requires
+    returns)
