@@ -21,76 +21,78 @@ use Rattle.verdict.proofs.OutlinesShown.{outlines-shown}
 use Rattle.verdict.proofs.RepeatsShown.{repeats-shown}
 use Rattle.verdict.proofs.SeveralShown.{several-shown}
 use Rattle.verdict.proofs.TotalShown.{bindings-held}
+use Rattle.verdict.proofs.DaysShown.{days-only-choose}
 use Rattle.verdict.proofs.LiftingShown.{nothing-lost}
 use Rattle.verdict.proofs.Demanded.{check-length, check-tables, check-reads, tables-length, tables-short, tables-read, demand1, demand2, demand3}
 use borrow.Author.Tests.{not-false, not-true}
 use Rattle.answer.specs.declared.Answer.{Answer}
 use Rattle.answer.specs.declared.Verdict.the-variants as verdict
 
-module _ (F : List ℕ) (t : Tables) (a : Answer) (here : Tables) (isAnswer : answerGiven a ≡ answerNumbers (check F (lengthsOf t))) (isTables : here ≡ tablesAfter F t) where
-  pub checked : Checked F t a here
+module _ (day : ℕ) (F : List ℕ) (t : Tables) (a : Answer) (here : Tables) (isAnswer : answerGiven a ≡ answerNumbers (check day F (lengthsOf t))) (isTables : here ≡ tablesAfter F t) where
+  pub checked : Checked day F t a here
   checked = record {
     answer = isAnswer;
     symbols = ap (λ (x : Tables). x .symbols) isTables;
     rows = ap (λ (x : Tables). x .rows) isTables;
     clauses = ap (λ (x : Tables). x .clauses) isTables;
     bindings = ap (λ (x : Tables). x .bindings) isTables;
-    honest = demand1 F t;
-    textbook = demand2 F t Variable;
-    refutation = demand3 F t;
+    honest = demand1 day F t;
+    textbook = demand2 day F t Variable;
+    refutation = demand3 day F t;
     outlines = outlines-shown;
     repeats = repeats-shown F;
     several = several-shown F;
-    held = bindings-held F t;
+    held = bindings-held day F t;
     lifting = nothing-lost F;
+    days = days-only-choose F (lengthsOf t);
   }
 
 pub readable : (F : List ℕ) (t : Tables) (b : Bool) → b ≡ fittingLength (length F) → not b ≡ false → (d : Bool) → d ≡ longEnough (lengthsOf t) → not d ≡ false → Readable F t
 readable F t b p f d q l = record { fit = sym p ∙ not-false b f; long = sym q ∙ not-false d l }
 
 -- The three ways, by the tests of the program.
-module _ (F : List ℕ) (t : Tables) (a : Answer) (b : Bool) (isFitting : b ≡ fittingLength (length F)) where
-  pub checked-length : not b ≡ true → answerGiven a ≡ untouchedNumbers 1 → Checked F t a t
+module _ (day : ℕ) (F : List ℕ) (t : Tables) (a : Answer) (b : Bool) (isFitting : b ≡ fittingLength (length F)) where
+  pub checked-length : not b ≡ true → answerGiven a ≡ untouchedNumbers 1 → Checked day F t a t
   checked-length q p =
       let f : fittingLength (length F) ≡ false = sym isFitting ∙ not-true b q in
-      checked F t a t (p ∙ sym (ap answerNumbers (check-length F t f))) (sym (tables-length F t f))
+      checked day F t a t (p ∙ sym (ap answerNumbers (check-length day F t f))) (sym (tables-length F t f))
 
   module _ (fit : not b ≡ false) (d : Bool) (isLong : d ≡ longEnough (lengthsOf t)) where
     fits : fittingLength (length F) ≡ true
     fits = sym isFitting ∙ not-false b fit
 
-    pub checked-tables : not d ≡ true → answerGiven a ≡ untouchedNumbers 2 → Checked F t a t
+    pub checked-tables : not d ≡ true → answerGiven a ≡ untouchedNumbers 2 → Checked day F t a t
     checked-tables q p =
         let l : longEnough (lengthsOf t) ≡ false = sym isLong ∙ not-true d q in
-        checked F t a t (p ∙ sym (ap answerNumbers (check-tables F t fits l))) (sym (tables-short F t fits l))
+        checked day F t a t (p ∙ sym (ap answerNumbers (check-tables day F t fits l))) (sym (tables-short F t fits l))
 
-    pub checked-read : not d ≡ false → (here : Tables) → FileRead F t a here → Checked F t a here
+    pub checked-read : not d ≡ false → (here : Tables) → FileRead day F t a here → Checked day F t a here
     checked-read q here R =
         let l : longEnough (lengthsOf t) ≡ true = sym isLong ∙ not-false d q in
-        checked F t a here (R .numbers ∙ sym (ap answerNumbers (check-reads F t fits l))) (R .tables ∙ sym (tables-read F t fits l))
+        checked day F t a here (R .numbers ∙ sym (ap answerNumbers (check-reads day F t fits l))) (R .tables ∙ sym (tables-read F t fits l))
 
 -- The same with a lent workspace, in each of the three ways.
-module _ (F : List ℕ) (t : Tables) (w : Workspace) (a : Answer) (b : Bool) (isFitting : b ≡ fittingLength (length F))
+module _ (day : ℕ) (F : List ℕ) (t : Tables) (w : Workspace) (a : Answer) (b : Bool) (isFitting : b ≡ fittingLength (length F))
     (nodes : length (w .nodes) ≡ 32768) (origins : length (w .origins) ≡ 32768) (values : length (w .values) ≡ 524416) where
-  pub checked-length-with : not b ≡ true → answerGiven a ≡ untouchedNumbers 1 → CheckedWith F t w a t w
+  pub checked-length-with : not b ≡ true → answerGiven a ≡ untouchedNumbers 1 → CheckedWith day F t w a t w
   checked-length-with q p =
       let f : fittingLength (length F) ≡ false = sym isFitting ∙ not-true b q in
-      record { checked = checked-length F t a b isFitting q p; nodes = rw f refl; origins = rw f refl; nodeRoom = nodes; originRoom = origins; values = values; read = λ g l. absurd (true-not-false g f) }
+      record { checked = checked-length day F t a b isFitting q p; nodes = rw f refl; origins = rw f refl; nodeRoom = nodes; originRoom = origins; values = values; read = λ g l. absurd (true-not-false g f) }
 
   module _ (fit : not b ≡ false) (d : Bool) (isLong : d ≡ longEnough (lengthsOf t)) where
     isFit : fittingLength (length F) ≡ true
     isFit = sym isFitting ∙ not-false b fit
 
-    pub checked-tables-with : not d ≡ true → answerGiven a ≡ untouchedNumbers 2 → CheckedWith F t w a t w
+    pub checked-tables-with : not d ≡ true → answerGiven a ≡ untouchedNumbers 2 → CheckedWith day F t w a t w
     checked-tables-with q p =
         let s : longEnough (lengthsOf t) ≡ false = sym isLong ∙ not-true d q in
-        record { checked = checked-tables F t a b isFitting fit d isLong q p; nodes = rw (isFit, s) refl; origins = rw (isFit, s) refl; nodeRoom = nodes; originRoom = origins; values = values; read = λ f l. absurd (true-not-false l s) }
+        record { checked = checked-tables day F t a b isFitting fit d isLong q p; nodes = rw (isFit, s) refl; origins = rw (isFit, s) refl; nodeRoom = nodes; originRoom = origins; values = values; read = λ f l. absurd (true-not-false l s) }
 
-    pub checked-read-with : not d ≡ false → (here : Tables) (N O A : List ℕ) → FileReadWith F t a here N O A → CheckedWith F t w a here (workspaceWith N O A)
+    pub checked-read-with : not d ≡ false → (here : Tables) (N O A : List ℕ) → FileReadWith day F t a here N O A → CheckedWith day F t w a here (workspaceWith N O A)
     checked-read-with q here N O A R =
         let s : longEnough (lengthsOf t) ≡ true = sym isLong ∙ not-false d q in
         record {
-          checked = checked-read F t a b isFitting fit d isLong q here (R .file);
+          checked = checked-read day F t a b isFitting fit d isLong q here (R .file);
           nodes = rw (isFit, s) (R .left .kept .nodes);
           origins = rw (isFit, s) (R .left .kept .origins);
           nodeRoom = nodes-room (R .left .kept) (R .left .few);

@@ -15,6 +15,8 @@ use Rattle.verdict.specs.Step.{require}
 use Rattle.inference.specs.Stepping.{BeforeStep, ResolveKind, StepRead}
 use Rattle.verdict.specs.Tables.{Tables}
 use Rattle.entry.proofs.Declaring.{symbol-read, variable-read, application-read, input-read}
+use Rattle.force.specs.Window.{windowEntered}
+use Rattle.force.proofs.WindowRead.{window-read}
 use Rattle.fields.proofs.FieldLaws.{kind-other}
 use Rattle.entry.proofs.Kept.{few-records, few-symbols, few-rows, few-clauses, rows-fit, origins-length}
 use Rattle.entry.proofs.Entering.{rows-ready}
@@ -100,9 +102,12 @@ module _ {F : List ℕ} {k : ℕ} {n : Counts} {s r C B N O A : List ℕ} (R : R
     pub input-done : m ≡ 4 → (e : Entered) (C′ O′ : List ℕ) → inputLeft e C′ O′ ≡ inputEntered (recordPart F k) k n C N O → RecordRead F k n (tablesWith s r C B) N O A e (tablesWith s r C′ B) N O′ A
     input-done z e C′ O′ E = record { next = λ t S K. input-read F t k S n (tablesWith s r C B) N O A K (R .inside) (kind-is 4 z) e C′ O′ E }
 
+    pub window-done : m ≡ 8 → (e : Entered) → e ≡ windowEntered P n O → RecordRead F k n (tablesWith s r C B) N O A e (tablesWith s r C B) N O A
+    window-done z e E = record { next = λ t S K. window-read F t k S n (tablesWith s r C B) N O A K (R .inside) (kind-is 8 z) e (E ∙ ap (λ (x : List ℕ). windowEntered x n O) p) }
+
     pub step-done : (C′ B′ O′ A′ : List ℕ) (e : Entered) → ((E : BeforeStep F k n C B N O A) → StepRead F k n C B N O A E C′ B′ O′ A′ e) → RecordRead F k n (tablesWith s r C B) N O A e (tablesWith s r C′ B′) N O′ A′
     step-done C′ B′ O′ A′ e f = record { next = λ t S K. f (record { inside = R .inside; tablesBefore = t; state = S; symbols = s; rows = r; kept = K }) .next }
 
-    pub other-done : ¬ (m ≡ 1) → ¬ (m ≡ 2) → ¬ (m ≡ 3) → ¬ (m ≡ 4) → ¬ (m ≡ 5) → ¬ (m ≡ 6) → ¬ (m ≡ 7) → RecordRead F k n (tablesWith s r C B) N O A (Refused 3) (tablesWith s r C B) N O A
+    pub other-done : ¬ (m ≡ 1) → ¬ (m ≡ 2) → ¬ (m ≡ 3) → ¬ (m ≡ 4) → ¬ (m ≡ 5) → ¬ (m ≡ 6) → ¬ (m ≡ 7) → ¬ (m ≡ 8) → RecordRead F k n (tablesWith s r C B) N O A (Refused 3) (tablesWith s r C B) N O A
     unfolding require
-    other-done a b c d e f g = record { next = λ t S K. (badKind, at-kind S k (decoded (recordPart F k)) otherKind (ap kindNumbered (sym tag-is) ∙ kind-other m a b c d e f g), refl, K .tables, K .nodes, K .origins, K .values) }
+    other-done a b c d e f g h = record { next = λ t S K. (badKind, at-kind S k (decoded (recordPart F k)) otherKind (ap kindNumbered (sym tag-is) ∙ kind-other m a b c d e f g h), refl, K .tables, K .nodes, K .origins, K .values) }

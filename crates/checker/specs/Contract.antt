@@ -1,4 +1,4 @@
--- The contract of the check: what `check` promises of every file and every four tables, with no condition on the call.
+-- The contract of the check: what `check` promises of every day, every file and every four tables, with no condition on the call.
 use mathlib.Core.Path.{_≡_}
 use mathlib.Core.Bool.{true}
 use mathlib.Core.List.{List}
@@ -6,6 +6,7 @@ use Prim.Native.Nat.{ℕ}
 use lib.ListN.{length}
 use Rattle.unification.specs.Row.{Variable}
 use Rattle.derivation.specs.Stored.{originTableOf}
+use Rattle.verdict.specs.Days.{DaysOnlyChoose}
 use Rattle.verdict.specs.Demands.{Demand1, Demand2, Demand3}
 use Rattle.verdict.specs.Lifting.{NothingLost}
 use Rattle.verdict.specs.Outlines.{OutlinesBeforeUnification}
@@ -20,17 +21,17 @@ use Rattle.verdict.specs.Tables.{Tables, lengthsOf, tablesAfter}
 use Rattle.verdict.specs.Verdict.{check, answerNumbers, longEnough, fittingLength, ending, Reading, untouched, readTo, reading}
 use Rattle.answer.specs.declared.Answer.{Answer}
 
-pub record Checked (file : List ℕ) (before : Tables) (a : Answer) (after : Tables) : Type 0 where
+pub record Checked (day : ℕ) (file : List ℕ) (before : Tables) (a : Answer) (after : Tables) : Type 0 where
   -- The seven numbers of the answer, and each table at exit, cell by cell.
-  pub answer : answerGiven a ≡ answerNumbers (check file (lengthsOf before))
+  pub answer : answerGiven a ≡ answerNumbers (check day file (lengthsOf before))
   pub symbols : after .symbols ≡ tablesAfter file before .symbols
   pub rows : after .rows ≡ tablesAfter file before .rows
   pub clauses : after .clauses ≡ tablesAfter file before .clauses
   pub bindings : after .bindings ≡ tablesAfter file before .bindings
   -- The mission's demands.
-  pub honest : Demand1 file before
-  pub textbook : Demand2 Variable file before
-  pub refutation : Demand3 file before
+  pub honest : Demand1 day file before
+  pub textbook : Demand2 Variable day file before
+  pub refutation : Demand3 day file before
   -- Document 02, Q-1.
   pub outlines : OutlinesBeforeUnification
   -- Document 02, Q-2.
@@ -38,9 +39,11 @@ pub record Checked (file : List ℕ) (before : Tables) (a : Answer) (after : Tab
   -- Document 02, Q-3.
   pub several : SeveralLiterals file
   -- Document 02, Q-4.
-  pub held : BindingsHeld file before
+  pub held : BindingsHeld day file before
   -- Document 02, Q-7.
   pub lifting : NothingLost file
+  -- Document 02, Q-6.
+  pub days : DaysOnlyChoose file (lengthsOf before)
 
 -- A node table, a table of origins and an array of values that the caller lends, whatever they hold.
 pub record Workspace : Type 0 where
@@ -62,8 +65,8 @@ originsGiven (readTo e) O = originTableOf (derivations (stateOf e))
 
 -- The same promise with a workspace that the caller lends. Where records were read, the node table and the table of origins then have the
 -- rows and the clauses of the state left; for reasons 1 and 2 they are untouched. What the array holds is left to the program.
-pub record CheckedWith (file : List ℕ) (before : Tables) (lent : Workspace) (a : Answer) (after : Tables) (left : Workspace) : Type 0 where
-  pub checked : Checked file before a after
+pub record CheckedWith (day : ℕ) (file : List ℕ) (before : Tables) (lent : Workspace) (a : Answer) (after : Tables) (left : Workspace) : Type 0 where
+  pub checked : Checked day file before a after
   pub nodes : left .nodes ≡ nodesGiven (reading file (lengthsOf before)) (lent .nodes)
   pub origins : left .origins ≡ originsGiven (reading file (lengthsOf before)) (lent .origins)
   pub nodeRoom : length (left .nodes) ≡ 32768

@@ -59,11 +59,11 @@ pub record ReadableWith (F : List ℕ) (t : Tables) (N O A : List ℕ) : Type 0 
   pub readable : Readable F t
   pub empty : Unwritten N O A
 
-pub record FileRead (F : List ℕ) (t : Tables) (a : Answer) (here : Tables) : Type 0 where
-  pub numbers : answerGiven a ≡ answerNumbers (answerOf (verdictOf (ending F)) (stateOf (ending F)))
+pub record FileRead (day : ℕ) (F : List ℕ) (t : Tables) (a : Answer) (here : Tables) : Type 0 where
+  pub numbers : answerGiven a ≡ answerNumbers (answerOf (verdictOf day (ending F)) (stateOf (ending F)))
   pub tables : here ≡ filledTables (stateOf (ending F)) t
 
 -- What is read of them with these tables and an array: what the program keeps of the state that reading ended with.
-pub record FileReadWith (F : List ℕ) (t : Tables) (a : Answer) (here : Tables) (N O A : List ℕ) : Type 0 where
-  pub file : FileRead F t a here
+pub record FileReadWith (day : ℕ) (F : List ℕ) (t : Tables) (a : Answer) (here : Tables) (N O A : List ℕ) : Type 0 where
+  pub file : FileRead day F t a here
   pub left : ReadTo F t (stateOf (ending F)) here N O A

@@ -12,6 +12,7 @@ use factoring::factor_record;
 use following::nodes::Nodes;
 use following::nodes::Origins;
 use following::values::ValueCells;
+use force::window::window_record;
 use record::kind;
 use record::record_part;
 use resolution::resolve_record;
@@ -50,6 +51,7 @@ fn read_record(
         5 => resolve_record(file, k, counts, clauses, bindings, nodes, origins, values),
         6 => factor_record(file, k, counts, clauses, bindings, nodes, origins, values),
         7 => resolve_record(file, k, counts, clauses, bindings, nodes, origins, values),
+        8 => window_record(part, counts, origins),
         _ => Entered::Refused(3),
     }
 }

@@ -17,7 +17,7 @@ untouched-requires c κs = search needs
 
 returns : tie.Need-returns
 returns c =
-    checked-length _ _ _ _ (c .before .before .fitting-length .ensures) (c .before .if1 .taken) (c .untouched .ensures)
+    checked-length _ _ _ _ _ (c .before .before .fitting-length .ensures) (c .before .if1 .taken) (c .untouched .ensures)
 
 long-enough-requires : tie.Need-long-enough-requires
 long-enough-requires c κs = search needs
@@ -27,7 +27,7 @@ untouched-requires-2 c κs = search needs
 
 returns-2 : tie.Need-returns-2
 returns-2 c =
-    checked-tables _ _ _ _ (c .before .before .before .before .fitting-length .ensures) (c .before .before .before .if1 .left) _ (c .before .before .long-enough .ensures) (c .before .if2 .taken) (c .untouched2 .ensures)
+    checked-tables _ _ _ _ _ (c .before .before .before .before .fitting-length .ensures) (c .before .before .before .if1 .left) _ (c .before .before .long-enough .ensures) (c .before .if2 .taken) (c .untouched2 .ensures)
 
 read-file-requires : tie.Need-read-file-requires
 read-file-requires c κs =
@@ -47,7 +47,7 @@ same-length-4 c = search needs
 
 returns-3 : tie.Need-returns-3
 returns-3 c =
-    checked-read _ _ _ _ (c .before .before .before .before .before .before .before .before .before .before .before .before .before .before .before .before .fitting-length .ensures) (c .before .before .before .before .before .before .before .before .before .before .before .before .before .before .before .if1 .left) _ (c .before .before .before .before .before .before .before .before .before .before .before .before .before .before .long-enough .ensures) (c .before .before .before .before .before .before .before .before .before .before .before .before .before .if2 .left) _ (c .before .before .before .before .before .before .before .before .read-file .ensures)
+    checked-read _ _ _ _ _ (c .before .before .before .before .before .before .before .before .before .before .before .before .before .before .before .before .fitting-length .ensures) (c .before .before .before .before .before .before .before .before .before .before .before .before .before .before .before .if1 .left) _ (c .before .before .before .before .before .before .before .before .before .before .before .before .before .before .long-enough .ensures) (c .before .before .before .before .before .before .before .before .before .before .before .before .before .if2 .left) _ (c .before .before .before .before .before .before .before .before .read-file .ensures)
 
 pub check-spec : {M : Type 1} → statement M
 check-spec =

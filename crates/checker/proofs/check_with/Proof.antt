@@ -31,7 +31,7 @@ untouched-requires c κs = search needs
 
 returns : tie.Need-returns
 returns c =
-    checked-length-with _ _ _ _ _ (c .before .before .fitting-length .ensures) (c .before .before .before .before .before .before .before .whole-table .ensures) (c .before .before .before .before .before .whole-table2 .ensures) (c .before .before .before .whole-values .ensures) (c .before .if1 .taken) (c .untouched .ensures)
+    checked-length-with _ _ _ _ _ _ (c .before .before .fitting-length .ensures) (c .before .before .before .before .before .before .before .whole-table .ensures) (c .before .before .before .before .before .whole-table2 .ensures) (c .before .before .before .whole-values .ensures) (c .before .if1 .taken) (c .untouched .ensures)
 
 long-enough-requires : tie.Need-long-enough-requires
 long-enough-requires c κs = search needs
@@ -49,7 +49,7 @@ returns-2 c =
     let untouched2-says = c .untouched2 .ensures in
     let if2-taken = c .before .if2 .taken in
     let if1-left = c .before .before .before .if1 .left in
-    checked-tables-with _ _ _ _ _ fitting-length-says whole-table-says whole-table2-says whole-values-says if1-left _ long-enough-says if2-taken untouched2-says
+    checked-tables-with _ _ _ _ _ _ fitting-length-says whole-table-says whole-table2-says whole-values-says if1-left _ long-enough-says if2-taken untouched2-says
 
 clear-table-requires : tie.Need-clear-table-requires
 clear-table-requires c κs = search needs
@@ -90,7 +90,7 @@ returns-3 c =
     let read-tables-says = c .before .before .before .before .before .before .before .before .read-tables .ensures in
     let if1-left = c .before .before .before .before .before .before .before .before .before .before .before .before .before .before .before .before .before .before .before .before .before .before .if1 .left in
     let if2-left = c .before .before .before .before .before .before .before .before .before .before .before .before .before .before .before .before .before .before .before .before .if2 .left in
-    checked-read-with _ _ _ _ _ fitting-length-says whole-table-says whole-table2-says whole-values-says if1-left _ long-enough-says if2-left _ _ _ _ read-tables-says
+    checked-read-with _ _ _ _ _ _ fitting-length-says whole-table-says whole-table2-says whole-values-says if1-left _ long-enough-says if2-left _ _ _ _ read-tables-says
 
 pub check-with-spec : {M : Type 1} → statement M
 check-with-spec =

@@ -1,5 +1,6 @@
 -- The cleared parts are those of the empty state, and reading goes on from there.
 use native.Mathlib.Omega.{arith}
+use Rattle.inference.proofs.KeptClauses.{origins-room}
 use Rattle.checker.proofs.CheckLaws.{table-sizes, begun, file-read-with}
 use borrow.Author.Needs.{needs}
 use Rattle.checker.proofs.read_tables.Statement.{statement}
@@ -39,14 +40,18 @@ read-records-requires c κs =
     begun at-start-asked-readable clear-says clear2-says clear3-says clear4-says at-start-asked-empty-values _ _ at-start-asked-empty-nodes at-start-asked-empty-origins
 
 ended-answer-requires : tie.Need-ended-answer-requires
-ended-answer-requires c κs = search needs
+unfolding read-records-requires begun
+ended-answer-requires c κs =
+    let e = c .before .before .before .before .before .before .before .before .before .before .read-records .ensures .read (read-records-requires (c .before .before .before .before .before .before .before .before .before .before .before) (c .before .before .before .before .before .before .before .before .before .before .read-records .lifetimes)) in
+    origins-room (e .left .kept) (e .left .few)
 
 same-length : tie.Need-same-length
 same-length c =
-    let a = c .before .before .before .before .before .before .before .before .before .before .before .before .before .before .before .before .before .before .before .before .before .before .before .before .before .before .before .before .before .before .before .symbols .given in let b = c .before .before .before .before .before .before .before .before .before .symbols2 .given in omega (arith, a, b)
+    let a = c .before .before .before .before .before .before .before .before .before .before .before .before .before .before .before .before .before .before .before .before .before .before .before .before .before .before .before .before .before .before .before .before .symbols .given in let b = c .before .before .before .before .before .before .before .before .before .before .symbols2 .given in omega (arith, a, b)
 
 same-length-2 : tie.Need-same-length-2
-same-length-2 c = search needs
+same-length-2 c =
+    let a = c .before .before .before .before .before .before .before .before .before .before .before .before .before .before .before .before .before .before .before .before .before .before .before .before .before .before .before .before .rows .given in let b = c .before .before .before .before .before .before .before .before .rows2 .given in omega (arith, a, b)
 
 same-length-3 : tie.Need-same-length-3
 same-length-3 c = search needs
@@ -57,7 +62,7 @@ same-length-4 c = search needs
 returns : tie.Need-returns
 unfolding read-records-requires begun
 returns c =
-    file-read-with _ _ _ _ _ _ _ _ (c .before .before .before .before .before .before .before .before .before .before .read-records .ensures .read (read-records-requires (c .before .before .before .before .before .before .before .before .before .before .before) (c .before .before .before .before .before .before .before .before .before .before .read-records .lifetimes))) (c .ended-answer .ensures)
+    file-read-with _ _ _ _ _ _ _ _ _ (c .before .before .before .before .before .before .before .before .before .before .before .read-records .ensures .read (read-records-requires (c .before .before .before .before .before .before .before .before .before .before .before .before) (c .before .before .before .before .before .before .before .before .before .before .before .read-records .lifetimes))) (c .ended-answer .ensures)
 
 pub read-tables-spec : {M : Type 1} → statement M
 read-tables-spec =

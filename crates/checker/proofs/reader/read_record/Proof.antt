@@ -1,6 +1,6 @@
 use mathlib.Core.Path.{refl}
 use mathlib.Core.Logic.{inl, inr}
-use Rattle.checker.proofs.RecordLaws.{symbols-few, rows-few, clauses-few, input-asked, step-asked, resolve-asked, symbol-done, variable-done, application-done, input-done, step-done, other-done, with-index}
+use Rattle.checker.proofs.RecordLaws.{symbols-few, rows-few, clauses-few, input-asked, step-asked, resolve-asked, symbol-done, variable-done, application-done, input-done, window-done, step-done, other-done, with-index}
 use borrow.Author.Needs.{needs}
 use Rattle.checker.proofs.reader.read_record.Statement.{statement}
 use Rattle.checker.proofs.reader.read_record.Tie as tie
@@ -11,6 +11,7 @@ use Rattle.entry.proofs.entry.input_record.Reads as input-record-reads
 use Rattle.entry.proofs.entry.symbol_record.Reads as symbol-record-reads
 use Rattle.entry.proofs.entry.variable_record.Reads as variable-record-reads
 use Rattle.factoring.proofs.factor_record.Reads as factor-record-reads
+use Rattle.force.proofs.window.window_record.Reads as window-record-reads
 use Rattle.record.proofs.kind.Reads as kind-reads
 use Rattle.record.proofs.record_part.Reads as record-part-reads
 use Rattle.resolution.proofs.resolve_record.Reads as resolve-record-reads
@@ -48,6 +49,10 @@ factor-record-requires c κs =
 resolve-record-requires-2 : tie.Need-resolve-record-requires-2
 resolve-record-requires-2 c κs =
     resolve-asked (c .before .before .before .before .before .before .before .before .before .before .before .before .before .pre .0) _ (c .before .before .before .before .before .before .before .record-part .ensures) _ (c .before .before .before .before .before .before .kind .ensures) (inr (c .before .before .before .before .before .match .keys7))
+
+window-record-requires : tie.Need-window-record-requires
+window-record-requires c κs =
+    clauses-few (c .before .before .before .before .before .before .before .before .before .pre .0) .1 .1
 
 same-length : tie.Need-same-length
 same-length c = search needs
@@ -112,7 +117,11 @@ returns-7 c =
 
 returns-8 : tie.Need-returns-8
 returns-8 c =
-    (other-done (c .before .before .before .before .before .before .before .before .pre .0) _ (c .before .before .record-part .ensures) _ (c .before .kind .ensures) (c .match .rest .0 .0 .0 .0 .0 .0 .1) (c .match .rest .0 .0 .0 .0 .0 .1) (c .match .rest .0 .0 .0 .0 .1) (c .match .rest .0 .0 .0 .1) (c .match .rest .0 .0 .1) (c .match .rest .0 .1) (c .match .rest .1), c .before .before .before .before .before .before .before .before .pre .1)
+    with-index (c .before .before .before .before .before .before .before .before .before .before .pre .0) _ (c .before .before .before .before .record-part .ensures) _ (c .before .before .before .kind .ensures) 8 (c .before .before .match .keys8) (λ S r. refl) _ _ (c .before .before .before .before .before .before .before .before .before .before .pre .1) _ _ _ _ (window-done (c .before .before .before .before .before .before .before .before .before .before .pre .0) _ (c .before .before .before .before .record-part .ensures) _ (c .before .before .before .kind .ensures) (c .before .before .match .keys8) _ (c .window-record .ensures))
+
+returns-9 : tie.Need-returns-9
+returns-9 c =
+    (other-done (c .before .before .before .before .before .before .before .before .pre .0) _ (c .before .before .record-part .ensures) _ (c .before .kind .ensures) (c .match .rest .0 .0 .0 .0 .0 .0 .0 .1) (c .match .rest .0 .0 .0 .0 .0 .0 .1) (c .match .rest .0 .0 .0 .0 .0 .1) (c .match .rest .0 .0 .0 .0 .1) (c .match .rest .0 .0 .0 .1) (c .match .rest .0 .0 .1) (c .match .rest .0 .1) (c .match .rest .1), c .before .before .before .before .before .before .before .before .pre .1)
 
 pub read-record-spec : {M : Type 1} → statement M
 read-record-spec =
@@ -127,6 +136,7 @@ read-record-spec =
     resolve-record-requires
     factor-record-requires
     resolve-record-requires-2
+    window-record-requires
     same-length
     returns
     same-length-2
@@ -145,4 +155,5 @@ read-record-spec =
     same-length-10
     same-length-11
     returns-7
-    returns-8)
+    returns-8
+    returns-9)
