@@ -17,7 +17,7 @@ fn equal_terms_are_one_row() {
     assert_eq!(first, second);
     // Two symbols, then a, v3, f(a,v3), f(f(a,v3),f(a,v3)).
     assert_eq!((first.number(), file.bytes().len()), (3, 6 * 16));
-    assert_eq!(check(file.bytes()).numbers(), [0, 0, 0, 2, 4, 0, 0]);
+    assert_eq!(check(0, file.bytes()).numbers(), [0, 0, 0, 2, 4, 0, 0]);
 }
 
 #[test]
@@ -35,7 +35,7 @@ fn numbers_are_those_of_the_check() -> Result<(), BuildError> {
     let empty = file.resolve(factored.literal(1), right.literal(1))?;
     assert_eq!([left, right, factored, empty].map(|clause| clause.number()), [0, 1, 2, 3]);
     assert_eq!(([p, q].map(|symbol| symbol.number()), p.arity()), ([0, 1], 1));
-    assert_eq!(check(&file.finish()).numbers(), [1, 3, 0, 2, 6, 4, 2]);
+    assert_eq!(check(0, &file.finish()).numbers(), [1, 3, 0, 2, 6, 4, 2]);
     Ok(())
 }
 
@@ -54,10 +54,10 @@ fn several_right_literals_are_written_as_they_are_given() -> Result<(), BuildErr
     // Two literals are left: one of the left clause, one of the right.
     let missing = Err(BuildError::NoLiteral { number: 3, literals: 2 });
     assert_eq!(file.factor(derived.literal(1), derived.literal(3)), missing);
-    assert_eq!(check(file.bytes()).numbers()[..3], [0, 0, 0]);
+    assert_eq!(check(0, file.bytes()).numbers()[..3], [0, 0, 0]);
     // A list that does not rise is written all the same: the check refuses it.
     file.resolve_several(left.literal(1), &[rights[1], rights[0]])?;
-    assert_eq!(check(file.bytes()).numbers()[..2], [2, 14]);
+    assert_eq!(check(0, file.bytes()).numbers()[..2], [2, 14]);
     Ok(())
 }
 
@@ -120,7 +120,7 @@ fn no_file_gets_longer_than_4096_records() -> Result<(), BuildError> {
     }
     assert_eq!(file.symbol(0), Err(BuildError::Full));
     assert_eq!(file.variable(0), Err(BuildError::Full));
-    assert_eq!(check(file.bytes()).numbers(), [0, 0, 0, 4096, 0, 0, 0]);
+    assert_eq!(check(0, file.bytes()).numbers(), [0, 0, 0, 4096, 0, 0, 0]);
     Ok(())
 }
 
@@ -138,7 +138,7 @@ fn deep_terms_and_many_literals_need_no_deep_recursion() -> Result<(), BuildErro
         // A clause that is too large is written all the same: the check refuses it.
         clause = file.resolve(clause.literal(2), clause.literal(1))?;
     }
-    assert_eq!(check(&file.finish()).numbers()[..3], [2, 9, 4011]);
+    assert_eq!(check(0, &file.finish()).numbers()[..3], [2, 9, 4011]);
     Ok(())
 }
 

@@ -94,7 +94,7 @@ impl Replay {
 
 /// The lines of a file's clauses in its readout, without their numbers.
 fn clause_lines(file: &[u8]) -> Vec<String> {
-    let text = String::from_utf8(readout(file)).expect("text");
+    let text = String::from_utf8(readout(0, file)).expect("text");
     text.lines().skip(1).map(|line| line.splitn(3, ' ').nth(2).unwrap_or("").to_string()).collect()
 }
 

@@ -30,7 +30,7 @@ fn stored_files_are_what_the_example_writes() {
     let advice = "write it anew with `cargo run -p yestrwyn-builder --example trips`";
     for (name, file) in files() {
         assert!(stored(&format!("examples/{name}.proof")) == file, "{name}.proof differs: {advice}");
-        let readout = yestrwyn_second::readout(&file);
+        let readout = yestrwyn_second::readout(0, &file);
         assert!(stored(&format!("examples/{name}.txt")) == readout, "{name}.txt differs: {advice}");
     }
 }

@@ -254,7 +254,7 @@ fn no_file_is_refused_with_6() {
         for file in
             [repeating_file(seed), damage(&repeating_file(seed), seed), damage(&random_file(seed), seed)]
         {
-            let numbers = check(&file).numbers();
+            let numbers = check(0, &file).numbers();
             assert!(numbers[0] != 2 || numbers[1] != 6, "seed {seed}");
         }
     }

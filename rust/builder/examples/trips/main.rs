@@ -21,7 +21,7 @@ fn main() -> Result<(), Box<dyn Error>> {
     let folder = Path::new(env!("CARGO_MANIFEST_DIR")).join("../../examples");
     for (name, file) in files::files()? {
         fs::write(folder.join(format!("{name}.proof")), &file)?;
-        fs::write(folder.join(format!("{name}.txt")), yestrwyn_second::readout(&file))?;
+        fs::write(folder.join(format!("{name}.txt")), yestrwyn_second::readout(0, &file))?;
     }
     Ok(())
 }

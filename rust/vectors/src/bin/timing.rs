@@ -31,9 +31,9 @@ fn main() -> io::Result<()> {
 /// How long the check takes, and how long the readout with its own check.
 fn time(cells: &mut Cells, file: &[u8]) -> io::Result<(Duration, Duration)> {
     let start = Instant::now();
-    black_box(check_into(file, &mut cells.lend()));
+    black_box(check_into(0, file, &mut cells.lend()));
     let checked = start.elapsed();
     let start = Instant::now();
-    black_box(write_readout(file, &mut cells.lend(), &mut io::sink())?);
+    black_box(write_readout(0, file, &mut cells.lend(), &mut io::sink())?);
     Ok((checked, start.elapsed()))
 }
