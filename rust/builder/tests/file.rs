@@ -98,6 +98,31 @@ fn what_cannot_be_written_is_an_error_and_leaves_the_file() -> Result<(), BuildE
 }
 
 #[test]
+fn days_are_given_to_input_clauses() -> Result<(), BuildError> {
+    let mut file = FileBuilder::new();
+    let p = file.symbol(0)?;
+    let p = file.constant(p)?;
+    let (one, other) = (file.clause(&[pos(p)])?, file.clause(&[neg(p)])?);
+    let empty = file.resolve(one.literal(1), other.literal(1))?;
+    file.in_force(one, 10..=20)?;
+    let last = &file.bytes()[file.bytes().len() - 16..];
+    assert_eq!(last, [8, 0, 0, 0, 10, 0, 20, 0, 0, 0, 0, 0, 0, 0, 0, 0]);
+    let written = file.bytes().to_vec();
+    assert_eq!(file.in_force(empty, 10..=20), Err(BuildError::Derived(2)));
+    // A range that is empty has its ends in the wrong order.
+    let (first, last) = (21, 20);
+    assert_eq!(file.in_force(one, first..=last), Err(BuildError::Days { first, last }));
+    assert_eq!(FileBuilder::new().in_force(one, 10..=20), Err(BuildError::Foreign));
+    assert_eq!(file.bytes(), written);
+    file.in_force(other, 20..=u16::MAX)?;
+    let verdicts = [9, 10, 19, 20, 21].map(|day| check(day, file.bytes()).verdict.to_string());
+    assert_eq!(verdicts, ["open", "open", "open", "accepted 2", "open"]);
+    // The clause that comes next has the number it would have had without them.
+    assert_eq!(file.clause(&[])?.number(), 3);
+    Ok(())
+}
+
+#[test]
 fn handles_of_another_file_are_errors() -> Result<(), BuildError> {
     let (mut one, mut other) = (FileBuilder::new(), FileBuilder::new());
     let (p, q) = (one.symbol(1)?, one.symbol(0)?);
@@ -147,6 +172,8 @@ fn errors_say_what_is_wrong() {
     let texts = [
         (BuildError::Arguments { arity: 2, given: 3 }, "3 arguments to a symbol of arity 2"),
         (BuildError::Variable(64), "variable 64, over 63"),
+        (BuildError::Derived(7), "days for clause 7, which a step has made: only an input clause has days"),
+        (BuildError::Days { first: 21, last: 20 }, "day 21 as the first, after the last, 20"),
         (BuildError::RightLiterals(5), "5 right literals, not 1 to 4"),
         (BuildError::Refused(yestrwyn_builder::Reason::Clash), "refused with 10: two different symbols meet"),
     ];

@@ -27,12 +27,7 @@ pub fn check_into(day: u16, file: &[u8], tables: &mut Tables<'_>) -> Answer {
 }
 
 /// The same check, which also adds the work of each step to `works`.
-pub fn check_counting(
-    day: u16,
-    file: &[u8],
-    tables: &mut Tables<'_>,
-    works: &mut Vec<StepWork>,
-) -> Answer {
+pub fn check_counting(day: u16, file: &[u8], tables: &mut Tables<'_>, works: &mut Vec<StepWork>) -> Answer {
     check_tables(day, file, tables, works).0
 }
 

@@ -6,9 +6,10 @@ mod textbook;
 
 use reference::{Clause as Shared, Expr, From, Reference, Row};
 use textbook::{canonical, factor, resolvent, size, unsatisfiable, Clause, Term};
-use yestrwyn_vectors::examples::{cases, published};
+use yestrwyn_vectors::examples::{cases, days, published};
 use yestrwyn_vectors::outcome::outcome_on;
-use yestrwyn_vectors::{clashing_file, clashing_several_file, random_file, repeating_file, several_file};
+use yestrwyn_vectors::several_file;
+use yestrwyn_vectors::{clashing_file, clashing_several_file, dated_file, random_file, repeating_file};
 
 /// Terms larger than this are not written out.
 const LARGEST: usize = 3000;
@@ -172,6 +173,22 @@ fn files_with_steps_on_several_literals() {
     assert!(compared > 15_000, "{compared} clauses compared");
     assert!(refused > 250, "{refused} refusals compared");
     assert!(refuted > 250, "{refuted} refutations tested");
+}
+
+#[test]
+fn files_with_days() {
+    // A count of three hundred steps is too much for the textbook.
+    for example in days::examples().iter().filter(|example| !example.name.contains("steps-on")) {
+        if !example.name.starts_with("case-K") {
+            hold_on(example.day, &example.name, &example.file);
+        }
+    }
+    let refuted = |seed: &u64| {
+        let (day, file) = dated_file(*seed);
+        hold_on(day, &format!("dated {seed}"), &file).2
+    };
+    let count = (0..2500).filter(refuted).count();
+    assert!(count > 300, "{count} refutations tested");
 }
 
 #[test]

@@ -3,11 +3,13 @@
 mod reference;
 
 use reference::Reference;
-use yestrwyn_vectors::examples::{cases, deep, edges, published, refusals, Example};
+use yestrwyn_vectors::examples::{cases, days, deep, edges, published, refusals, Example};
 use yestrwyn_vectors::outcome::outcome_on;
 use yestrwyn_vectors::random::random_file_of;
 use yestrwyn_vectors::repeating::rows_at_random;
-use yestrwyn_vectors::{clashing_file, clashing_several_file, damage, random_file, repeating_file};
+use yestrwyn_vectors::{
+    clashing_file, clashing_several_file, damage, dated_file, random_file, repeating_file,
+};
 use yestrwyn_vectors::{several_file, several_file_of};
 
 /// Answer, all table cells, works and readout agree on day 0.
@@ -98,6 +100,21 @@ fn files_with_repeated_rows() {
     for seed in 0..2000 {
         agree(&format!("repeating {seed}"), &repeating_file(seed));
         agree(&format!("repeating {seed}, damaged"), &damage(&repeating_file(seed), seed));
+    }
+}
+
+#[test]
+fn files_with_days() {
+    for example in days::examples() {
+        agree_on(example.day, &example.name, &example.file);
+    }
+    for seed in 0..3000 {
+        let (day, file) = dated_file(seed);
+        for day in [day.wrapping_sub(1), day, day.wrapping_add(1)] {
+            agree_on(day, &format!("dated {seed}"), &file);
+        }
+        agree_on(day, &format!("dated {seed}, damaged"), &damage(&file, seed));
+        agree_on(day, &format!("dated {seed}, rows repeated"), &rows_at_random(&file, seed).file);
     }
 }
 

@@ -243,7 +243,7 @@ fn repeated_rows_alter_numbers_only() {
 #[test]
 fn named_files_with_their_rows_twice() {
     let named = [cases::examples(), published(), refusals::examples(), edges::examples()].concat();
-    for Example { name, file } in named {
+    for Example { name, file, .. } in named {
         same_but_for_numbers(&name, &file, rows_twice(&file));
     }
 }

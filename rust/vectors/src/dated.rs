@@ -35,8 +35,13 @@ fn drawn_day(random: &mut SplitMix64) -> u16 {
 /// A file with windows put in between its records, most of them around a day. None is put in after a record that does not
 /// stand, and seldom one that does not stand itself.
 pub fn with_windows(file: &[u8], day: u16, seed: u64) -> Vec<u8> {
-    let mut putting =
-        Putting { random: SplitMix64::new(seed), day, checker: Checker::new(), bytes: Vec::new(), stands: true };
+    let mut putting = Putting {
+        random: SplitMix64::new(seed),
+        day,
+        checker: Checker::new(),
+        bytes: Vec::new(),
+        stands: true,
+    };
     let records = file.chunks_exact(RECORD_BYTES);
     let (rest, mut left) = (records.remainder(), records.len());
     // In some files few clauses have a window, in others nearly all.

@@ -159,6 +159,12 @@ pub fn unpack(mut bytes: &[u8]) -> Option<Vec<&[u8]>> {
     Some(files)
 }
 
+/// The day and the file of an entry of a dated group, if it has two bytes for the day.
+pub fn day_and_file(entry: &[u8]) -> Option<(u16, &[u8])> {
+    let (&day, file) = entry.split_first_chunk()?;
+    Some((u16::from_le_bytes(day), file))
+}
+
 /// What every file of a group gives, as text.
 pub fn expected(group: &Group) -> String {
     let mut text = String::new();

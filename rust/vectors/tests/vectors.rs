@@ -40,7 +40,11 @@ fn packs_can_be_read_back() {
     for group in groups() {
         let bytes = stored(pack_path(group.name));
         let files = unpack(&bytes).expect("a whole pack");
-        assert!(files.into_iter().eq(group.examples.iter().map(|example| group.entry(example))), "{}", group.name);
+        assert!(
+            files.into_iter().eq(group.examples.iter().map(|example| group.entry(example))),
+            "{}",
+            group.name
+        );
         assert_eq!(unpack(&bytes[..bytes.len() - 1]), None);
     }
 }

@@ -15,7 +15,7 @@ use std::process::ExitCode;
 use yestrwyn_vectors::dated_file;
 use yestrwyn_vectors::examples::{heavy, Example};
 use yestrwyn_vectors::outcome::outcome_on;
-use yestrwyn_vectors::stored::{describe, pack, random_example, unpack};
+use yestrwyn_vectors::stored::{day_and_file, describe, pack, random_example, unpack};
 
 fn main() -> ExitCode {
     let arguments: Vec<String> = std::env::args().skip(1).collect();
@@ -27,7 +27,9 @@ fn main() -> ExitCode {
             }
             _ => return usage(),
         },
-        ["heavy"] => io::stdout().lock().write_all(&pack(heavy::examples().into_iter().map(|heavy| heavy.file))),
+        ["heavy"] => {
+            io::stdout().lock().write_all(&pack(heavy::examples().into_iter().map(|heavy| heavy.file)))
+        }
         ["describe"] => write_description(|entry| Some((0, entry))),
         ["describe-days"] => write_description(day_and_file),
         _ => return usage(),
@@ -56,12 +58,6 @@ fn random_entry(seed: u64) -> Vec<u8> {
 fn dated_entry(seed: u64) -> Vec<u8> {
     let (day, file) = dated_file(seed);
     Example::on(day, "", file).input()
-}
-
-/// The day and the file of an entry, if it has two bytes for the day.
-fn day_and_file(entry: &[u8]) -> Option<(u16, &[u8])> {
-    let (&day, file) = entry.split_first_chunk()?;
-    Some((u16::from_le_bytes(day), file))
 }
 
 /// A pack of random files, written one at a time.
