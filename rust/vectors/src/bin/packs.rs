@@ -30,8 +30,8 @@ fn main() -> ExitCode {
         ["heavy"] => {
             io::stdout().lock().write_all(&pack(heavy::examples().into_iter().map(|heavy| heavy.file)))
         }
-        ["describe"] => write_description(|entry| Some((0, entry))),
-        ["describe-days"] => write_description(day_and_file),
+        ["describe"] => write_description(false),
+        ["describe-days"] => write_description(true),
         _ => return usage(),
     };
     match done {
@@ -69,14 +69,15 @@ fn write_random(first: u64, count: u64, entry: fn(u64) -> Vec<u8>) -> io::Result
     out.flush()
 }
 
-/// The results of a pack, whose entries are taken apart into day and file; each file's name is its place in the pack.
-fn write_description(part: fn(&[u8]) -> Option<(u16, &[u8])>) -> io::Result<()> {
+/// The results of a pack, whose entries begin with a day or are files on day 0; each file's name is its place in the pack.
+fn write_description(dated: bool) -> io::Result<()> {
     let mut bytes = Vec::new();
     io::stdin().lock().read_to_end(&mut bytes)?;
     let files = unpack(&bytes).ok_or_else(|| io::Error::other("the pack is cut short"))?;
     let mut out = io::BufWriter::new(io::stdout().lock());
     for (place, entry) in files.iter().enumerate() {
-        let (day, file) = part(entry).ok_or_else(|| io::Error::other("an entry has no day"))?;
+        let entry = if dated { day_and_file(entry) } else { Some((0, *entry)) };
+        let (day, file) = entry.ok_or_else(|| io::Error::other("an entry has no day"))?;
         let mut text = String::new();
         describe(&mut text, &place.to_string(), &outcome_on(day, file));
         out.write_all(text.as_bytes())?;
