@@ -118,6 +118,15 @@ fn refused_records() {
     assert!(met > 50, "{met} files");
 }
 
+/// Byte 1 and every byte from field d on, by itself not zero, has a file.
+#[test]
+fn unused_bytes() {
+    let all = days::examples();
+    let numbers = all.iter().filter_map(|example| example.name.strip_prefix("4-window-byte-")?.parse().ok());
+    let right: Vec<usize> = [1].into_iter().chain(8..16).collect();
+    assert_eq!(numbers.collect::<Vec<usize>>(), right);
+}
+
 #[test]
 fn a_refused_window_alters_nothing() {
     let mut file = Sketch::new();
