@@ -13,11 +13,11 @@ pub(crate) type Windows = HashMap<u16, RangeInclusive<u16>>;
 pub(crate) fn accepted(clauses: &[Derivation], windows: &Windows, day: u16) -> Option<u16> {
     let mut in_force: Vec<bool> = Vec::with_capacity(clauses.len());
     for (number, clause) in (0..).zip(clauses) {
-        let parent = |parent: u16| in_force.get(usize::from(parent)).copied().unwrap_or(false);
+        let earlier = |parent: u16| in_force.get(usize::from(parent)).copied().unwrap_or(false);
         let holds = match clause.origin {
             Origin::Input => windows.get(&number).is_none_or(|days| days.contains(&day)),
-            Origin::Factor { parent: of } => parent(of),
-            Origin::Resolve { left, right } => parent(left) && parent(right),
+            Origin::Factor { parent } => earlier(parent),
+            Origin::Resolve { left, right } => earlier(left) && earlier(right),
         };
         if holds && clause.literals.is_empty() {
             return Some(number);

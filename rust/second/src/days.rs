@@ -23,12 +23,12 @@ impl Window {
 /// that of a derived one is not looked at. Parents have smaller numbers, so one pass does.
 pub fn first_empty(clauses: &[Clause], windows: &[Window], day: u16) -> Option<u16> {
     let mut in_force: Vec<bool> = Vec::with_capacity(clauses.len());
-    let stands = |in_force: &[bool], parent: u16| in_force.get(usize::from(parent)).copied().unwrap_or(false);
     for ((number, clause), window) in (0..).zip(clauses).zip(windows) {
+        let earlier = |parent: u16| in_force.get(usize::from(parent)).copied().unwrap_or(false);
         let holds = match clause.origin {
             Origin::Input(_) => window.holds(day),
-            Origin::Resolve { left, right, .. } => stands(&in_force, left) && stands(&in_force, right),
-            Origin::Factor { parent, .. } => stands(&in_force, parent),
+            Origin::Resolve { left, right, .. } => earlier(left) && earlier(right),
+            Origin::Factor { parent, .. } => earlier(parent),
         };
         if holds && clause.literals == 0 {
             return Some(number);

@@ -119,7 +119,7 @@ impl Checker {
 
     /// The clause that is accepted on a day, by the windows as they are now.
     fn accepted(&self, day: u16) -> Option<u16> {
-        // Most files that do not get to the empty clause need no pass over their clauses.
+        // Without an empty clause there is nothing to look for.
         if !self.empty {
             return None;
         }
