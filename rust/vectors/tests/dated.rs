@@ -29,7 +29,7 @@ fn most_files_have_windows_and_many_are_other_on_another_day() {
         accepted += usize::from(verdict.is_accepted());
         refused += usize::from(matches!(verdict, Verdict::Refused { .. }));
         other += usize::from(around.iter().any(|&around| around != verdict));
-        ends += usize::from(day < 3 || day > u16::MAX - 3);
+        ends += usize::from(!(3..=u16::MAX - 3).contains(&day));
     }
     assert!(with > 1500, "{with} files with windows");
     assert!(accepted > 300 && refused > 300, "{accepted} accepted, {refused} refused");
