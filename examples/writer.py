@@ -7,7 +7,13 @@ docs/FORMAT.md explains the records, and has this file byte by byte.
 
 import struct
 import sys
+from datetime import date
 from itertools import count
+
+
+def day(year, month, of_month):
+    """The number of a date, where day 0 is 1 January 1970: take another if your desk does."""
+    return (date(year, month, of_month) - date(1970, 1, 1)).days
 
 
 def pos(row):
@@ -19,7 +25,7 @@ def neg(row):
 
 
 class ProofFile:
-    """Each method returns the number that names what it has written. Nothing is checked: that is the checker's work."""
+    """Each method but the last returns the number that names what it has written. Nothing is checked: that is the checker's work."""
 
     def __init__(self):
         self.bytes = b""
@@ -47,16 +53,23 @@ class ProofFile:
     def resolve_several(self, left, left_literal, right, *right_literals):
         return self._write(self.clauses, 7, len(right_literals), left, left_literal, right, *right_literals)
 
+    def in_force(self, clause, first_day, last_day):
+        # No clause and without a number; a later one for the same input clause supersedes it.
+        self._record(8, 0, clause, first_day, last_day)
+
     def _row(self, *record):
         # A row is written once and then named by its number, which saves the records of repeats.
         if record not in self.known_rows:
             self.known_rows[record] = self._write(self.rows, *record)
         return self.known_rows[record]
 
-    def _write(self, numbers, kind, size, *fields):
+    def _write(self, numbers, *record):
+        self._record(*record)
+        return next(numbers)
+
+    def _record(self, kind, size, *fields):
         # Sixteen bytes, low bytes first; the fields that a kind does not use are zero.
         self.bytes += struct.pack("<BB7H", kind, size, *fields, *[0] * (7 - len(fields)))
-        return next(numbers)
 
 
 def permit():

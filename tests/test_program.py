@@ -3,6 +3,7 @@
 import os
 import signal
 import subprocess
+import sys
 import tempfile
 import tty
 import unittest
@@ -14,15 +15,26 @@ FILE = ROOT / "examples" / "permit.proof"
 READOUT = (ROOT / "examples" / "permit.txt").read_bytes()
 
 
-def proofread(*arguments, given=FILE.read_bytes()):
+def on_day(day, file):
+    """What the program reads: two bytes of day, low byte first, then the file."""
+    return day.to_bytes(2, "little") + file
+
+
+INPUT = on_day(0, FILE.read_bytes())
+
+
+def proofread(*arguments, given=INPUT):
     """Runs the program on bytes."""
     return subprocess.run([PROGRAM, *arguments], input=given, capture_output=True)
 
 
 def in_shell(redirections):
-    """Runs the program with redirections of the shell's."""
+    """Runs the program with redirections of the shell's, where $1 names a file with a day and an accepted file."""
     command = f'exec "$0" {redirections}'
-    return subprocess.run(["bash", "-c", command, PROGRAM], cwd=ROOT, capture_output=True)
+    with tempfile.NamedTemporaryFile() as file:
+        file.write(INPUT)
+        file.flush()
+        return subprocess.run(["bash", "-c", command, PROGRAM, file.name], cwd=ROOT, capture_output=True)
 
 
 def into_closed_pipe(**options):
@@ -31,7 +43,7 @@ def into_closed_pipe(**options):
     os.close(reader)
     try:
         return subprocess.run(
-            [PROGRAM], input=FILE.read_bytes(), stdout=writer, stderr=subprocess.PIPE, **options
+            [PROGRAM], input=INPUT, stdout=writer, stderr=subprocess.PIPE, **options
         )
     finally:
         os.close(writer)
@@ -45,22 +57,56 @@ class Input(unittest.TestCase):
 
     def test_files_have_their_readouts(self):
         for file in sorted((ROOT / "examples").glob("*.proof")):
-            run = proofread(given=file.read_bytes())
+            run = proofread(given=on_day(0, file.read_bytes()))
             self.assertEqual((run.stdout, run.stderr), (file.with_suffix(".txt").read_bytes(), b""), file.name)
 
+    def test_files_have_their_readouts_on_other_days(self):
+        stored = sorted((ROOT / "examples").glob("*-*.txt"))
+        self.assertTrue(stored)
+        for readout in stored:
+            name, day = readout.stem.rsplit("-", 1)
+            run = proofread(given=on_day(int(day), (readout.parent / f"{name}.proof").read_bytes()))
+            self.assertEqual((run.stdout, run.stderr), (readout.read_bytes(), b""), readout.name)
+
+    def test_both_bytes_of_the_day_count(self):
+        # An empty clause that is in force from day 258 to day 513 only.
+        clause, window = bytes([4]) + bytes(15), bytes([8, 0, 0, 0, 2, 1, 1, 2]) + bytes(8)
+        for day, first in ((1, b"open"), (257, b"open"), (258, b"accepted 0"), (513, b"accepted 0"), (514, b"open")):
+            self.assertEqual(proofread(given=on_day(day, clause + window)).stdout, first + b"\n0 1\n", day)
+
+    def test_without_a_day_a_file_is_refused(self):
+        for given in (b"", b"\0", b"\xff"):
+            run = proofread(given=given)
+            self.assertEqual((run.stdout, run.stderr), (b"refused 1 at 0\n", b""), given)
+
     def test_an_empty_file_is_open(self):
-        run = proofread(given=b"")
-        self.assertEqual((run.stdout, run.stderr), (b"open\n", b""))
+        for day in (0, 1, 256, 65535):
+            run = proofread(given=on_day(day, b""))
+            self.assertEqual((run.stdout, run.stderr), (b"open\n", b""), day)
+
+    def test_a_day_and_part_of_a_record(self):
+        for length in (1, 14, 15, 17):
+            self.assertEqual(proofread(given=bytes(2 + length)).stdout, b"refused 1 at 0\n", length)
 
     def test_lengths_about_the_limit(self):
-        # 65,536 bytes are read whole; of a longer file, and of one without end, one byte more.
-        self.assertEqual(proofread(given=bytes(65536)).stdout, b"refused 3 at 0\n")
-        self.assertEqual(proofread(given=bytes(65537)).stdout, b"refused 1 at 0\n")
+        # A day and 65,536 bytes are read whole; of a longer file, and of one without end, one byte more.
+        for day in (0, 65535):
+            self.assertEqual(proofread(given=on_day(day, bytes(65536))).stdout, b"refused 3 at 0\n")
+            self.assertEqual(proofread(given=on_day(day, bytes(65537))).stdout, b"refused 1 at 0\n")
+            self.assertEqual(proofread(given=on_day(day, bytes(65552))).stdout, b"refused 1 at 0\n")
         self.assertEqual(in_shell("< /dev/zero").stdout, b"refused 1 at 0\n")
+
+    def test_as_many_windows_as_there_is_room_for(self):
+        # The last of 4,095 windows counts, and it is read.
+        windows = b"".join(bytes([8, 0, 0, 0]) + 2 * day.to_bytes(2, "little") + bytes(8) for day in range(4095))
+        file = bytes([4]) + bytes(15) + windows
+        self.assertEqual(len(on_day(0, file)), 65538)
+        for day, first in ((4093, b"open"), (4094, b"accepted 0"), (4095, b"open")):
+            self.assertEqual(proofread(given=on_day(day, file)).stdout, first + b"\n0 1\n", day)
 
     def test_a_file_in_small_parts(self):
         with subprocess.Popen([PROGRAM], stdin=subprocess.PIPE, stdout=subprocess.PIPE, bufsize=0) as run:
-            for byte in FILE.read_bytes():
+            for byte in INPUT:
                 run.stdin.write(bytes([byte]))
             run.stdin.close()
             self.assertEqual(run.stdout.read(), READOUT)
@@ -78,7 +124,7 @@ class Input(unittest.TestCase):
         except OSError as error:
             self.skipTest(f"no terminal to be had: {error}")
         tty.setraw(theirs)
-        os.write(theirs, FILE.read_bytes())
+        os.write(theirs, INPUT)
         os.close(theirs)
         run = subprocess.run([PROGRAM], stdin=ours, capture_output=True)
         os.close(ours)
@@ -87,11 +133,11 @@ class Input(unittest.TestCase):
 
 class Output(unittest.TestCase):
     def test_a_full_device(self):
-        run = in_shell("< examples/permit.proof > /dev/full")
+        run = in_shell('< "$1" > /dev/full')
         self.assertEqual(run.stderr, b"proofread: standard output: No space left on device\n")
 
     def test_a_closed_output(self):
-        run = in_shell("< examples/permit.proof >&-")
+        run = in_shell('< "$1" >&-')
         self.assertEqual(run.stderr, b"proofread: standard output: Bad file descriptor\n")
 
     def test_a_closed_pipe_ends_it_quietly(self):
@@ -110,13 +156,25 @@ class Script(unittest.TestCase):
         given = "\n".join(lines[first : first + 5])
         self.assertTrue(given.endswith("fi"))
         for file, told in (
-            (FILE, READOUT.splitlines(keepends=True)[0]),
+            ("input", READOUT.splitlines(keepends=True)[0]),
             (ROOT, b"proofread: standard input: Is a directory\n"),
         ):
             with tempfile.TemporaryDirectory() as folder:
+                Path(folder, "input").write_bytes(INPUT)
                 script = given.replace("proofread", str(PROGRAM)).replace("FILE", str(file))
                 run = subprocess.run(["bash", "-c", script], cwd=folder, capture_output=True)
             self.assertEqual(run.stdout, told)
+
+
+class Guide(unittest.TestCase):
+    def test_the_file_that_the_guide_writes(self):
+        guide = (ROOT / "docs" / "FORMAT.md").read_text()
+        program = guide.split("```python\n")[1].split("```")[0]
+        with tempfile.TemporaryDirectory() as folder:
+            subprocess.run([sys.executable, "-c", program], cwd=folder, check=True)
+            file = Path(folder, "season.proof").read_bytes()
+        for day, first in ((0, b"open"), (20938, b"open"), (20939, b"accepted 2"), (21122, b"accepted 2"), (21123, b"open")):
+            self.assertEqual(proofread(given=on_day(day, file)).stdout.splitlines()[0], first, day)
 
 
 class Arguments(unittest.TestCase):
@@ -124,7 +182,7 @@ class Arguments(unittest.TestCase):
         for arguments in (["examples/permit.proof"], ["--help"], [""], ["a", "b"]):
             run = proofread(*arguments)
             self.assertEqual(run.stdout, b"")
-            self.assertRegex(run.stderr, rb"\Aproofread takes no arguments.*: proofread < FILE\n\Z")
+            self.assertRegex(run.stderr, rb"\Aproofread takes no arguments.*: proofread < .*\n\Z")
 
 
 if __name__ == "__main__":

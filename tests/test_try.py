@@ -30,7 +30,8 @@ class Try(unittest.TestCase):
         for word in ("--help", "-h"):
             self.is_refused(
                 attempt(word),
-                "./try [FILE] prints the readout of a proof file, and of examples/curfew.proof where none is named",
+                "./try [FILE [DAY]] prints the readout of a proof file, and of examples/curfew.proof where none is named, "
+                "on a day or on day 0",
             )
 
     def test_a_directory(self):
@@ -40,10 +41,41 @@ class Try(unittest.TestCase):
         self.is_refused(attempt("missing.proof"), "there is no file 'missing.proof'")
 
     def test_two_files(self):
-        self.is_refused(attempt("README.md", "README.md"), "one file at a time: ./try [FILE]")
+        self.is_refused(attempt("README.md", "README.md"), "'README.md' is no day: days are numbered from 0 to 65535")
+        self.is_refused(attempt("README.md", "0", "0"), "one file at a time, on one day: ./try [FILE [DAY]]")
+
+    def test_no_day(self):
+        for word in ("", "x", "-1", "+1", "1.5", "1 2", "0x10", "65536", "99999", "100000", "99999999999999999999"):
+            run = attempt("examples/season.proof", word)
+            self.is_refused(run, f"'{word}' is no day: days are numbered from 0 to 65535")
+
+    def test_a_day(self):
+        # The season is from day 20939 to day 21122; a zero before a number does not make it an octal one.
+        for day, first in (
+            ("0", "open"),
+            ("20938", "open"),
+            ("20939", "accepted 6"),
+            ("21122", "accepted 6"),
+            ("21123", "open"),
+            ("008", "open"),
+            ("65535", "open"),
+        ):
+            run = attempt("examples/season.proof", day)
+            self.assertEqual((run.returncode, run.stdout.splitlines()[0]), (0, first), day)
+
+    def test_a_file_that_is_too_long(self):
+        with tempfile.NamedTemporaryFile() as file:
+            file.write(bytes(200000))
+            file.flush()
+            self.assertEqual(attempt(file.name).stdout, "refused 1 at 0\n")
 
     def test_a_file(self):
-        for arguments, readout in (([], "curfew.txt"), (["examples/duty.proof"], "duty.txt")):
+        for arguments, readout in (
+            ([], "curfew.txt"),
+            (["examples/duty.proof"], "duty.txt"),
+            (["examples/season.proof"], "season.txt"),
+            (["examples/season.proof", "21000"], "season-21000.txt"),
+        ):
             run = attempt(*arguments)
             self.assertEqual(run.stdout, (ROOT / "examples" / readout).read_text())
             self.assertEqual(run.returncode, 0)

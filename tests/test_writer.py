@@ -7,7 +7,7 @@ from pathlib import Path
 EXAMPLES = Path(__file__).resolve().parent.parent / "examples"
 sys.path.insert(0, str(EXAMPLES))
 
-from writer import ProofFile, neg, permit, pos  # noqa: E402
+from writer import ProofFile, day, neg, permit, pos  # noqa: E402
 
 
 def duty():
@@ -44,10 +44,28 @@ def sheets():
     return file.bytes
 
 
+def season():
+    """The trip `season`, whose curfew has days that a later record supersedes."""
+    file = ProofFile()
+    arrives, closed, night, lakeside, late = map(file.symbol, (2, 2, 1, 0, 0))
+    app = file.app
+    lakeside, late = app(lakeside), app(late)
+    request = file.clause(pos(app(arrives, lakeside, late)))
+    x, y = file.var(0), file.var(1)
+    rule = file.clause(neg(app(arrives, x, y)), neg(app(closed, x, y)))
+    curfew = file.clause(neg(app(night, x)), pos(app(closed, lakeside, x)))
+    file.in_force(curfew, day(2027, 6, 1), day(2027, 9, 30))
+    at_night = file.clause(pos(app(night, late)))
+    not_late = file.resolve(at_night, 1, file.resolve(curfew, 2, rule, 2), 1)
+    file.resolve(request, 1, not_late, 1)
+    file.in_force(curfew, day(2027, 5, 1), day(2027, 10, 31))
+    return file.bytes
+
+
 class Writer(unittest.TestCase):
-    def is_stored(self, name, written):
+    def is_stored(self, name, written, readout=None):
         self.assertEqual(written, (EXAMPLES / f"{name}.proof").read_bytes())
-        self.assertTrue((EXAMPLES / f"{name}.txt").read_text().startswith("accepted "))
+        self.assertTrue((EXAMPLES / f"{readout or name}.txt").read_text().startswith("accepted "))
 
     def test_permit(self):
         self.is_stored("permit", permit())
@@ -57,6 +75,18 @@ class Writer(unittest.TestCase):
 
     def test_sheets(self):
         self.is_stored("sheets", sheets())
+
+    def test_season(self):
+        self.assertEqual(day(2027, 7, 1), 21000)
+        self.is_stored("season", season(), "season-21000")
+        self.assertTrue((EXAMPLES / "season.txt").read_text().startswith("open\n"))
+
+    def test_days_take_no_number(self):
+        file = ProofFile()
+        first = file.clause()
+        self.assertIsNone(file.in_force(first, 258, 65535))
+        self.assertEqual(file.bytes[16:], bytes([8, 0, 0, 0, 2, 1, 255, 255]) + bytes(8))
+        self.assertEqual((first, file.clause()), (0, 1))
 
     def test_rows_are_written_once(self):
         file = ProofFile()

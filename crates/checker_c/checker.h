@@ -39,8 +39,12 @@ extern "C" {
 /* Bytes of output that have room for every line of a readout. */
 #define CHECKER_OUTPUT 131072
 
-/* Checks a proof file, writes the answer and fills four tables.
+/* Checks a proof file on a day, writes the answer and fills four tables.
  *
+ *   day       the day by which input clauses are in force or not: a clause
+ *             that has a record of kind 8 is in force from its first day to its
+ *             last, by the last such record in the file, and one without is
+ *             always. What day 0 is, the users of the files agree on
  *   file      the bytes of the file
  *   symbols   a cell for each symbol: its record; at least 4,096 cells
  *   rows      a cell for each row: its record, or that of the earliest equal
@@ -57,8 +61,9 @@ extern "C" {
  *
  * The numbers of the answer:
  *   answer[0]  0 open, 1 accepted, 2 refused
- *   answer[1]  accepted: the number of the first empty clause; refused: the
- *              reason, 1 to 14 and never 6; open: 0
+ *   answer[1]  accepted: the number of the first empty clause whose derivation
+ *              uses only input clauses in force on the day; refused: the
+ *              reason, 1 to 14 and never 6, or 16; open: 0
  *   answer[2]  refused: the record; otherwise 0
  *   answer[3], answer[4], answer[5], answer[6]
  *              how many symbols, rows, clauses and bindings there are; the
@@ -69,8 +74,10 @@ extern "C" {
  * least length. A file whose length is over 65,536 or no multiple of 16 is
  * refused with reason 1, and a table that is too short with reason 2; the
  * tables are then left alone. In all other cases the least length of each table
- * is filled: the entries first, then zeros. */
-void checker_check(const uint8_t *file, size_t file_len,
+ * is filled: the entries first, then zeros. Whether a file is refused, the
+ * counts and the tables do not depend on the day. */
+void checker_check(uint16_t day,
+                   const uint8_t *file, size_t file_len,
                    uint16_t *symbols, size_t symbols_len,
                    uint16_t *rows, size_t rows_len,
                    uint16_t *clauses, size_t clauses_len,
@@ -81,7 +88,7 @@ void checker_check(const uint8_t *file, size_t file_len,
  * and fills them for each file, this one takes a workspace that the caller
  * lends and keeps between files. A small file is checked several times as fast.
  *
- *   file, symbols, rows, clauses, bindings, answer
+ *   day, file, symbols, rows, clauses, bindings, answer
  *             as for checker_check, which writes the same to them
  *   nodes     CHECKER_NODES cells
  *   origins   CHECKER_ORIGINS cells
@@ -109,7 +116,8 @@ void checker_check(const uint8_t *file, size_t file_len,
  * Arguments and literals in nodes and origins are on earliest rows, also where
  * the file names a repeat. With reasons 1 and 2 nodes and origins are left
  * alone. If answer has fewer than 7 cells, nothing at all is touched. */
-void checker_check_with(const uint8_t *file, size_t file_len,
+void checker_check_with(uint16_t day,
+                        const uint8_t *file, size_t file_len,
                         uint16_t *symbols, size_t symbols_len,
                         uint16_t *rows, size_t rows_len,
                         uint16_t *clauses, size_t clauses_len,
@@ -117,9 +125,10 @@ void checker_check_with(const uint8_t *file, size_t file_len,
                         uint16_t *nodes, uint16_t *origins, uint16_t *values,
                         uint16_t *answer, size_t answer_len);
 
-/* Checks a proof file and writes as many whole lines of its readout as fit,
- * from a clause on.
+/* Checks a proof file on a day and writes as many whole lines of its readout as
+ * fit, from a clause on. Only the line of the verdict goes by the day.
  *
+ *   day       as for checker_check; the same in all calls for one readout
  *   file      the bytes of the file
  *   symbols, rows, clauses, bindings
  *             the tables, as for checker_check, which leaves them the same; what
@@ -148,7 +157,8 @@ void checker_check_with(const uint8_t *file, size_t file_len,
  * If progress has fewer than 3 cells, nothing at all is touched. Cells of
  * progress past the third and bytes of output past those written are left
  * alone. */
-void checker_readout(const uint8_t *file, size_t file_len,
+void checker_readout(uint16_t day,
+                     const uint8_t *file, size_t file_len,
                      uint16_t *symbols, size_t symbols_len,
                      uint16_t *rows, size_t rows_len,
                      uint16_t *clauses, size_t clauses_len,
@@ -165,7 +175,8 @@ void checker_readout(const uint8_t *file, size_t file_len,
  *
  *   file, symbols, rows, clauses, bindings
  *             as for checker_check; the file is checked first, and the tables
- *             are left as that leaves them
+ *             are left as that leaves them. No day is passed: whether a file
+ *             stands and which clause covers which do not depend on it
  *   c, d      numbers of input clauses, from 0
  *   answer    ten numbers; at least 10 cells
  *

@@ -40,6 +40,15 @@ pub enum BuildError {
     RightLiterals(usize),
     /// Literals of two clauses: in a factor, or as the right ones of a step.
     TwoClauses,
+    /// A clause that a step has made is given days; only an input clause can be.
+    Derived(u16),
+    /// A first day after the last.
+    Days {
+        /// The first day that was asked for.
+        first: u16,
+        /// The last.
+        last: u16,
+    },
     /// The step does not stand.
     Refused(Reason),
 }
@@ -63,6 +72,12 @@ impl fmt::Display for BuildError {
                 write!(out, "{count} right literals, not 1 to {RIGHT_LITERALS}")
             }
             BuildError::TwoClauses => write!(out, "literals of two clauses, where a step takes those of one"),
+            BuildError::Derived(clause) => {
+                write!(out, "days for clause {clause}, which a step has made: only an input clause has days")
+            }
+            BuildError::Days { first, last } => {
+                write!(out, "day {first} as the first, after the last, {last}")
+            }
             BuildError::Refused(reason) => write!(out, "refused with {}: {reason}", reason.number()),
         }
     }

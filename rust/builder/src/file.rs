@@ -1,6 +1,7 @@
 //! A file, written record by record.
 
 use std::collections::HashMap;
+use std::ops::RangeInclusive;
 
 use yestrwyn_types::limits::{ARITY, FILE_BYTES, INPUT_LITERALS, RIGHT_LITERALS, VARIABLES};
 use yestrwyn_types::record::{kind, Record};
@@ -16,8 +17,16 @@ pub struct FileBuilder {
     arities: Vec<u8>,
     rows: Vec<Record>,
     shared: HashMap<Record, Row>,
-    /// How many literals each clause has.
-    literals: Vec<u16>,
+    clauses: Vec<Written>,
+}
+
+/// What is known of a clause that was written.
+#[derive(Clone, Copy, Debug)]
+struct Written {
+    /// How many literals it has.
+    literals: u16,
+    /// Is it an input clause?
+    input: bool,
 }
 
 impl FileBuilder {
@@ -86,7 +95,7 @@ impl FileBuilder {
             fields.push(2 * atom.0 + u16::from(positive));
         }
         self.write(Record::new(kind::INPUT, count, &fields))?;
-        Ok(Clause(next(&mut self.literals, count.into())))
+        Ok(Clause(next(&mut self.clauses, Written { literals: count.into(), input: true })))
     }
 
     /// A resolution step on a literal of the left clause and one of the right.
@@ -94,7 +103,7 @@ impl FileBuilder {
         let literals = (self.count(left)? - 1).saturating_add(self.count(right)? - 1);
         let fields = [left.clause.0, left.number, right.clause.0, right.number];
         self.write(Record::new(kind::RESOLVE, 0, &fields))?;
-        Ok(Clause(next(&mut self.literals, literals)))
+        Ok(self.derived(literals))
     }
 
     /// A resolution step on a literal of the left clause and one to four of the right, which are all unified with it
@@ -121,7 +130,7 @@ impl FileBuilder {
         let mut fields = vec![left.clause.0, left.number, right.0];
         fields.extend(rights.iter().map(|right| right.number));
         self.write(Record::new(kind::RESOLVE_SEVERAL, count, &fields))?;
-        Ok(Clause(next(&mut self.literals, literals)))
+        Ok(self.derived(literals))
     }
 
     /// A factoring step that keeps one literal of a clause and deletes another.
@@ -132,7 +141,32 @@ impl FileBuilder {
         let literals = self.count(kept)?.min(self.count(deleted)?) - 1;
         let fields = [kept.clause.0, kept.number, deleted.number];
         self.write(Record::new(kind::FACTOR, 0, &fields))?;
-        Ok(Clause(next(&mut self.literals, literals)))
+        Ok(self.derived(literals))
+    }
+
+    /// The days on which an input clause is in force: the first and the last, both included. A later call for the same
+    /// clause supersedes an earlier one, and a clause without any is in force always. What day 0 is, those who use the
+    /// files agree on, for example 1 January 1970.
+    ///
+    /// ```
+    /// # use yestrwyn_builder::{neg, BuildError, FileBuilder};
+    /// # let mut file = FileBuilder::new();
+    /// # let closed = file.symbol(0)?;
+    /// # let closed = file.constant(closed)?;
+    /// let curfew = file.clause(&[neg(closed)])?;
+    /// file.in_force(curfew, 20_939..=21_122)?; // 1 May to 31 October 2027
+    /// # Ok::<(), BuildError>(())
+    /// ```
+    pub fn in_force(&mut self, clause: Clause, days: RangeInclusive<u16>) -> Result<(), BuildError> {
+        let written = self.clauses.get(usize::from(clause.0)).ok_or(BuildError::Foreign)?;
+        if !written.input {
+            return Err(BuildError::Derived(clause.0));
+        }
+        let (first, last) = days.into_inner();
+        if first > last {
+            return Err(BuildError::Days { first, last });
+        }
+        self.write(Record::new(kind::WINDOW, 0, &[clause.0, first, last]))
     }
 
     /// The records of all rows.
@@ -148,11 +182,16 @@ impl FileBuilder {
 
     /// How many literals the clause of a literal has, if the literal is one of them.
     fn count(&self, Literal { clause, number }: Literal) -> Result<u16, BuildError> {
-        let literals = *self.literals.get(usize::from(clause.0)).ok_or(BuildError::Foreign)?;
+        let Written { literals, .. } = *self.clauses.get(usize::from(clause.0)).ok_or(BuildError::Foreign)?;
         match number {
             1.. if number <= literals => Ok(literals),
             _ => Err(BuildError::NoLiteral { number, literals }),
         }
+    }
+
+    /// The clause of a step that was written.
+    fn derived(&mut self, literals: u16) -> Clause {
+        Clause(next(&mut self.clauses, Written { literals, input: false }))
     }
 
     /// An error if a symbol is not one of this file.

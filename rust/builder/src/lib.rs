@@ -42,6 +42,7 @@
 #![forbid(unsafe_code)]
 #![warn(missing_docs)]
 
+mod days;
 mod derivation;
 mod environment;
 mod error;

@@ -1,10 +1,12 @@
 //! A builder that runs each step as it is added.
 
 use std::collections::HashMap;
+use std::ops::RangeInclusive;
 
 use yestrwyn_types::limits::{INDEX, LITERALS};
 use yestrwyn_types::Reason;
 
+use crate::days::{accepted, Windows};
 use crate::derivation::{At, Derivation, Occurrence, Origin};
 use crate::environment::Environment;
 use crate::error::BuildError;
@@ -41,6 +43,7 @@ use crate::unification::unify;
 pub struct RunningBuilder {
     file: FileBuilder,
     clauses: Vec<Derivation>,
+    windows: Windows,
     bindings: usize,
 }
 
@@ -113,6 +116,19 @@ impl RunningBuilder {
         let origin = Origin::Factor { parent: kept.clause.0 };
         let candidate = Derivation { origin, literals, maximum: parent.maximum, own: HashMap::new() };
         self.step(candidate, first.atom, &[second.atom], |file| file.factor(kept, deleted))
+    }
+
+    /// The days on which an input clause is in force, both ends included; a later call supersedes an earlier one.
+    pub fn in_force(&mut self, clause: Clause, days: RangeInclusive<u16>) -> Result<(), BuildError> {
+        self.file.in_force(clause, days.clone())?;
+        self.windows.insert(clause.0, days);
+        Ok(())
+    }
+
+    /// The clause with which the check would accept the file so far on a day: the first empty clause that is made of input
+    /// clauses in force. None if it would be open.
+    pub fn accepted(&self, day: u16) -> Option<Clause> {
+        accepted(&self.clauses, &self.windows, day).map(Clause)
     }
 
     /// The literals of a clause, in order.

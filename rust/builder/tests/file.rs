@@ -17,7 +17,7 @@ fn equal_terms_are_one_row() {
     assert_eq!(first, second);
     // Two symbols, then a, v3, f(a,v3), f(f(a,v3),f(a,v3)).
     assert_eq!((first.number(), file.bytes().len()), (3, 6 * 16));
-    assert_eq!(check(file.bytes()).numbers(), [0, 0, 0, 2, 4, 0, 0]);
+    assert_eq!(check(0, file.bytes()).numbers(), [0, 0, 0, 2, 4, 0, 0]);
 }
 
 #[test]
@@ -35,7 +35,7 @@ fn numbers_are_those_of_the_check() -> Result<(), BuildError> {
     let empty = file.resolve(factored.literal(1), right.literal(1))?;
     assert_eq!([left, right, factored, empty].map(|clause| clause.number()), [0, 1, 2, 3]);
     assert_eq!(([p, q].map(|symbol| symbol.number()), p.arity()), ([0, 1], 1));
-    assert_eq!(check(&file.finish()).numbers(), [1, 3, 0, 2, 6, 4, 2]);
+    assert_eq!(check(0, &file.finish()).numbers(), [1, 3, 0, 2, 6, 4, 2]);
     Ok(())
 }
 
@@ -54,10 +54,10 @@ fn several_right_literals_are_written_as_they_are_given() -> Result<(), BuildErr
     // Two literals are left: one of the left clause, one of the right.
     let missing = Err(BuildError::NoLiteral { number: 3, literals: 2 });
     assert_eq!(file.factor(derived.literal(1), derived.literal(3)), missing);
-    assert_eq!(check(file.bytes()).numbers()[..3], [0, 0, 0]);
+    assert_eq!(check(0, file.bytes()).numbers()[..3], [0, 0, 0]);
     // A list that does not rise is written all the same: the check refuses it.
     file.resolve_several(left.literal(1), &[rights[1], rights[0]])?;
-    assert_eq!(check(file.bytes()).numbers()[..2], [2, 14]);
+    assert_eq!(check(0, file.bytes()).numbers()[..2], [2, 14]);
     Ok(())
 }
 
@@ -98,6 +98,31 @@ fn what_cannot_be_written_is_an_error_and_leaves_the_file() -> Result<(), BuildE
 }
 
 #[test]
+fn days_are_given_to_input_clauses() -> Result<(), BuildError> {
+    let mut file = FileBuilder::new();
+    let p = file.symbol(0)?;
+    let p = file.constant(p)?;
+    let (one, other) = (file.clause(&[pos(p)])?, file.clause(&[neg(p)])?);
+    let empty = file.resolve(one.literal(1), other.literal(1))?;
+    file.in_force(one, 10..=20)?;
+    let last = &file.bytes()[file.bytes().len() - 16..];
+    assert_eq!(last, [8, 0, 0, 0, 10, 0, 20, 0, 0, 0, 0, 0, 0, 0, 0, 0]);
+    let written = file.bytes().to_vec();
+    assert_eq!(file.in_force(empty, 10..=20), Err(BuildError::Derived(2)));
+    // A range that is empty has its ends in the wrong order.
+    let (first, last) = (21, 20);
+    assert_eq!(file.in_force(one, first..=last), Err(BuildError::Days { first, last }));
+    assert_eq!(FileBuilder::new().in_force(one, 10..=20), Err(BuildError::Foreign));
+    assert_eq!(file.bytes(), written);
+    file.in_force(other, 20..=u16::MAX)?;
+    let verdicts = [9, 10, 19, 20, 21].map(|day| check(day, file.bytes()).verdict.to_string());
+    assert_eq!(verdicts, ["open", "open", "open", "accepted 2", "open"]);
+    // The clause that comes next has the number it would have had without them.
+    assert_eq!(file.clause(&[])?.number(), 3);
+    Ok(())
+}
+
+#[test]
 fn handles_of_another_file_are_errors() -> Result<(), BuildError> {
     let (mut one, mut other) = (FileBuilder::new(), FileBuilder::new());
     let (p, q) = (one.symbol(1)?, one.symbol(0)?);
@@ -120,7 +145,7 @@ fn no_file_gets_longer_than_4096_records() -> Result<(), BuildError> {
     }
     assert_eq!(file.symbol(0), Err(BuildError::Full));
     assert_eq!(file.variable(0), Err(BuildError::Full));
-    assert_eq!(check(file.bytes()).numbers(), [0, 0, 0, 4096, 0, 0, 0]);
+    assert_eq!(check(0, file.bytes()).numbers(), [0, 0, 0, 4096, 0, 0, 0]);
     Ok(())
 }
 
@@ -138,7 +163,7 @@ fn deep_terms_and_many_literals_need_no_deep_recursion() -> Result<(), BuildErro
         // A clause that is too large is written all the same: the check refuses it.
         clause = file.resolve(clause.literal(2), clause.literal(1))?;
     }
-    assert_eq!(check(&file.finish()).numbers()[..3], [2, 9, 4011]);
+    assert_eq!(check(0, &file.finish()).numbers()[..3], [2, 9, 4011]);
     Ok(())
 }
 
@@ -147,6 +172,8 @@ fn errors_say_what_is_wrong() {
     let texts = [
         (BuildError::Arguments { arity: 2, given: 3 }, "3 arguments to a symbol of arity 2"),
         (BuildError::Variable(64), "variable 64, over 63"),
+        (BuildError::Derived(7), "days for clause 7, which a step has made: only an input clause has days"),
+        (BuildError::Days { first: 21, last: 20 }, "day 21 as the first, after the last, 20"),
         (BuildError::RightLiterals(5), "5 right literals, not 1 to 4"),
         (BuildError::Refused(yestrwyn_builder::Reason::Clash), "refused with 10: two different symbols meet"),
     ];

@@ -33,6 +33,18 @@ fn the_worked_example_is_the_stored_file() {
 }
 
 #[test]
+fn the_days_are_those_of_the_stored_file() {
+    let guide = text("docs/FORMAT.md");
+    let told: Vec<(&str, &str)> =
+        cells(section(&guide, "Rules in force")).filter(|row| row.1.starts_with('`')).collect();
+    let season = hexadecimal(&stored("examples/season.proof"));
+    let of_days = season.iter().enumerate().filter(|(_, bytes)| bytes.starts_with("`08"));
+    let right: Vec<(String, &str)> =
+        of_days.map(|(number, bytes)| (number.to_string(), bytes.as_str())).collect();
+    assert_eq!(told.iter().map(|&(number, bytes)| (number.to_string(), bytes)).collect::<Vec<_>>(), right);
+}
+
+#[test]
 fn the_readout_of_the_worked_example_is_quoted() {
     let quoted = indented(&text("examples/permit.txt"));
     assert!(section(&text("docs/FORMAT.md"), "Verdict and readout").contains(&quoted));

@@ -4,12 +4,13 @@ use std::collections::HashSet;
 
 use yestrwyn_builder::{neg, pos, BuildError, Clause, Derived, Row, RunningBuilder, Standing, Symbol, Value};
 use yestrwyn_second::checker::Checker;
-use yestrwyn_second::readout;
+use yestrwyn_second::{check, readout};
 use yestrwyn_types::limits::RECORD_BYTES;
 use yestrwyn_types::record::{kind, read, Record};
-use yestrwyn_vectors::examples::{cases, deep, edges, published, refusals, Example};
-use yestrwyn_vectors::{clashing_file, clashing_several_file, damage, random_file, random_file_of};
-use yestrwyn_vectors::{repeating_file, several_file};
+use yestrwyn_types::Verdict;
+use yestrwyn_vectors::examples::{cases, days, deep, edges, published, refusals, Example};
+use yestrwyn_vectors::{clashing_file, clashing_several_file, damage, dated_file, random_file};
+use yestrwyn_vectors::{random_file_of, repeating_file, several_file};
 
 /// A file's records given to the running builder one by one, as far as its types can say them.
 #[derive(Default)]
@@ -44,7 +45,7 @@ impl Replay {
         theirs.is_ok()
     }
 
-    /// A symbol, a row or an input clause.
+    /// A symbol, a row, an input clause or its days.
     fn put(&mut self, record: &Record) -> Result<(), BuildError> {
         let row = |row: &u16| self.rows[usize::from(*row)];
         let used = usize::from(record.count);
@@ -55,6 +56,10 @@ impl Replay {
                 let arguments: Vec<Row> = record.fields[1..=used].iter().map(row).collect();
                 let symbol = self.symbols[usize::from(record.fields[0])];
                 self.rows.push(self.running.apply(symbol, &arguments)?);
+            }
+            kind::WINDOW => {
+                let [clause, first, last, ..] = record.fields;
+                self.running.in_force(self.clauses[usize::from(clause)], first..=last)?;
             }
             _ => {
                 let signed =
@@ -81,6 +86,11 @@ impl Replay {
         }
     }
 
+    /// The verdict on what was written so far, by the builder.
+    fn accepted(&self, day: u16) -> Verdict {
+        self.running.accepted(day).map_or(Verdict::Open, |clause| Verdict::Accepted(clause.number()))
+    }
+
     /// The clauses' literals as text, a line for each clause.
     fn text(&self) -> Vec<String> {
         let line = |&clause: &Clause| {
@@ -92,9 +102,24 @@ impl Replay {
     }
 }
 
+/// Plays a file with days, and compares what is accepted on days around its own.
+fn same_on_days(name: &str, day: u16, file: &[u8]) -> usize {
+    let mut replay = Replay::default();
+    let mut records = 0;
+    while read(file, records).is_some_and(|record| replay.record(&record)) {
+        records += 1;
+    }
+    let standing = &file[..RECORD_BYTES * usize::from(records)];
+    let days = [day.wrapping_sub(1), day, day.wrapping_add(1)];
+    for day in days {
+        assert_eq!(replay.accepted(day), check(day, standing).verdict, "{name} on day {day}");
+    }
+    usize::from(days.iter().any(|&other| replay.accepted(other) != replay.accepted(day)))
+}
+
 /// The lines of a file's clauses in its readout, without their numbers.
 fn clause_lines(file: &[u8]) -> Vec<String> {
-    let text = String::from_utf8(readout(file)).expect("text");
+    let text = String::from_utf8(readout(0, file)).expect("text");
     text.lines().skip(1).map(|line| line.splitn(3, ' ').nth(2).unwrap_or("").to_string()).collect()
 }
 
@@ -110,6 +135,9 @@ fn same(name: &str, file: &[u8]) -> (usize, usize) {
     assert_eq!(replay.text(), clause_lines(standing), "{name}");
     // A row that is written again is none of the builder's, which has the same clauses all the same.
     assert_eq!(clause_lines(written), clause_lines(standing), "{name}");
+    for day in [0, u16::MAX] {
+        assert_eq!(replay.accepted(day), check(day, standing).verdict, "{name} on day {day}");
+    }
     let rows: HashSet<Row> = replay.rows.iter().copied().collect();
     assert!(rows.len() < replay.rows.len() || written == standing, "{name}");
     (replay.steps, replay.refused)
@@ -181,6 +209,21 @@ fn files_with_steps_on_several_literals() {
     for seed in 0..1000 {
         same(&format!("clashing several {seed}"), &clashing_several_file(seed));
     }
+}
+
+#[test]
+fn files_with_days() {
+    for example in days::examples() {
+        same(&example.name, &example.file);
+        same_on_days(&example.name, example.day, &example.file);
+    }
+    let mut differ = 0;
+    for seed in 0..1500 {
+        let (day, file) = dated_file(seed);
+        same(&format!("dated {seed}"), &file);
+        differ += same_on_days(&format!("dated {seed}"), day, &file);
+    }
+    assert!(differ > 150, "{differ} files whose days differ");
 }
 
 #[test]

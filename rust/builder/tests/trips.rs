@@ -15,6 +15,8 @@ mod duty;
 mod files;
 #[path = "../examples/trips/permit.rs"]
 mod permit;
+#[path = "../examples/trips/season.rs"]
+mod season;
 #[path = "../examples/trips/sheets.rs"]
 mod sheets;
 #[path = "../examples/trips/two_steps.rs"]
@@ -30,9 +32,29 @@ fn stored_files_are_what_the_example_writes() {
     let advice = "write it anew with `cargo run -p yestrwyn-builder --example trips`";
     for (name, file) in files() {
         assert!(stored(&format!("examples/{name}.proof")) == file, "{name}.proof differs: {advice}");
-        let readout = yestrwyn_second::readout(&file);
+        let readout = yestrwyn_second::readout(0, &file);
         assert!(stored(&format!("examples/{name}.txt")) == readout, "{name}.txt differs: {advice}");
+        for (_, day) in files::OTHER_DAYS.iter().filter(|(other, _)| *other == name) {
+            let readout = yestrwyn_second::readout(*day, &file);
+            assert!(stored(&format!("examples/{name}-{day}.txt")) == readout, "{name}-{day}.txt: {advice}");
+        }
     }
+}
+
+#[test]
+fn the_page_says_on_which_days_the_season_is() {
+    let file = season::file().expect("the file is built");
+    let page = text("examples/README.md");
+    let told: Vec<(String, String)> = cells(section(&page, "season"))
+        .filter_map(|(day, verdict)| Some((day.replace(',', "").parse::<u16>().ok()?, verdict)))
+        .map(|(day, verdict)| (day.to_string(), verdict.to_string()))
+        .collect();
+    let days = [0, 20_938, 20_939, 20_969, 20_970, 21_000, 21_091, 21_092, 21_122, 21_123];
+    let right = days.map(|day: u16| {
+        let verdict = yestrwyn_second::check(day, &file).verdict;
+        (day.to_string(), format!("`{verdict}`"))
+    });
+    assert_eq!(told, right);
 }
 
 #[test]
@@ -43,7 +65,16 @@ fn verdicts() {
         .collect();
     assert_eq!(
         lines,
-        ["accepted 11", "accepted 15", "accepted 9", "accepted 3", "open", "refused 8 at 22", "accepted 4"]
+        [
+            "accepted 11",
+            "accepted 15",
+            "accepted 9",
+            "accepted 3",
+            "open",
+            "open",
+            "refused 8 at 22",
+            "accepted 4"
+        ]
     );
 }
 

@@ -1,5 +1,6 @@
-/* Checks a proof file from standard input and prints the verdict. */
+/* Checks a proof file from standard input on a day, which is the argument, and prints the verdict. */
 #include <stdio.h>
+#include <stdlib.h>
 
 #include "checker.h"
 
@@ -7,6 +8,16 @@
 static uint8_t file[65536 + 1];
 static uint16_t symbols[CHECKER_SYMBOLS], rows[CHECKER_ROWS];
 static uint16_t clauses[CHECKER_CLAUSES], bindings[CHECKER_BINDINGS];
+
+/* Reads a day, 0 to 65535; 1 if the word is none. */
+static int read_day(const char *word, uint16_t *day) {
+    char *end;
+    long value = strtol(word, &end, 10);
+    if (end == word || *end != '\0' || value < 0 || value > 65535)
+        return 1;
+    *day = (uint16_t)value;
+    return 0;
+}
 
 /* What printf returns for the verdict: negative where it could not be written. */
 static int print_verdict(const uint16_t *answer) {
@@ -17,14 +28,19 @@ static int print_verdict(const uint16_t *answer) {
     return printf("refused %u at %u\n", (unsigned)answer[1], (unsigned)answer[2]);
 }
 
-int main(void) {
-    uint16_t answer[CHECKER_ANSWER];
-    size_t length = fread(file, 1, sizeof file, stdin);
+int main(int count, char **words) {
+    uint16_t answer[CHECKER_ANSWER], day;
+    size_t length;
+    if (count != 2 || read_day(words[1], &day) != 0) {
+        fprintf(stderr, "usage: check DAY < FILE\n");
+        return 1;
+    }
+    length = fread(file, 1, sizeof file, stdin);
     if (ferror(stdin)) {
         perror("standard input");
         return 1;
     }
-    checker_check(file, length, symbols, CHECKER_SYMBOLS, rows, CHECKER_ROWS,
+    checker_check(day, file, length, symbols, CHECKER_SYMBOLS, rows, CHECKER_ROWS,
                   clauses, CHECKER_CLAUSES, bindings, CHECKER_BINDINGS,
                   answer, CHECKER_ANSWER);
     if (print_verdict(answer) < 0 || fflush(stdout) != 0) {

@@ -1,5 +1,6 @@
-/* Prints the readout of a proof file from standard input, piece by piece. */
+/* Prints the readout of a proof file from standard input on a day, which is the argument, piece by piece. */
 #include <stdio.h>
+#include <stdlib.h>
 
 #include "checker.h"
 
@@ -8,16 +9,32 @@ static uint8_t file[65536 + 1], output[CHECKER_OUTPUT];
 static uint16_t symbols[CHECKER_SYMBOLS], rows[CHECKER_ROWS];
 static uint16_t clauses[CHECKER_CLAUSES], bindings[CHECKER_BINDINGS];
 
-int main(void) {
+/* Reads a day, 0 to 65535; 1 if the word is none. */
+static int read_day(const char *word, uint16_t *day) {
+    char *end;
+    long value = strtol(word, &end, 10);
+    if (end == word || *end != '\0' || value < 0 || value > 65535)
+        return 1;
+    *day = (uint16_t)value;
+    return 0;
+}
+
+int main(int count, char **words) {
     /* There is more, and it goes on with clause 0. */
     uint64_t progress[CHECKER_PROGRESS] = {1, 0, 0};
-    size_t length = fread(file, 1, sizeof file, stdin);
+    uint16_t day;
+    size_t length;
+    if (count != 2 || read_day(words[1], &day) != 0) {
+        fprintf(stderr, "usage: readout DAY < FILE\n");
+        return 1;
+    }
+    length = fread(file, 1, sizeof file, stdin);
     if (ferror(stdin)) {
         perror("standard input");
         return 1;
     }
     while (progress[0] == 1) {
-        checker_readout(file, length, symbols, CHECKER_SYMBOLS, rows, CHECKER_ROWS,
+        checker_readout(day, file, length, symbols, CHECKER_SYMBOLS, rows, CHECKER_ROWS,
                         clauses, CHECKER_CLAUSES, bindings, CHECKER_BINDINGS,
                         (uint16_t)progress[2], output, CHECKER_OUTPUT,
                         progress, CHECKER_PROGRESS);

@@ -1,5 +1,6 @@
-/* Checks many proof files, named by the arguments, with one workspace, and prints a line for each. */
+/* Checks many proof files on one day with one workspace, and prints a line for each. The arguments are the day and the files. */
 #include <stdio.h>
+#include <stdlib.h>
 
 #include "checker.h"
 
@@ -9,6 +10,16 @@ static uint16_t symbols[CHECKER_SYMBOLS], rows[CHECKER_ROWS];
 static uint16_t clauses[CHECKER_CLAUSES], bindings[CHECKER_BINDINGS];
 /* The workspace: never cleared. A thread that checks at the same time has its own, and its own tables. */
 static uint16_t nodes[CHECKER_NODES], origins[CHECKER_ORIGINS], values[CHECKER_VALUES];
+
+/* Reads a day, 0 to 65535; 1 if the word is none. */
+static int read_day(const char *word, uint16_t *day) {
+    char *end;
+    long value = strtol(word, &end, 10);
+    if (end == word || *end != '\0' || value < 0 || value > 65535)
+        return 1;
+    *day = (uint16_t)value;
+    return 0;
+}
 
 /* Reads a file whole; 1 if it could not be read. */
 static int read_file(const char *name, size_t *length) {
@@ -22,15 +33,19 @@ static int read_file(const char *name, size_t *length) {
     return failed;
 }
 
-int main(int count, char **names) {
-    uint16_t answer[CHECKER_ANSWER];
+int main(int count, char **words) {
+    uint16_t answer[CHECKER_ANSWER], day;
     size_t length;
-    for (int at = 1; at < count; at++) {
-        if (read_file(names[at], &length) != 0) {
-            perror(names[at]);
+    if (count < 2 || read_day(words[1], &day) != 0) {
+        fprintf(stderr, "usage: service DAY FILE ..\n");
+        return 1;
+    }
+    for (int at = 2; at < count; at++) {
+        if (read_file(words[at], &length) != 0) {
+            perror(words[at]);
             return 1;
         }
-        checker_check_with(file, length, symbols, CHECKER_SYMBOLS, rows, CHECKER_ROWS,
+        checker_check_with(day, file, length, symbols, CHECKER_SYMBOLS, rows, CHECKER_ROWS,
                            clauses, CHECKER_CLAUSES, bindings, CHECKER_BINDINGS,
                            nodes, origins, values, answer, CHECKER_ANSWER);
         /* Whatever is not 1 is no acceptance. */

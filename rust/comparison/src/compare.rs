@@ -5,10 +5,11 @@ use std::fmt;
 
 use yestrwyn::exported::check_numbers;
 use yestrwyn_types::{Tables, ANSWER_CELLS, LENGTHS};
+use yestrwyn_vectors::dated::with_windows;
 use yestrwyn_vectors::random::SplitMix64;
 use yestrwyn_vectors::repeating::rows_at_random;
-use yestrwyn_vectors::{clashing_file, clashing_several_file, covering_file, damage, random_file};
-use yestrwyn_vectors::{random_file_of, repeating_file, several_file, several_file_of};
+use yestrwyn_vectors::{clashing_file, clashing_several_file, covering_file, damage, dated_file};
+use yestrwyn_vectors::{random_file, random_file_of, repeating_file, several_file, several_file_of};
 
 use crate::services::Services;
 
@@ -90,35 +91,41 @@ pub struct Pair {
 }
 
 impl Pair {
-    /// Checks a file by both, with tables of some lengths, and by the check for services; gives the kind of
-    /// answer (0 open, 1 accepted, 2 refused), nothing if there is no room for one, or where they differ.
-    pub fn compare(&mut self, file: &[u8], lengths: Lengths, mark: u16) -> Result<Option<u16>, Difference> {
+    /// Checks a file on a day by both, with tables of some lengths, and by the check for services; gives the kind
+    /// of answer (0 open, 1 accepted, 2 refused), nothing if there is no room for one, or where they differ.
+    pub fn compare(
+        &mut self,
+        day: u16,
+        file: &[u8],
+        lengths: Lengths,
+        mark: u16,
+    ) -> Result<Option<u16>, Difference> {
         let Pair { proved, second, services } = self;
         proved.fill(lengths, mark);
         second.fill(lengths, mark);
-        run_proved(file, proved);
-        run_second(file, second);
+        run_proved(day, file, proved);
+        run_second(day, file, second);
         proved.differ(second, NAMES)?;
-        services.compare(file, lengths, mark, second)?;
+        services.compare(day, file, lengths, mark, second)?;
         Ok(proved.answer.first().copied().filter(|_| lengths.answer >= ANSWER_CELLS))
     }
 }
 
 /// One comparison with cells of its own.
-pub fn compare(file: &[u8], lengths: Lengths) -> Result<(), Difference> {
-    Pair::default().compare(file, lengths, 0xabcd).map(|_| ())
+pub fn compare(day: u16, file: &[u8], lengths: Lengths) -> Result<(), Difference> {
+    Pair::default().compare(day, file, lengths, 0xabcd).map(|_| ())
 }
 
-fn run_proved(file: &[u8], lent: &mut Lent) {
+fn run_proved(day: u16, file: &[u8], lent: &mut Lent) {
     let (mut tables, answer) = lent.tables();
-    check_numbers(file, &mut tables, answer);
+    check_numbers(day, file, &mut tables, answer);
 }
 
 /// The second implementation, with its answer written as the header of the proved one says.
-fn run_second(file: &[u8], lent: &mut Lent) {
+fn run_second(day: u16, file: &[u8], lent: &mut Lent) {
     let (mut tables, answer) = lent.tables();
     let Some(cells) = answer.get_mut(..ANSWER_CELLS) else { return };
-    cells.copy_from_slice(&yestrwyn_second::check_into(file, &mut tables).numbers());
+    cells.copy_from_slice(&yestrwyn_second::check_into(day, file, &mut tables).numbers());
 }
 
 /// Where two parts differ.
@@ -130,9 +137,25 @@ pub(crate) fn differ(part: &'static str, proved: &[u16], second: &[u16]) -> Resu
     Err(Difference { part, cell, proved: proved[cell], second: second[cell] })
 }
 
+/// The day and the file of a number within a run: a file with windows on a day near their ends, or any other file, at
+/// times with windows put in, on any day.
+pub fn day_and_file_of(seed: u64) -> (u16, Vec<u8>) {
+    let mut random = SplitMix64::new(seed ^ 0xda75_0000_0000_0000);
+    let (own, day) = (random.next_u64(), random.next_u64() as u16);
+    match random.below(16) {
+        0..=3 => dated_file(own),
+        4 => {
+            let (day, file) = dated_file(own);
+            (day, damage(&file, random.next_u64()))
+        }
+        5 | 6 => (day, with_windows(&file_of(seed), day, own)),
+        _ => (day, file_of(seed)),
+    }
+}
+
 /// The file of a number within a run: random files, damaged ones, longer ones, clashing ones, ones with repeated
 /// rows, any bytes, the same with steps on several right literals, and files of clauses that cover one another.
-pub fn file_of(seed: u64) -> Vec<u8> {
+fn file_of(seed: u64) -> Vec<u8> {
     let mut random = SplitMix64::new(seed);
     let own = random.next_u64();
     match random.below(32) {
@@ -163,7 +186,7 @@ fn any_bytes(random: &mut SplitMix64) -> Vec<u8> {
     if random.one_in(2) {
         return (0..length).map(|_| random.below(256) as u8).collect();
     }
-    (0..length / 16 * 16).map(|place| if place % 2 == 1 { 0 } else { random.below(8) as u8 }).collect()
+    (0..length / 16 * 16).map(|place| if place % 2 == 1 { 0 } else { random.below(9) as u8 }).collect()
 }
 
 /// The lengths that go with a seed: mostly just long enough or longer, at times one part too short.

@@ -71,7 +71,8 @@ impl Clauses {
     /// Those of a file.
     pub fn of(file: &[u8]) -> Clauses {
         let mut cells = Cells::new();
-        let count = yestrwyn_second::check_into(file, &mut cells.lend()).clauses;
+        // Which clauses stand does not depend on the day.
+        let count = yestrwyn_second::check_into(0, file, &mut cells.lend()).clauses;
         let is_input = |record: u16| file.get(RECORD_BYTES * usize::from(record)) == Some(&kind::INPUT);
         let records = cells.clauses.chunks_exact(5).zip(0..count);
         let inputs = records.filter(|(clause, _)| is_input(clause[0])).map(|(_, number)| number).collect();

@@ -52,8 +52,9 @@ pub fn expected(units: &[&[u8]], clause: u16, room: usize) -> (Vec<u8>, [u64; PR
     (bytes, numbers)
 }
 
-/// A file with the tables that it is checked with, and what the second implementation makes of it.
+/// A file with its day and the tables that it is checked with, and what the second implementation makes of it.
 pub struct Second<'a> {
+    day: u16,
     file: &'a [u8],
     lengths: Lengths,
     mark: u16,
@@ -63,11 +64,11 @@ pub struct Second<'a> {
 
 impl<'a> Second<'a> {
     /// Runs the second implementation.
-    pub fn new(file: &'a [u8], lengths: Lengths, mark: u16) -> Second<'a> {
+    pub fn new(day: u16, file: &'a [u8], lengths: Lengths, mark: u16) -> Second<'a> {
         let mut tables = lengths.tables.map(|length| marked(length, mark));
         let [symbols, rows, clauses, bindings] = &mut tables;
-        let text = yestrwyn_second::readout_into(file, &mut Tables { symbols, rows, clauses, bindings });
-        Second { file, lengths, mark, text, tables }
+        let text = yestrwyn_second::readout_into(day, file, &mut Tables { symbols, rows, clauses, bindings });
+        Second { day, file, lengths, mark, text, tables }
     }
 
     /// Goes through the readout in pieces of any room, and begins once anywhere; says where the two
@@ -108,7 +109,7 @@ impl<'a> Second<'a> {
         let mut tables = Tables { symbols, rows, clauses, bindings };
         let mut output = vec![OUTPUT_MARK; asked.room];
         let mut progress = vec![PROGRESS_MARK; asked.cells];
-        readout_numbers(self.file, &mut tables, asked.clause, &mut output, &mut progress);
+        readout_numbers(self.day, self.file, &mut tables, asked.clause, &mut output, &mut progress);
         let (mut bytes, numbers) = expected(units, asked.clause, asked.room);
         let mut cells = vec![PROGRESS_MARK; asked.cells];
         match cells.get_mut(..PROGRESS_CELLS) {

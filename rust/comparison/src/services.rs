@@ -46,9 +46,10 @@ impl Default for Services {
 }
 
 impl Services {
-    /// Checks a file that the second implementation has checked with tables of the same lengths and marks.
+    /// Checks a file that the second implementation has checked on the same day, with tables of the same lengths and marks.
     pub fn compare(
         &mut self,
+        day: u16,
         file: &[u8],
         lengths: Lengths,
         mark: u16,
@@ -59,7 +60,7 @@ impl Services {
         let mut arrays = workspace.lend();
         let before = [arrays.nodes.to_vec(), arrays.origins.to_vec()];
         let (mut tables, answer) = lent.tables();
-        check_numbers_with(file, &mut tables, &mut arrays, answer);
+        check_numbers_with(day, file, &mut tables, &mut arrays, answer);
         lent.differ(second, NAMES)?;
         let [nodes, origins] = expected(file, second, before);
         differ("nodes", arrays.nodes, &nodes)?;

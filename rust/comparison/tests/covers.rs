@@ -7,7 +7,7 @@ use std::path::Path;
 
 use yestrwyn::exported::covers_numbers;
 use yestrwyn::{covers, covers_here, covers_into, Cells, Covering, Tables, COVERING_CELLS, LENGTHS};
-use yestrwyn_comparison::compare::{file_of, lengths_of, Lengths};
+use yestrwyn_comparison::compare::{day_and_file_of, lengths_of, Lengths};
 use yestrwyn_comparison::covers::{for_covering, Clauses, Coverings};
 use yestrwyn_comparison::questions::questions;
 use yestrwyn_vectors::examples::cases;
@@ -110,7 +110,7 @@ fn files_of_every_kind_with_tables_of_any_length() {
     with_stack(|| {
         let mut both = Both::default();
         for seed in 0..3000 {
-            let (file, lengths) = (file_of(seed), for_covering(lengths_of(seed)));
+            let (file, lengths) = (day_and_file_of(seed).1, for_covering(lengths_of(seed)));
             let two = Clauses::of(&file).some_two(&mut SplitMix64::new(seed));
             both.same(&format!("file {seed}"), &file, two, lengths);
         }
@@ -225,11 +225,11 @@ fn the_value_is_the_numbers() {
 fn the_tables_are_those_of_the_check() {
     with_stack(|| {
         for seed in 0..200 {
-            let file = file_of(seed);
+            let (_, file) = day_and_file_of(seed);
             let two = Clauses::of(&file).some_two(&mut SplitMix64::new(seed));
             let [mut ours, mut theirs] = [(); 2].map(|()| Cells::new());
             covers_here(&file, two[0], two[1], &mut ours.lend());
-            yestrwyn::check_here(&file, &mut theirs.lend());
+            yestrwyn::check_here(0, &file, &mut theirs.lend());
             assert!(ours == theirs, "seed {seed}, clauses {two:?}");
         }
     });

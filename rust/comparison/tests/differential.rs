@@ -5,17 +5,25 @@
 use std::fs;
 
 use yestrwyn::exported::check_numbers;
-use yestrwyn::{check, check_into, Cells, Tables, LENGTHS};
-use yestrwyn_comparison::compare::{compare, file_of, lengths_of, Lengths, Pair};
-use yestrwyn_vectors::examples::{cases, heavy};
-use yestrwyn_vectors::stored::{groups, pack_path, unpack};
-use yestrwyn_vectors::{damage, random_file};
+use yestrwyn::{check, check_into, Cells, Tables, Workspace, LENGTHS};
+use yestrwyn_comparison::compare::{compare, day_and_file_of, lengths_of, Lengths, Pair};
+use yestrwyn_types::record::kind;
+use yestrwyn_vectors::examples::{cases, days, heavy, Example};
+use yestrwyn_vectors::stored::{day_and_file, groups, pack_path, unpack};
+use yestrwyn_vectors::{damage, dated_file, random_file};
 
-/// The files of every stored pack.
-fn stored() -> Vec<Vec<u8>> {
-    let read = |name| fs::read(pack_path(name)).expect("a stored pack");
-    let packs: Vec<Vec<u8>> = groups().iter().map(|group| read(group.name)).collect();
-    packs.iter().flat_map(|pack| unpack(pack).expect("a whole pack")).map(<[u8]>::to_vec).collect()
+/// The days and files of every stored pack.
+fn stored() -> Vec<(u16, Vec<u8>)> {
+    let mut all = Vec::new();
+    for group in groups() {
+        let pack = fs::read(pack_path(group.name)).expect("a stored pack");
+        for entry in unpack(&pack).expect("a whole pack") {
+            let dated = if group.dated { day_and_file(entry) } else { Some((0, entry)) };
+            let (day, file) = dated.expect("an entry with a day");
+            all.push((day, file.to_vec()));
+        }
+    }
+    all
 }
 
 /// Runs a test with stack enough for every file.
@@ -23,10 +31,16 @@ fn with_stack(test: impl FnOnce() + Send) {
     yestrwyn::with_stack(test).expect("a thread");
 }
 
-/// Compares a file, with cells past the named parts.
+/// Compares a file on day 0, with cells past the named parts.
 fn same(pair: &mut Pair, file: &[u8], lengths: Lengths) {
-    let outcome = pair.compare(file, lengths, 0xabcd);
-    assert!(outcome.is_ok(), "{outcome:?} with {lengths:?} on {file:02x?}");
+    same_on(pair, 0, file, lengths);
+}
+
+/// The same on a day; gives the kind of answer.
+fn same_on(pair: &mut Pair, day: u16, file: &[u8], lengths: Lengths) -> Option<u16> {
+    let outcome = pair.compare(day, file, lengths, 0xabcd);
+    assert!(outcome.is_ok(), "{outcome:?} on day {day} with {lengths:?} on {file:02x?}");
+    outcome.unwrap_or(None)
 }
 
 #[test]
@@ -35,9 +49,9 @@ fn all_stored_vectors() {
         let mut pair = Pair::default();
         let files = stored();
         assert!(files.len() > 1000, "{} files", files.len());
-        for file in &files {
-            same(&mut pair, file, Lengths::longer(0));
-            same(&mut pair, file, Lengths::longer(5));
+        for (day, file) in &files {
+            same_on(&mut pair, *day, file, Lengths::longer(0));
+            same_on(&mut pair, *day, file, Lengths::longer(5));
         }
     });
 }
@@ -46,8 +60,8 @@ fn all_stored_vectors() {
 fn stored_vectors_damaged() {
     with_stack(|| {
         let mut pair = Pair::default();
-        for (file, seed) in stored().iter().zip(0..) {
-            same(&mut pair, &damage(file, seed), Lengths::longer(1));
+        for ((day, file), seed) in stored().iter().zip(0..) {
+            same_on(&mut pair, *day, &damage(file, seed), Lengths::longer(1));
         }
     });
 }
@@ -67,7 +81,8 @@ fn random_and_damaged_files() {
     with_stack(|| {
         let mut pair = Pair::default();
         for seed in 0..4000 {
-            same(&mut pair, &file_of(seed), lengths_of(seed));
+            let (day, file) = day_and_file_of(seed);
+            same_on(&mut pair, day, &file, lengths_of(seed));
         }
     });
 }
@@ -95,9 +110,12 @@ fn short_answers_touch_nothing() {
             let mut answer = vec![7; length];
             let [symbols, rows, clauses, bindings] = &mut tables;
             let mut lent = Tables { symbols, rows, clauses, bindings };
-            check_numbers(&cases::case_a(), &mut lent, &mut answer);
+            check_numbers(0, &cases::case_a(), &mut lent, &mut answer);
             assert!(tables.iter().flatten().chain(&answer).all(|&cell| cell == 7));
-            assert_eq!(compare(&cases::case_a(), Lengths { answer: length, ..Lengths::longer(1) }), Ok(()));
+            assert_eq!(
+                compare(0, &cases::case_a(), Lengths { answer: length, ..Lengths::longer(1) }),
+                Ok(())
+            );
         }
     });
 }
@@ -115,11 +133,55 @@ fn long_files_are_refused_with_1() {
 #[test]
 fn the_value_is_the_numbers() {
     for seed in 0..200 {
-        let file = damage(&random_file(seed), seed);
-        let (mut ours, mut theirs) = (Cells::new(), Cells::new());
-        let second = yestrwyn_second::check_into(&file, &mut theirs.lend());
-        assert_eq!(check_into(&file, &mut ours.lend()).expect("a thread"), second);
-        assert_eq!(check(&file).expect("a thread"), second);
-        assert_eq!(ours, theirs);
+        let damaged = (0, damage(&random_file(seed), seed));
+        for (day, file) in [damaged, dated_file(seed)] {
+            let (mut ours, mut theirs) = (Cells::new(), Cells::new());
+            let second = yestrwyn_second::check_into(day, &file, &mut theirs.lend());
+            assert_eq!(check_into(day, &file, &mut ours.lend()).expect("a thread"), second);
+            assert_eq!(check(day, &file).expect("a thread"), second);
+            assert_eq!(ours, theirs);
+        }
     }
+}
+
+/// Files with windows, on the days around theirs too.
+#[test]
+fn files_with_windows_on_several_days() {
+    with_stack(|| {
+        let (mut pair, mut kinds) = (Pair::default(), [0; 3]);
+        let mut on_days = |day: u16, file: &[u8], days: &[u16]| {
+            for other in days.iter().copied().chain([day.wrapping_sub(1), day, day.wrapping_add(1)]) {
+                let kind = same_on(&mut pair, other, file, Lengths::longer(1)).expect("an answer");
+                kinds[usize::from(kind)] += 1;
+            }
+        };
+        for Example { day, file, .. } in days::examples() {
+            on_days(day, &file, &[0, 9, 10, 20, 21, 65_535]);
+        }
+        for seed in 0..1000 {
+            let (day, file) = dated_file(seed);
+            on_days(day, &file, &[]);
+            on_days(day, &damage(&file, seed), &[]);
+        }
+        assert!(kinds.iter().all(|&count| count > 500), "{kinds:?} open, accepted and refused");
+    });
+}
+
+/// A file without windows gets the same answer on every day.
+#[test]
+fn old_files_on_other_days() {
+    with_stack(|| {
+        let mut workspace = Workspace::new();
+        for example in groups().into_iter().filter(|group| !group.dated).flat_map(|group| group.examples) {
+            let numbers = example.file.iter().step_by(16).copied();
+            // A damaged file may have one.
+            if numbers.into_iter().any(|kind| kind == kind::WINDOW) {
+                continue;
+            }
+            let first = yestrwyn_second::check(0, &example.file);
+            for day in [0, 1, 255, 256, 21_000, 65_535] {
+                assert_eq!(workspace.check_here(day, &example.file), first, "{} on {day}", example.name);
+            }
+        }
+    });
 }

@@ -5,10 +5,10 @@ use std::mem::size_of;
 use yestrwyn::exported::{check_numbers, check_numbers_with, Arrays, Nodes, Origins, Values};
 use yestrwyn::exported::{covers_numbers, readout_numbers, PROGRESS_CELLS};
 use yestrwyn::{Tables, LENGTHS};
-use yestrwyn_comparison::compare::file_of;
+use yestrwyn_comparison::compare::day_and_file_of;
 use yestrwyn_comparison::covers::Clauses;
 use yestrwyn_types::{Cells, ANSWER_CELLS, COVERING_CELLS};
-use yestrwyn_vectors::examples::{cases, edges, published, refusals};
+use yestrwyn_vectors::examples::{cases, days, edges, published, refusals};
 use yestrwyn_vectors::random::SplitMix64;
 
 /// Cells before, between and after the parts.
@@ -48,14 +48,15 @@ fn margins_hold(buffer: &[u16]) -> bool {
     })
 }
 
-/// Files of every kind.
-fn files() -> Vec<Vec<u8>> {
+/// Files of every kind, each with a day.
+fn files() -> Vec<(u16, Vec<u8>)> {
     let mut examples = cases::examples();
     examples.extend(published());
     examples.extend(edges::examples());
     examples.extend(refusals::examples());
-    let named = examples.into_iter().map(|example| example.file);
-    named.chain((0..300).map(file_of)).collect()
+    examples.extend(days::examples());
+    let named = examples.into_iter().map(|example| (example.day, example.file));
+    named.chain((0..300).map(day_and_file_of)).collect()
 }
 
 /// A file from the middle of a larger buffer too.
@@ -66,16 +67,16 @@ fn in_the_middle(file: &[u8]) -> Vec<u8> {
 #[test]
 fn the_check_stays_inside_what_it_was_lent() {
     let check = || {
-        for file in files() {
+        for (day, file) in files() {
             let lent = in_the_middle(&file);
             let mut buffer = buffer();
             let [symbols, rows, clauses, bindings, answer] = parts(&mut buffer);
             let mut tables = Tables { symbols, rows, clauses, bindings };
-            check_numbers(&lent[64..64 + file.len()], &mut tables, answer);
+            check_numbers(day, &lent[64..64 + file.len()], &mut tables, answer);
             assert!(margins_hold(&buffer));
             let mut cells = Cells { symbols: vec![], rows: vec![], clauses: vec![], bindings: vec![] };
             let [symbols, rows, clauses, bindings, answer] = parts(&mut buffer);
-            let second = yestrwyn_second::check_into(&file, &mut before(&mut cells).lend());
+            let second = yestrwyn_second::check_into(day, &file, &mut before(&mut cells).lend());
             assert_eq!(answer, second.numbers());
             assert!([symbols, rows, clauses, bindings].into_iter().eq([
                 &cells.symbols,
@@ -114,7 +115,7 @@ fn the_check_for_services_stays_inside_what_it_was_lent() {
     let check = || {
         let mut watched = [size_of::<Nodes>(), size_of::<Origins>(), size_of::<Values>()]
             .map(|bytes| Watched::new(bytes / 2));
-        for file in files() {
+        for (day, file) in files() {
             let lent = in_the_middle(&file);
             let mut buffer = buffer();
             let [symbols, rows, clauses, bindings, answer] = parts(&mut buffer);
@@ -122,10 +123,10 @@ fn the_check_for_services_stays_inside_what_it_was_lent() {
             let [nodes, origins, values] = &mut watched;
             let mut arrays =
                 Arrays { nodes: nodes.array(), origins: origins.array(), values: values.array() };
-            check_numbers_with(&lent[64..64 + file.len()], &mut tables, &mut arrays, answer);
+            check_numbers_with(day, &lent[64..64 + file.len()], &mut tables, &mut arrays, answer);
             assert!(margins_hold(&buffer) && watched.iter().all(Watched::holds));
             let [.., answer] = parts(&mut buffer);
-            assert_eq!(answer, yestrwyn_second::check(&file).numbers());
+            assert_eq!(answer, yestrwyn_second::check(day, &file).numbers());
         }
     };
     yestrwyn::with_stack(check).expect("a thread");
@@ -142,9 +143,9 @@ fn before(cells: &mut Cells) -> &mut Cells {
 #[test]
 fn the_readout_stays_inside_what_it_was_lent() {
     let read = || {
-        for file in files() {
+        for (day, file) in files() {
             let lent = in_the_middle(&file);
-            let second = yestrwyn_second::readout(&file);
+            let second = yestrwyn_second::readout(day, &file);
             for room in [0, 1, second.len().saturating_sub(1), second.len(), second.len() + 9] {
                 let mut buffer = buffer();
                 let [symbols, rows, clauses, bindings, _] = parts(&mut buffer);
@@ -152,6 +153,7 @@ fn the_readout_stays_inside_what_it_was_lent() {
                 let mut output = vec![0xa5; room + 64];
                 let mut progress = [7; PROGRESS_CELLS + 4];
                 readout_numbers(
+                    day,
                     &lent[64..64 + file.len()],
                     &mut tables,
                     0,
@@ -174,7 +176,7 @@ fn the_readout_stays_inside_what_it_was_lent() {
 fn covers_stays_inside_what_it_was_lent() {
     let compare = || {
         let mut random = SplitMix64::new(3);
-        for file in files() {
+        for (_, file) in files() {
             let lent = in_the_middle(&file);
             for [c, d] in [Clauses::of(&file).some_two(&mut random), [0, 0]] {
                 let mut buffer = buffer();

@@ -8,8 +8,8 @@ use std::slice;
 use yestrwyn::exported::{check_numbers_with, Arrays, Nodes, Origins, Values};
 use yestrwyn::{check_here, covers_here, readout_piece_here, Cells, Rest, Tables, ENOUGH, LENGTHS};
 use yestrwyn_types::ANSWER_CELLS;
-use yestrwyn_vectors::examples::{cases, deep, edges, published};
-use yestrwyn_vectors::{covering_file, random_file};
+use yestrwyn_vectors::examples::{cases, days, deep, edges, published, Example};
+use yestrwyn_vectors::{covering_file, dated_file, random_file};
 
 const PAGE: usize = 4096;
 
@@ -73,7 +73,9 @@ enum Place {
 
 /// Checks a file that lies against an unreadable page, reads it out and compares its first clauses, with tables that fill
 /// their pages.
-fn same(name: &str, file: &[u8], place: Place) {
+fn same(example: &Example, place: Place) {
+    let Example { name, day, file } = example;
+    let day = *day;
     let mut pages = Guarded::new(file.len());
     let free = pages.bytes().len() - file.len();
     let start = if let Place::First = place { 0 } else { free };
@@ -84,12 +86,12 @@ fn same(name: &str, file: &[u8], place: Place) {
     assert_eq!([symbols.len(), rows.len(), clauses.len(), bindings.len()], LENGTHS);
     let mut tables = Tables { symbols, rows, clauses, bindings };
     let mut second = Cells::new();
-    let expected = yestrwyn_second::check_into(file, &mut second.lend());
-    assert_eq!(check_here(lent, &mut tables), expected, "{name} {place:?}");
-    assert_eq!(for_services(lent, &mut tables, place), expected.numbers(), "{name} {place:?}");
+    let expected = yestrwyn_second::check_into(day, file, &mut second.lend());
+    assert_eq!(check_here(day, lent, &mut tables), expected, "{name} {place:?}");
+    assert_eq!(for_services(day, lent, &mut tables, place), expected.numbers(), "{name} {place:?}");
     let mut output = Guarded::new(ENOUGH);
-    let piece = readout_piece_here(lent, &mut tables, 0, output.bytes());
-    let text = yestrwyn_second::readout(file);
+    let piece = readout_piece_here(day, lent, &mut tables, 0, output.bytes());
+    let text = yestrwyn_second::readout(day, file);
     assert!(text.starts_with(&output.bytes()[..piece.written]), "{name} {place:?}");
     assert_eq!(piece.rest == Rest::Complete, piece.written == text.len(), "{name} {place:?}");
     for (c, d) in [(0, 0), (0, 1), (1, 0)] {
@@ -102,12 +104,12 @@ fn same(name: &str, file: &[u8], place: Place) {
 }
 
 /// The check for services with a workspace of which each array lies against an unreadable page.
-fn for_services(file: &[u8], tables: &mut Tables<'_>, place: Place) -> [u16; ANSWER_CELLS] {
+fn for_services(day: u16, file: &[u8], tables: &mut Tables<'_>, place: Place) -> [u16; ANSWER_CELLS] {
     let mut guarded = [size_of::<Nodes>(), size_of::<Origins>(), size_of::<Values>()].map(Guarded::new);
     let [nodes, origins, values] = guarded.each_mut().map(|array| array.cells());
     let (nodes, origins, values) = (at(nodes, place), at(origins, place), at(values, place));
     let mut numbers = [0; ANSWER_CELLS];
-    check_numbers_with(file, tables, &mut Arrays { nodes, origins, values }, &mut numbers);
+    check_numbers_with(day, file, tables, &mut Arrays { nodes, origins, values }, &mut numbers);
     numbers
 }
 
@@ -128,13 +130,16 @@ fn files_and_tables_beside_unreadable_pages() {
         // The longest file fills its pages and lies against unreadable ones on both sides.
         examples.extend(edges::examples());
         examples.extend(deep::examples());
+        examples.extend(days::examples());
         for example in examples {
-            same(&example.name, &example.file, Place::Last);
-            same(&example.name, &example.file, Place::First);
+            same(&example, Place::Last);
+            same(&example, Place::First);
         }
         for seed in 0..200 {
-            same(&format!("seed {seed}"), &random_file(seed), Place::Last);
-            same(&format!("covering {seed}"), &covering_file(seed), Place::Last);
+            let (day, dated) = dated_file(seed);
+            same(&Example::new(&format!("seed {seed}"), random_file(seed)), Place::Last);
+            same(&Example::new(&format!("covering {seed}"), covering_file(seed)), Place::Last);
+            same(&Example::on(day, &format!("dated {seed}"), dated), Place::Last);
         }
     };
     yestrwyn::with_stack(compare).expect("a thread");

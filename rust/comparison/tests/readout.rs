@@ -6,7 +6,7 @@ use std::io::{self, Write};
 
 use yestrwyn::exported::readout_numbers;
 use yestrwyn::{readout_piece_here, Cells, Rest, Tables, ENOUGH, LENGTHS};
-use yestrwyn_comparison::compare::{file_of, lengths_of, Lengths};
+use yestrwyn_comparison::compare::{day_and_file_of, lengths_of, Lengths};
 use yestrwyn_comparison::pieces::Second;
 use yestrwyn_vectors::damage;
 use yestrwyn_vectors::examples::{cases, heavy, Example};
@@ -18,10 +18,15 @@ fn with_stack(test: impl FnOnce() + Send) {
     yestrwyn::with_stack(test).expect("a thread");
 }
 
-/// Goes through a file's readout in pieces of any room.
+/// Goes through a file's readout on day 0 in pieces of any room.
 fn same(file: &[u8], lengths: Lengths, seed: u64) {
-    let outcome = Second::new(file, lengths, seed as u16).walk(&mut SplitMix64::new(seed));
-    assert_eq!(outcome, Ok(()), "seed {seed} with {lengths:?} on {file:02x?}");
+    same_on(0, file, lengths, seed);
+}
+
+/// The same on a day.
+fn same_on(day: u16, file: &[u8], lengths: Lengths, seed: u64) {
+    let outcome = Second::new(day, file, lengths, seed as u16).walk(&mut SplitMix64::new(seed));
+    assert_eq!(outcome, Ok(()), "seed {seed} on day {day} with {lengths:?} on {file:02x?}");
 }
 
 /// All stored files.
@@ -33,7 +38,7 @@ fn stored() -> Vec<Example> {
 fn all_stored_vectors_in_pieces() {
     with_stack(|| {
         for (example, seed) in stored().iter().zip(0..) {
-            same(&example.file, Lengths::longer(seed as usize % 3), seed);
+            same_on(example.day, &example.file, Lengths::longer(seed as usize % 3), seed);
         }
     });
 }
@@ -41,8 +46,8 @@ fn all_stored_vectors_in_pieces() {
 #[test]
 fn all_stored_vectors_whole() {
     for example in stored() {
-        let text = yestrwyn::readout(&example.file).expect("a thread");
-        assert!(text == yestrwyn_second::readout(&example.file), "{}", example.name);
+        let text = yestrwyn::readout(example.day, &example.file).expect("a thread");
+        assert!(text == yestrwyn_second::readout(example.day, &example.file), "{}", example.name);
     }
 }
 
@@ -50,7 +55,7 @@ fn all_stored_vectors_whole() {
 fn stored_vectors_damaged() {
     with_stack(|| {
         for (example, seed) in stored().iter().zip(0..) {
-            same(&damage(&example.file, seed), Lengths::longer(1), seed);
+            same_on(example.day, &damage(&example.file, seed), Lengths::longer(1), seed);
         }
     });
 }
@@ -59,7 +64,8 @@ fn stored_vectors_damaged() {
 fn random_and_damaged_files() {
     with_stack(|| {
         for seed in 0..2000 {
-            same(&file_of(seed), lengths_of(seed), seed);
+            let (day, file) = day_and_file_of(seed);
+            same_on(day, &file, lengths_of(seed), seed);
         }
     });
 }
@@ -86,7 +92,7 @@ fn short_progress_touches_nothing() {
             let [symbols, rows, clauses, bindings] = &mut tables;
             let mut lent = Tables { symbols, rows, clauses, bindings };
             let (mut output, mut progress) = (vec![7; 1000], vec![7; length]);
-            readout_numbers(&cases::case_a(), &mut lent, 0, &mut output, &mut progress);
+            readout_numbers(0, &cases::case_a(), &mut lent, 0, &mut output, &mut progress);
             assert!(tables.iter().flatten().all(|&cell| cell == 7));
             assert!(output.iter().all(|&byte| byte == 7));
             assert!(progress.iter().all(|&cell| cell == 7));
@@ -100,10 +106,10 @@ fn case_a_by_its_pieces() {
         let (file, mut cells) = (cases::case_a(), Cells::new());
         let text =
             "accepted 4\n0 1 +s0(s2)\n1 1 -s0(v0.1) +s0(s1(v0.1))\n2 1 -s0(s1(s2))\n3 2 +s0(s1(s2))\n4 3\n";
-        assert_eq!(yestrwyn::readout(&file).expect("a thread"), text.as_bytes());
+        assert_eq!(yestrwyn::readout(0, &file).expect("a thread"), text.as_bytes());
         let mut piece = |clause, room| {
             let mut output = vec![0; room];
-            let piece = readout_piece_here(&file, &mut cells.lend(), clause, &mut output);
+            let piece = readout_piece_here(0, &file, &mut cells.lend(), clause, &mut output);
             (String::from_utf8_lossy(&output[..piece.written]).into_owned(), piece.rest)
         };
         assert_eq!(piece(0, 22), (String::new(), Rest::TooShort(0)));
@@ -146,7 +152,7 @@ impl Write for Hash {
 /// The hash of a readout by the second implementation, and the tables that it leaves.
 fn second_hash(file: &[u8]) -> (Hash, Cells) {
     let (mut hash, mut cells) = (Hash::new(), Cells::new());
-    yestrwyn_second::write_readout(file, &mut cells.lend(), &mut hash).expect("a hash takes every byte");
+    yestrwyn_second::write_readout(0, file, &mut cells.lend(), &mut hash).expect("a hash takes every byte");
     (hash, cells)
 }
 
@@ -155,7 +161,7 @@ fn proved_hash(file: &[u8], room: usize) -> (Hash, Cells) {
     let (mut hash, mut cells) = (Hash::new(), Cells::new());
     let (mut output, mut clause) = (vec![0; room], 0);
     loop {
-        let piece = readout_piece_here(file, &mut cells.lend(), clause, &mut output);
+        let piece = readout_piece_here(0, file, &mut cells.lend(), clause, &mut output);
         hash.write_all(&output[..piece.written]).expect("a hash takes every byte");
         match piece.rest {
             Rest::Complete => return (hash, cells),

@@ -17,7 +17,13 @@ mod check;
 mod service;
 
 /// The stored examples.
-const EXAMPLES: [&str; 7] = ["covers", "curfew", "duty", "permit", "refused", "sheets", "two_steps"];
+const EXAMPLES: [&str; 8] =
+    ["covers", "curfew", "duty", "permit", "refused", "season", "sheets", "two_steps"];
+
+/// The day of the stored readouts.
+const DAY: &str = "0";
+/// An example that is accepted on another day only, and that day.
+const SEASON: (&str, u16) = ("season", 21_000);
 
 /// A path from the root of the repository.
 fn path(from_root: &str) -> PathBuf {
@@ -77,9 +83,9 @@ fn compiled(name: &str) -> PathBuf {
     program
 }
 
-/// What a program prints for an example.
-fn printed(program: &Path, example: &str) -> String {
-    printed_with(program, &[], example)
+/// What a program prints for an example on a day.
+fn printed(program: &Path, day: &str, example: &str) -> String {
+    printed_with(program, &[day.to_string()], example)
 }
 
 /// The same with arguments.
@@ -94,16 +100,20 @@ fn printed_with(program: &Path, words: &[String], example: &str) -> String {
 fn the_check_from_c() {
     let [program, _] = programs();
     for example in EXAMPLES {
-        assert_eq!(printed(program, example), verdict(example), "{example}");
+        assert_eq!(printed(program, DAY, example), verdict(example), "{example}");
     }
+    let (example, day) = SEASON;
+    assert_eq!(printed(program, &day.to_string(), example), verdict(&format!("{example}-{day}")));
 }
 
 #[test]
 fn the_readout_from_c() {
     let [_, program] = programs();
     for example in EXAMPLES {
-        assert_eq!(printed(program, example), readout(example), "{example}");
+        assert_eq!(printed(program, DAY, example), readout(example), "{example}");
     }
+    let (example, day) = SEASON;
+    assert_eq!(printed(program, &day.to_string(), example), readout(&format!("{example}-{day}")));
 }
 
 /// The line that the program `covers` is to print.
@@ -146,10 +156,25 @@ fn words_that_are_no_clauses() {
     }
 }
 
+/// Words that are no day, none, and more than one.
+#[test]
+fn words_that_are_no_day() {
+    let [check, readout] = programs();
+    for program in [check.as_path(), readout, service_program()] {
+        for words in ["", "x", "1x", "-1", "65536", "99999999999999999999"] {
+            let mut program = Command::new(program);
+            let output = program.args(words.split_whitespace()).stdin(Stdio::null()).output();
+            let output = output.expect("it runs");
+            assert!(!output.status.success() && output.stdout.is_empty(), "{words}");
+            assert!(String::from_utf8_lossy(&output.stderr).starts_with("usage: "), "{words}");
+        }
+    }
+}
+
 /// Reading a folder fails, and writing to a full device: neither ends like a verdict.
 #[test]
 fn failed_reads_and_writes_from_c() {
-    let others = programs().iter().map(|program| (program.as_path(), [].as_slice()));
+    let others = programs().iter().map(|program| (program.as_path(), [DAY].as_slice()));
     for (program, words) in others.chain([(covers_program(), ["0", "0"].as_slice())]) {
         let folder = fs::File::open(path("examples")).expect("the folder");
         let read = Command::new(program).args(words).stdin(Stdio::from(folder)).output().expect("it runs");
@@ -174,15 +199,18 @@ fn failed_reads_and_writes_from_c() {
 fn the_check_from_rust() {
     for example in EXAMPLES {
         let file = fs::read(path(&format!("examples/{example}.proof"))).expect("a stored example");
-        assert_eq!(check::verdict(&file).expect("a thread") + "\n", verdict(example), "{example}");
+        assert_eq!(check::verdict(0, &file).expect("a thread") + "\n", verdict(example), "{example}");
     }
+    let (example, day) = SEASON;
+    let file = fs::read(path(&format!("examples/{example}.proof"))).expect("a stored example");
+    assert_eq!(check::verdict(day, &file).expect("a thread") + "\n", verdict(&format!("{example}-{day}")));
 }
 
 #[test]
 fn the_service_from_c() {
     let program = service_program();
     let files = EXAMPLES.map(|example| path(&format!("examples/{example}.proof")));
-    let output = Command::new(program).args(&files).args(&files).output().expect("it runs");
+    let output = Command::new(program).arg(DAY).args(&files).args(&files).output().expect("it runs");
     assert!(output.status.success());
     let accepted = for_all(|line| {
         let word = if line.starts_with("accepted ") { "accepted" } else { "not accepted" };
@@ -196,12 +224,12 @@ fn the_service_from_c() {
 fn failed_reads_and_writes_of_the_service() {
     let program = service_program();
     for name in ["examples/missing.proof", "examples"] {
-        let read = Command::new(program).arg(path(name)).output().expect("it runs");
+        let read = Command::new(program).arg(DAY).arg(path(name)).output().expect("it runs");
         assert!(!read.status.success() && read.stdout.is_empty() && !read.stderr.is_empty(), "{name}");
     }
     let full = fs::File::options().write(true).open("/dev/full").expect("a full device");
     let mut service = Command::new(program);
-    service.arg(path("examples/duty.proof")).stdout(Stdio::from(full));
+    service.arg(DAY).arg(path("examples/duty.proof")).stdout(Stdio::from(full));
     let written = service.stderr(Stdio::piped()).spawn().and_then(|child| child.wait_with_output());
     let written = written.expect("it runs");
     assert!(!written.status.success());
@@ -212,7 +240,7 @@ fn failed_reads_and_writes_of_the_service() {
 fn the_service_from_rust() {
     let read = |example| fs::read(path(&format!("examples/{example}.proof"))).expect("a stored example");
     let files = EXAMPLES.map(read);
-    let verdicts = service::verdicts(&files).expect("a thread");
+    let verdicts = service::verdicts(0, &files).expect("a thread");
     let lines: String = verdicts.iter().map(|verdict| format!("{verdict}\n")).collect();
     assert_eq!(lines, for_all(str::to_string));
 }

@@ -20,16 +20,16 @@ fn on_a_small_thread(run: impl FnOnce() + Send) {
 fn the_deepest_files_on_a_small_thread() {
     for example in deep::examples() {
         let (file, mut cells, mut second) = (&example.file, Cells::new(), Cells::new());
-        let expected = yestrwyn_second::check_into(file, &mut second.lend());
-        let text = yestrwyn_second::readout(file);
+        let expected = yestrwyn_second::check_into(0, file, &mut second.lend());
+        let text = yestrwyn_second::readout(0, file);
         let covering = yestrwyn_second::covers(file, 0, 0);
         on_a_small_thread(|| {
-            assert_eq!(check(file).expect("an answer"), expected);
-            assert_eq!(check_into(file, &mut cells.lend()).expect("an answer"), expected);
-            assert_eq!(Workspace::new().check(file).expect("an answer"), expected);
-            assert!(readout(file).expect("a readout") == text);
+            assert_eq!(check(0, file).expect("an answer"), expected);
+            assert_eq!(check_into(0, file, &mut cells.lend()).expect("an answer"), expected);
+            assert_eq!(Workspace::new().check(0, file).expect("an answer"), expected);
+            assert!(readout(0, file).expect("a readout") == text);
             let mut output = vec![0; ENOUGH.max(text.len())];
-            let piece = readout_piece(file, &mut cells.lend(), 0, &mut output).expect("a piece");
+            let piece = readout_piece(0, file, &mut cells.lend(), 0, &mut output).expect("a piece");
             assert!(piece.rest == Rest::Complete && output[..piece.written] == text);
             assert_eq!(covers(file, 0, 0).expect("an answer"), covering);
             assert_eq!(covers_into(file, 0, 0, &mut cells.lend()).expect("an answer"), covering);
@@ -58,19 +58,19 @@ impl io::Write for Full {
 #[test]
 fn a_readout_that_cannot_be_written_is_an_error() {
     let file = deep::derivation(100);
-    let length = readout(&file).expect("a readout").len();
-    assert!(write_readout(&file, &mut Full(length)).is_ok());
-    assert!(write_readout(&file, &mut Full(length - 1)).is_err());
+    let length = readout(0, &file).expect("a readout").len();
+    assert!(write_readout(0, &file, &mut Full(length)).is_ok());
+    assert!(write_readout(0, &file, &mut Full(length - 1)).is_err());
 }
 
 #[test]
 fn a_readout_that_is_cut_is_an_error() {
     let file = deep::derivation(100);
-    let text = yestrwyn_second::readout(&file);
+    let text = yestrwyn_second::readout(0, &file);
     let longest = text.split_inclusive(|&byte| byte == b'\n').map(<[u8]>::len).max().unwrap_or(0);
     for room in [0, 1, longest - 1, longest, longest + 1, text.len()] {
         let (mut cells, mut output, mut out) = (Cells::new(), vec![0; room], Vec::new());
-        let run = || write_readout_here(&file, &mut cells.lend(), &mut output, &mut out);
+        let run = || write_readout_here(0, &file, &mut cells.lend(), &mut output, &mut out);
         let written = yestrwyn::with_stack(run).expect("a thread");
         // The first line is handed on with that of clause 0, and is shorter than the longest here.
         assert_eq!(written.is_ok(), room >= longest, "{room} bytes, {written:?}");

@@ -4,7 +4,7 @@
 use yestrwyn::{Answer, Cells, Verdict, Workspace};
 use yestrwyn_types::limits::RECORD_BYTES;
 use yestrwyn_vectors::stored::groups;
-use yestrwyn_vectors::{clashing_file, damage, random_file, several_file};
+use yestrwyn_vectors::{clashing_file, damage, dated_file, random_file, several_file};
 
 /// Both checks, each with tables of its own.
 struct Checks {
@@ -19,8 +19,8 @@ impl Checks {
 
     /// The count of bindings in the answers, after it was compared with the tables.
     fn held(&mut self, file: &[u8]) -> u16 {
-        let proved = self.proved.check_here(file);
-        let second = yestrwyn_second::check_into(file, &mut self.second.lend());
+        let proved = self.proved.check_here(0, file);
+        let second = yestrwyn_second::check_into(0, file, &mut self.second.lend());
         assert_eq!(proved, second);
         assert_eq!(u32::from(proved.bindings), fifth_cells(proved, self.proved.cells()));
         assert_eq!(u32::from(second.bindings), fifth_cells(second, &self.second));
@@ -32,7 +32,7 @@ impl Checks {
         let mut before = 0;
         for end in (0..=file.len()).step_by(RECORD_BYTES) {
             let held = self.held(&file[..end]);
-            let refused = matches!(yestrwyn_second::check(&file[..end]).verdict, Verdict::Refused { .. });
+            let refused = matches!(yestrwyn_second::check(0, &file[..end]).verdict, Verdict::Refused { .. });
             assert!(if refused { held == before } else { held >= before });
             before = held;
         }
@@ -66,7 +66,7 @@ fn after_each_record_of_random_files() {
     with_stack(|| {
         let mut checks = Checks::new();
         for seed in 0..60 {
-            for file in [random_file(seed), several_file(seed), clashing_file(seed)] {
+            for file in [random_file(seed), several_file(seed), clashing_file(seed), dated_file(seed).1] {
                 checks.held_after_each(&file);
                 checks.held_after_each(&damage(&file, seed));
             }
@@ -81,7 +81,7 @@ fn a_refused_step_adds_nothing() {
         let mut steps = 0;
         for seed in 0..2000 {
             let file = damage(&several_file(seed), seed);
-            let Verdict::Refused { record, .. } = yestrwyn_second::check(&file).verdict else { continue };
+            let Verdict::Refused { record, .. } = yestrwyn_second::check(0, &file).verdict else { continue };
             let end = usize::from(record) * RECORD_BYTES;
             if matches!(file.get(end), Some(5..=7)) {
                 assert_eq!(checks.held(&file), checks.held(&file[..end]));

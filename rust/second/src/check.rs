@@ -15,24 +15,25 @@ pub struct StepWork {
     pub work: u32,
 }
 
-/// Checks a file.
-pub fn check(file: &[u8]) -> Answer {
-    check_into(file, &mut Cells::new().lend())
+/// Checks a file on a day.
+pub fn check(day: u16, file: &[u8]) -> Answer {
+    check_into(day, file, &mut Cells::new().lend())
 }
 
-/// Checks a file and fills the four tables. Cells past their least lengths are left alone, and with
-/// reasons 1 and 2 so are the tables.
-pub fn check_into(file: &[u8], tables: &mut Tables<'_>) -> Answer {
-    check_tables(file, tables, &mut Vec::new()).0
+/// Checks a file on a day and fills the four tables, which do not depend on the day. Cells past their least
+/// lengths are left alone, and with reasons 1 and 2 so are the tables.
+pub fn check_into(day: u16, file: &[u8], tables: &mut Tables<'_>) -> Answer {
+    check_tables(day, file, tables, &mut Vec::new()).0
 }
 
 /// The same check, which also adds the work of each step to `works`.
-pub fn check_counting(file: &[u8], tables: &mut Tables<'_>, works: &mut Vec<StepWork>) -> Answer {
-    check_tables(file, tables, works).0
+pub fn check_counting(day: u16, file: &[u8], tables: &mut Tables<'_>, works: &mut Vec<StepWork>) -> Answer {
+    check_tables(day, file, tables, works).0
 }
 
 /// The check, with the checker that holds what stands if any record was read.
 pub fn check_tables(
+    day: u16,
     file: &[u8],
     tables: &mut Tables<'_>,
     works: &mut Vec<StepWork>,
@@ -45,7 +46,7 @@ pub fn check_tables(
     }
     let (checker, refusal) = read_records(file, works);
     fill(tables, &checker);
-    (checker.answer(refusal), Some(checker))
+    (checker.answer(day, refusal), Some(checker))
 }
 
 /// Reads records up to the end or the first one that does not stand.

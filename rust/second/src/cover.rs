@@ -25,7 +25,8 @@ pub fn covers(file: &[u8], c: u16, d: u16) -> Covering {
 
 /// The same, which leaves the tables as the check of the file does.
 pub fn covers_into(file: &[u8], c: u16, d: u16, tables: &mut Tables<'_>) -> Covering {
-    match check_tables(file, tables, &mut Vec::new()) {
+    // Whether a file stands does not depend on the day, so any will do.
+    match check_tables(0, file, tables, &mut Vec::new()) {
         (answer, Some(checker)) if !matches!(answer.verdict, Verdict::Refused { .. }) => {
             compare(&checker, c, d)
         }

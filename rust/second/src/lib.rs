@@ -1,10 +1,10 @@
 //! A second checker of resolution proof files, beside the proved one and unproved itself.
 //!
 //! A file holds symbols, rows (shared terms), input clauses, and resolution and factoring steps.
-//! [`check()`] answers whether every record stands and whether some clause is empty, and fills four
-//! tables; [`readout()`] writes every clause in plain symbols; [`covers()`] answers whether one input
-//! clause covers another. Derived clauses are never written out: a clause is its parents and the
-//! bindings that its own unification added.
+//! [`check()`] answers whether every record stands and whether some clause is empty that is made of
+//! rules in force on a day, and fills four tables; [`readout()`] writes every clause in plain symbols;
+//! [`covers()`] answers whether one input clause covers another. Derived clauses are never written out: a
+//! clause is its parents and the bindings that its own unification added.
 
 #![forbid(unsafe_code)]
 
@@ -12,6 +12,7 @@ pub mod check;
 pub mod checker;
 pub mod clause;
 pub mod cover;
+pub mod days;
 pub mod earliest;
 pub mod environment;
 pub mod expression;

@@ -11,15 +11,15 @@ use crate::clause::{all_literals, Literal};
 use crate::environment::Environment;
 use crate::expression::{Expression, Followed, Node};
 
-/// The readout of a file.
-pub fn readout(file: &[u8]) -> Vec<u8> {
-    readout_into(file, &mut Cells::new().lend())
+/// The readout of a file. Its first line goes by the day, the others do not.
+pub fn readout(day: u16, file: &[u8]) -> Vec<u8> {
+    readout_into(day, file, &mut Cells::new().lend())
 }
 
 /// The same, which leaves the tables as the check of the file does.
-pub fn readout_into(file: &[u8], tables: &mut Tables<'_>) -> Vec<u8> {
+pub fn readout_into(day: u16, file: &[u8], tables: &mut Tables<'_>) -> Vec<u8> {
     let mut text = Vec::new();
-    let (answer, checker) = check_tables(file, tables, &mut Vec::new());
+    let (answer, checker) = check_tables(day, file, tables, &mut Vec::new());
     first_line(&mut text, &answer);
     if let Some(mut checker) = checker {
         for clause in 0..answer.clauses {
@@ -30,8 +30,13 @@ pub fn readout_into(file: &[u8], tables: &mut Tables<'_>) -> Vec<u8> {
 }
 
 /// The same readout, written line by line, so that no more than a line is held in memory.
-pub fn write_readout(file: &[u8], tables: &mut Tables<'_>, out: &mut impl Write) -> io::Result<Answer> {
-    let (answer, checker) = check_tables(file, tables, &mut Vec::new());
+pub fn write_readout(
+    day: u16,
+    file: &[u8],
+    tables: &mut Tables<'_>,
+    out: &mut impl Write,
+) -> io::Result<Answer> {
+    let (answer, checker) = check_tables(day, file, tables, &mut Vec::new());
     let mut text = Vec::new();
     first_line(&mut text, &answer);
     out.write_all(&text)?;

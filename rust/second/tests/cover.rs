@@ -324,7 +324,7 @@ fn tables_are_left_as_by_the_check() {
         let more = [0, 1, 2, 3].map(|table| if Some(table) == short { -1 } else { table as isize });
         let [mut ours, mut theirs] = [marked(more), marked(more)];
         let covering = covers_into(&file, 0, 1, &mut lend(&mut ours));
-        let answer = check_into(&file, &mut lend(&mut theirs));
+        let answer = check_into(0, &file, &mut lend(&mut theirs));
         assert!(ours == theirs, "seed {seed}");
         if matches!(answer.numbers(), [2, ..]) {
             assert_eq!(covering.numbers(), REFUSED, "seed {seed}");

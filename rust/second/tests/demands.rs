@@ -6,9 +6,10 @@ mod textbook;
 
 use reference::{Clause as Shared, Expr, From, Reference, Row};
 use textbook::{canonical, factor, resolvent, size, unsatisfiable, Clause, Term};
-use yestrwyn_vectors::examples::{cases, published};
-use yestrwyn_vectors::outcome::outcome;
-use yestrwyn_vectors::{clashing_file, clashing_several_file, random_file, repeating_file, several_file};
+use yestrwyn_vectors::examples::{cases, days, published};
+use yestrwyn_vectors::outcome::outcome_on;
+use yestrwyn_vectors::several_file;
+use yestrwyn_vectors::{clashing_file, clashing_several_file, dated_file, random_file, repeating_file};
 
 /// Terms larger than this are not written out.
 const LARGEST: usize = 3000;
@@ -80,11 +81,12 @@ fn refusal_is_textbook(name: &str, state: &Reference, file: &[u8]) -> bool {
     true
 }
 
-/// The instances of the uses of the first empty clause are ground and have no model.
-fn instances_have_no_model(name: &str, state: &Reference, maximum: u16) -> bool {
-    let Some(empty) = state.first_empty() else { return false };
+/// The instances of the uses of the accepted clause are of clauses in force, are ground and have no model.
+fn instances_have_no_model(day: u16, name: &str, state: &Reference, maximum: u16) -> bool {
+    let Some(empty) = state.accepted(day) else { return false };
     let uses = state.uses(empty);
     assert_eq!(uses.len(), usize::from(maximum), "uses of {name}");
+    assert!(uses.iter().all(|&used| state.in_force(used, day)), "uses of {name} on day {day}");
     let mut room = 20 * LARGEST;
     let mut instances = Vec::new();
     for (&used, k) in uses.iter().zip(1u16..) {
@@ -99,15 +101,20 @@ fn instances_have_no_model(name: &str, state: &Reference, maximum: u16) -> bool 
     true
 }
 
-/// All of these for one file; says how much could be compared.
+/// All of these for one file on day 0; says how much could be compared.
 fn hold(name: &str, file: &[u8]) -> (usize, bool, bool) {
+    hold_on(0, name, file)
+}
+
+/// The same on a day.
+fn hold_on(day: u16, name: &str, file: &[u8]) -> (usize, bool, bool) {
     let state = Reference::check(file);
-    let ours = outcome(file);
-    assert_eq!(ours.answer.numbers(), state.answer(), "answer of {name}");
+    let ours = outcome_on(day, file);
+    assert_eq!(ours.answer.numbers(), state.answer_on(day), "answer of {name}");
     let compared = clauses_are_textbook(name, &state);
     let refused = refusal_is_textbook(name, &state, file);
-    let maximum = state.first_empty().map_or(0, |empty| ours.cells.clauses[5 * empty + 2]);
-    (compared, refused, instances_have_no_model(name, &state, maximum))
+    let maximum = state.accepted(day).map_or(0, |empty| ours.cells.clauses[5 * empty + 2]);
+    (compared, refused, instances_have_no_model(day, name, &state, maximum))
 }
 
 #[test]
@@ -166,6 +173,22 @@ fn files_with_steps_on_several_literals() {
     assert!(compared > 15_000, "{compared} clauses compared");
     assert!(refused > 250, "{refused} refusals compared");
     assert!(refuted > 250, "{refuted} refutations tested");
+}
+
+#[test]
+fn files_with_days() {
+    // A count of three hundred steps is too much for the textbook.
+    for example in days::examples().iter().filter(|example| !example.name.contains("steps-on")) {
+        if !example.name.starts_with("case-K") {
+            hold_on(example.day, &example.name, &example.file);
+        }
+    }
+    let refuted = |seed: &u64| {
+        let (day, file) = dated_file(*seed);
+        hold_on(day, &format!("dated {seed}"), &file).2
+    };
+    let count = (0..2500).filter(refuted).count();
+    assert!(count > 300, "{count} refutations tested");
 }
 
 #[test]

@@ -28,7 +28,7 @@ fn heavy_files_stand_to_their_last_record() {
     assert_eq!(names, BUILT.map(|(name, ..)| name));
     for (example, (name, work, literals, index)) in examples.iter().zip(BUILT) {
         let (mut cells, mut works) = (Cells::new(), Vec::new());
-        let answer = check_counting(&example.file, &mut cells.lend(), &mut works);
+        let answer = check_counting(0, &example.file, &mut cells.lend(), &mut works);
         assert!(!matches!(answer.verdict, Verdict::Refused { .. }), "{name}: {answer}");
         let records = usize::from(answer.symbols + answer.rows + answer.clauses);
         assert_eq!(records, example.file.len() / 16, "{name}");

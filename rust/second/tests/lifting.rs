@@ -318,11 +318,11 @@ fn lifts_in(met: &mut Met, name: &str, file: &[u8], seed: u64) {
     let mut checker = Checker::new();
     for bytes in file.chunks_exact(RECORD_BYTES) {
         let record = Record::from_bytes(bytes.try_into().expect("sixteen bytes"));
-        let before = checker.answer(None);
+        let before = checker.answer(0, None);
         match record.kind {
             kind::RESOLVE | kind::FACTOR | kind::RESOLVE_SEVERAL => {
                 lifts(met, name, &mut checker, &record, &mut random);
-                if checker.answer(None) == before {
+                if checker.answer(0, None) == before {
                     break;
                 }
             }

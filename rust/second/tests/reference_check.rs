@@ -3,25 +3,32 @@
 mod reference;
 
 use reference::Reference;
-use yestrwyn_vectors::examples::{cases, deep, edges, published, refusals, Example};
-use yestrwyn_vectors::outcome::outcome;
+use yestrwyn_vectors::examples::{cases, days, deep, edges, published, refusals, Example};
+use yestrwyn_vectors::outcome::outcome_on;
 use yestrwyn_vectors::random::random_file_of;
 use yestrwyn_vectors::repeating::rows_at_random;
-use yestrwyn_vectors::{clashing_file, clashing_several_file, damage, random_file, repeating_file};
+use yestrwyn_vectors::{
+    clashing_file, clashing_several_file, damage, dated_file, random_file, repeating_file,
+};
 use yestrwyn_vectors::{several_file, several_file_of};
 
-/// Answer, all table cells, works and readout agree.
+/// Answer, all table cells, works and readout agree on day 0.
 fn agree(name: &str, file: &[u8]) {
-    let ours = outcome(file);
+    agree_on(0, name, file);
+}
+
+/// The same on a day.
+fn agree_on(day: u16, name: &str, file: &[u8]) {
+    let ours = outcome_on(day, file);
     let theirs = Reference::check(file);
-    assert_eq!(ours.answer.numbers(), theirs.answer(), "answer of {name}");
+    assert_eq!(ours.answer.numbers(), theirs.answer_on(day), "answer of {name} on day {day}");
     for (cells, used) in ours.tables().into_iter().zip(theirs.tables()) {
         assert_eq!(cells[..used.len()], used, "table of {name}");
         assert!(cells[used.len()..].iter().all(|&cell| cell == 0), "rest of a table of {name}");
     }
     let works: Vec<(u16, u32)> = ours.works.iter().map(|step| (step.record, step.work)).collect();
     assert_eq!(works, theirs.works, "works of {name}");
-    assert_eq!(String::from_utf8_lossy(&ours.readout), theirs.readout(), "readout of {name}");
+    assert_eq!(String::from_utf8_lossy(&ours.readout), theirs.readout_on(day), "readout of {name}");
 }
 
 fn agree_all(examples: Vec<Example>) {
@@ -93,6 +100,21 @@ fn files_with_repeated_rows() {
     for seed in 0..2000 {
         agree(&format!("repeating {seed}"), &repeating_file(seed));
         agree(&format!("repeating {seed}, damaged"), &damage(&repeating_file(seed), seed));
+    }
+}
+
+#[test]
+fn files_with_days() {
+    for example in days::examples() {
+        agree_on(example.day, &example.name, &example.file);
+    }
+    for seed in 0..3000 {
+        let (day, file) = dated_file(seed);
+        for day in [day.wrapping_sub(1), day, day.wrapping_add(1)] {
+            agree_on(day, &format!("dated {seed}"), &file);
+        }
+        agree_on(day, &format!("dated {seed}, damaged"), &damage(&file, seed));
+        agree_on(day, &format!("dated {seed}, rows repeated"), &rows_at_random(&file, seed).file);
     }
 }
 

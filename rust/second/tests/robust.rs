@@ -1,12 +1,12 @@
 //! Any bytes at all: an answer, no panic, and nothing written outside what the answer allows.
 
 use yestrwyn_second::{check_into, readout_into};
-use yestrwyn_types::record::{input_literals, part, Record};
-use yestrwyn_types::{Reason, Tables, Verdict, LENGTHS};
-use yestrwyn_vectors::examples::{cases, edges, published, refusals};
+use yestrwyn_types::record::{input_literals, kind, part, Record};
+use yestrwyn_types::{Answer, Reason, Tables, Verdict, LENGTHS};
+use yestrwyn_vectors::examples::{cases, days, edges, published, refusals};
 use yestrwyn_vectors::random::SplitMix64;
 use yestrwyn_vectors::sketch::Sketch;
-use yestrwyn_vectors::{damage, random_file, several_file};
+use yestrwyn_vectors::{damage, dated_file, random_file, several_file};
 
 const MARK: u16 = 0xabcd;
 
@@ -15,12 +15,17 @@ fn marked(extra: usize) -> [Vec<u16>; 4] {
     LENGTHS.map(|length| vec![MARK; length + extra])
 }
 
-/// Checks a file and tests what must hold of every answer.
+/// Checks a file on day 0 and tests what must hold of every answer.
 fn holds(file: &[u8]) {
+    holds_on(0, file);
+}
+
+/// The same on a day.
+fn holds_on(day: u16, file: &[u8]) {
     let [mut symbols, mut rows, mut clauses, mut bindings] = marked(3);
     let mut lent =
         Tables { symbols: &mut symbols, rows: &mut rows, clauses: &mut clauses, bindings: &mut bindings };
-    let answer = check_into(file, &mut lent);
+    let answer = check_into(day, file, &mut lent);
     let tables = [symbols, rows, clauses, bindings];
     let untouched = matches!(answer.verdict, Verdict::Refused { reason: Reason::Length | Reason::Table, .. });
     let counts = [answer.symbols, answer.rows, answer.clauses * 5, answer.bindings * 4];
@@ -29,24 +34,40 @@ fn holds(file: &[u8]) {
         let zero = &table[usize::from(used)..length];
         assert!(zero.iter().all(|&cell| cell == if untouched { MARK } else { 0 }), "cells not used");
     }
-    let clauses_empty = (0..answer.clauses).find(|&clause| tables[2][5 * usize::from(clause) + 1] == 0);
+    verdict_agrees(file, &answer, &tables[2]);
+    readout_agrees(day, file, &tables, untouched);
+}
+
+/// The verdict fits the clauses and the other counts. Windows are in no table, and without any the first empty clause is
+/// accepted.
+fn verdict_agrees(file: &[u8], answer: &Answer, clauses: &[u16]) {
+    let windows = |records: usize| {
+        let kinds = file.iter().step_by(16).take(records);
+        kinds.filter(|&&byte| byte == kind::WINDOW).count()
+    };
+    let is_empty = |clause: &u16| clauses[5 * usize::from(*clause) + 1] == 0;
+    let first = (0..answer.clauses).find(is_empty);
     match answer.verdict {
-        Verdict::Accepted(clause) => assert_eq!(Some(clause), clauses_empty),
-        Verdict::Open => assert_eq!(None, clauses_empty),
+        Verdict::Accepted(clause) => assert!(is_empty(&clause) && first <= Some(clause)),
+        Verdict::Open => assert!(first.is_none() || windows(usize::MAX) > 0),
         Verdict::Refused { record, .. } => {
-            let before = answer.symbols + answer.rows + answer.clauses;
-            assert_eq!(record, before, "every record before the refused one stands");
+            let counted = usize::from(answer.symbols + answer.rows + answer.clauses);
+            let before = counted + windows(usize::from(record));
+            assert_eq!(usize::from(record), before, "every record before the refused one stands");
+            return;
         }
     }
-    readout_agrees(file, &tables, untouched);
+    if windows(usize::MAX) == 0 {
+        assert_eq!(answer.verdict, first.map_or(Verdict::Open, Verdict::Accepted));
+    }
 }
 
 /// The readout leaves the tables as the check does and has a line for each clause.
-fn readout_agrees(file: &[u8], tables: &[Vec<u16>; 4], untouched: bool) {
+fn readout_agrees(day: u16, file: &[u8], tables: &[Vec<u16>; 4], untouched: bool) {
     let [mut symbols, mut rows, mut clauses, mut bindings] = marked(3);
     let mut lent =
         Tables { symbols: &mut symbols, rows: &mut rows, clauses: &mut clauses, bindings: &mut bindings };
-    let text = readout_into(file, &mut lent);
+    let text = readout_into(day, file, &mut lent);
     assert_eq!([&symbols, &rows, &clauses, &bindings], tables.each_ref());
     assert!(text.ends_with(b"\n") && text.is_ascii());
     let lines = text.iter().filter(|&&byte| byte == b'\n').count();
@@ -75,7 +96,7 @@ fn random_records() {
             let used = random.below(8);
             let mut fields = [0; 7];
             fields[..used].fill_with(|| random.below(5) as u16);
-            file.raw(Record { kind: random.between(1, 6) as u8, count: random.below(3) as u8, fields });
+            file.raw(Record { kind: random.between(1, 8) as u8, count: random.below(3) as u8, fields });
         }
         holds(&file.finish());
     }
@@ -98,6 +119,19 @@ fn damaged_files() {
 }
 
 #[test]
+fn files_with_days() {
+    for example in days::examples() {
+        holds_on(example.day, &example.file);
+    }
+    for seed in 0..600 {
+        let (day, file) = dated_file(seed);
+        holds_on(day, &file);
+        holds_on(day, &damage(&file, seed));
+        holds_on(day.wrapping_add(1), &damage(&damage(&file, seed), seed + 1));
+    }
+}
+
+#[test]
 fn edges_damaged() {
     for (example, seed) in edges::examples().iter().zip(0u64..) {
         holds(&example.file);
@@ -114,9 +148,9 @@ fn short_tables_give_2_and_stay() {
             tables[short].truncate(length);
             let [symbols, rows, clauses, bindings] = &mut tables;
             let mut lent = Tables { symbols, rows, clauses, bindings };
-            let answer = check_into(&file, &mut lent);
+            let answer = check_into(0, &file, &mut lent);
             assert_eq!(answer.numbers(), [2, 2, 0, 0, 0, 0, 0]);
-            let text = readout_into(&file, &mut lent);
+            let text = readout_into(0, &file, &mut lent);
             assert_eq!(text, b"refused 2 at 0\n");
             assert!(tables.iter().flatten().all(|&cell| cell == MARK));
         }
@@ -126,9 +160,9 @@ fn short_tables_give_2_and_stay() {
 #[test]
 fn a_bad_length_comes_before_short_tables() {
     let none = || Tables { symbols: &mut [], rows: &mut [], clauses: &mut [], bindings: &mut [] };
-    let answer = check_into(&[0; 15], &mut none());
+    let answer = check_into(0, &[0; 15], &mut none());
     assert_eq!(answer.numbers(), [2, 1, 0, 0, 0, 0, 0]);
-    let answer = check_into(&[0; 16], &mut none());
+    let answer = check_into(0, &[0; 16], &mut none());
     assert_eq!(answer.numbers(), [2, 2, 0, 0, 0, 0, 0]);
 }
 

@@ -76,7 +76,7 @@ fn one_right_literal_is_kind_5() {
     let named = [cases::examples(), published(), refusals::examples(), edges::examples()].concat();
     let deep = deep::examples().into_iter().filter(|example| !example.name.starts_with("deep-derivation"));
     let mut differing = 0;
-    for Example { name, file } in named.into_iter().chain(deep) {
+    for Example { name, file, .. } in named.into_iter().chain(deep) {
         differing += usize::from(same_by_kind_7(&name, &file));
     }
     for seed in 0..3000 {

@@ -10,9 +10,10 @@ pub const ANSWER_CELLS: usize = 7;
 /// The verdict on a file. It is displayed as the first line of a readout, without the line feed.
 #[derive(Clone, Copy, PartialEq, Eq, Hash, Debug)]
 pub enum Verdict {
-    /// Every record stands; the number is that of the first clause without literals.
+    /// Every record stands; the number is that of the first clause without literals whose derivation uses only input
+    /// clauses in force on the day of the check.
     Accepted(u16),
-    /// Every record stands and no clause is empty.
+    /// Every record stands and no clause is such a one.
     Open,
     /// The record does not stand (record 0 for reasons 1 and 2).
     Refused {

@@ -12,11 +12,12 @@ pub enum Reason {
     Length,
     /// A lent table is too short.
     Table,
-    /// Kind not 1 to 7.
+    /// Kind not 1 to 8.
     Kind,
     /// Byte 1 or a variable number out of its range, or an unused field not zero.
     Range,
-    /// A symbol, row, clause or literal that does not exist, or an argument count that is not the arity.
+    /// A symbol, row, clause or literal that does not exist, an argument count that is not the arity, or days for a clause
+    /// that is not an input clause.
     Missing,
     /// A row equal to an earlier row. No check gives this any more, since such a row is taken as the earlier one;
     /// the number stays reserved, so that an answer stored by an earlier version can still be read.
@@ -40,12 +41,14 @@ pub enum Reason {
     /// Two clauses are not compared: the file does not stand, or one of them is not an input clause of it. No check gives
     /// this, only the question whether one clause covers another.
     NoComparison,
+    /// The first day is after the last, of a clause that is given its days. This comes after 5.
+    Crossed,
     /// A number that this version does not know: a refusal all the same.
     Other(u16),
 }
 
 /// The reasons that have a name, from number 1 on.
-const NAMED: [Reason; 15] = [
+const NAMED: [Reason; 16] = [
     Reason::Length,
     Reason::Table,
     Reason::Kind,
@@ -61,6 +64,7 @@ const NAMED: [Reason; 15] = [
     Reason::Bindings,
     Reason::Order,
     Reason::NoComparison,
+    Reason::Crossed,
 ];
 
 impl Reason {
@@ -82,6 +86,7 @@ impl Reason {
             Reason::Bindings => 13,
             Reason::Order => 14,
             Reason::NoComparison => 15,
+            Reason::Crossed => 16,
             Reason::Other(number) => number,
         }
     }
@@ -98,12 +103,13 @@ impl fmt::Display for Reason {
         out.write_str(match self {
             Reason::Length => "the length is over 65,536 bytes or not a multiple of 16",
             Reason::Table => "a lent table is too short",
-            Reason::Kind => "the kind is not 1 to 7",
+            Reason::Kind => "the kind is not 1 to 8",
             Reason::Range => {
                 "byte 1 or the variable number is out of its range, or an unused field is not zero"
             }
             Reason::Missing => {
-                "a symbol, row, clause or literal does not exist, or the number of arguments is not the arity"
+                "a symbol, row, clause or literal does not exist, the number of arguments is not the arity, or a \
+                 clause that is given its days is not an input clause"
             }
             Reason::Repeated => "the row is equal to an earlier one",
             Reason::VariableLiteral => "the row of a literal is a variable",
@@ -115,6 +121,7 @@ impl fmt::Display for Reason {
             Reason::Bindings => "a binding is to be added and 8,192 are held",
             Reason::Order => "the right literals of the step do not strictly rise",
             Reason::NoComparison => "the file does not stand, or a clause named is not an input clause of it",
+            Reason::Crossed => "the first day is after the last",
             Reason::Other(number) => return write!(out, "reason {number}"),
         })
     }

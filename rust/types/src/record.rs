@@ -18,6 +18,8 @@ pub mod kind {
     pub const FACTOR: u8 = 6;
     /// A resolution step on one literal of the left clause and one to four of the right.
     pub const RESOLVE_SEVERAL: u8 = 7;
+    /// The days on which an input clause is in force. It is no clause itself.
+    pub const WINDOW: u8 = 8;
 }
 
 /// A record as the file has it; nothing is tested yet.

@@ -7,13 +7,14 @@ fn reasons_are_their_numbers() {
     for number in 0..100 {
         let reason = Reason::from_number(number);
         assert_eq!(reason.number(), number);
-        assert_eq!(matches!(reason, Reason::Other(_)), !(1..=15).contains(&number), "{reason:?}");
+        assert_eq!(matches!(reason, Reason::Other(_)), !(1..=16).contains(&number), "{reason:?}");
     }
     assert_eq!(Reason::Clash.to_string(), "two different symbols meet");
     assert_eq!(Reason::Order.to_string(), "the right literals of the step do not strictly rise");
     let nothing = "the file does not stand, or a clause named is not an input clause of it";
     assert_eq!(Reason::NoComparison.to_string(), nothing);
-    assert_eq!(Reason::Other(16).to_string(), "reason 16");
+    assert_eq!(Reason::Crossed.to_string(), "the first day is after the last");
+    assert_eq!(Reason::Other(17).to_string(), "reason 17");
 }
 
 #[test]

@@ -260,7 +260,8 @@ impl Clauses {
     fn ending(&mut self) {
         if self.random.one_in(8) {
             let steps: Vec<Sketch> = (0..20).map(|_| self.with_step()).collect();
-            let standing = |file: &&Sketch| !matches!(check(file.bytes()).verdict, Verdict::Refused { .. });
+            let standing =
+                |file: &&Sketch| !matches!(check(0, file.bytes()).verdict, Verdict::Refused { .. });
             if let Some(file) = steps.iter().find(standing) {
                 self.file = file.clone();
             }

@@ -16,12 +16,17 @@ pub struct Outcome {
     pub readout: Vec<u8>,
 }
 
-/// Checks a file with tables that are just long enough and zero before.
+/// Checks a file on day 0, with tables that are just long enough and zero before.
 pub fn outcome(file: &[u8]) -> Outcome {
+    outcome_on(0, file)
+}
+
+/// The same on any day.
+pub fn outcome_on(day: u16, file: &[u8]) -> Outcome {
     let mut cells = Cells::new();
     let mut works = Vec::new();
-    let answer = check_counting(file, &mut cells.lend(), &mut works);
-    let readout = readout_into(file, &mut cells.lend());
+    let answer = check_counting(day, file, &mut cells.lend(), &mut works);
+    let readout = readout_into(day, file, &mut cells.lend());
     Outcome { answer, cells, works, readout }
 }
 

@@ -104,7 +104,7 @@ impl Sketch {
     }
 
     /// Writes any record and returns its own number among symbols, rows or clauses
-    /// (the record number for a kind that does not exist). Equal rows are written again.
+    /// (the record number for a window, or a kind that does not exist). Equal rows are written again.
     pub fn raw(&mut self, record: Record) -> u16 {
         let at = self.records();
         self.bytes.extend_from_slice(&record.to_bytes());
@@ -201,6 +201,11 @@ impl Sketch {
         let given = [&[left, left_literal, right], right_literals].concat();
         let count = u8::try_from(right_literals.len()).unwrap_or(u8::MAX);
         self.fields(kind::RESOLVE_SEVERAL, count, &given)
+    }
+
+    /// The first and last day on which an input clause is in force.
+    pub fn window(&mut self, clause: u16, first: u16, last: u16) {
+        self.fields(kind::WINDOW, 0, &[clause, first, last]);
     }
 
     /// An equal row if there is one, otherwise a new one.

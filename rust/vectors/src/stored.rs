@@ -5,8 +5,9 @@ use std::fmt::Write;
 use std::path::{Path, PathBuf};
 
 use crate::clashing::{clashing_file, clashing_several_file};
-use crate::examples::{cases, deep, edges, published, refusals, Example};
-use crate::outcome::{outcome, Outcome};
+use crate::dated::dated_file;
+use crate::examples::{cases, days, deep, edges, published, refusals, Example};
+use crate::outcome::{outcome_on, Outcome};
 use crate::random::{damage, random_file, random_file_of, several_file, several_file_of};
 use crate::repeating::repeating_file;
 
@@ -17,7 +18,7 @@ const READOUT_IN_FULL: usize = 4096;
 /// At most this many works are written in full.
 const WORKS_IN_FULL: usize = 400;
 /// Number of random files, of those made to clash, of those with repeated rows, of those with steps on several right
-/// literals, and of longer ones without and with such steps.
+/// literals, of longer ones without and with such steps, and of those with windows.
 const RANDOM_FILES: u64 = 1000;
 const CLASHING_FILES: u64 = 40;
 const REPEATING_FILES: u64 = 20;
@@ -25,23 +26,48 @@ const SEVERAL_FILES: u64 = 30;
 const CLASHING_SEVERAL_FILES: u64 = 8;
 const LONG_FILES: u64 = 40;
 const LONG_SEVERAL_FILES: u64 = 12;
+const DATED_FILES: u64 = 200;
 
 /// A group of vectors: the name of its two files, and the proof files in order.
 pub struct Group {
     pub name: &'static str,
+    /// Is a file's day in the pack? Otherwise all files are checked on day 0.
+    pub dated: bool,
     pub examples: Vec<Example>,
+}
+
+impl Group {
+    /// A group on day 0.
+    fn plain(name: &'static str, examples: Vec<Example>) -> Group {
+        Group { name, dated: false, examples }
+    }
+
+    /// What the pack has of a file: in a dated group what the program `proofread` reads.
+    pub fn entry(&self, example: &Example) -> Vec<u8> {
+        if self.dated {
+            example.input()
+        } else {
+            example.file.clone()
+        }
+    }
+
+    /// The pack of the group.
+    pub fn pack(&self) -> Vec<u8> {
+        pack(self.examples.iter().map(|example| self.entry(example)))
+    }
 }
 
 /// All groups that are stored.
 pub fn groups() -> Vec<Group> {
     vec![
-        Group { name: "cases", examples: cases::examples() },
-        Group { name: "published", examples: published() },
-        Group { name: "edges", examples: edges::examples() },
-        Group { name: "refused", examples: refusals::examples() },
-        Group { name: "deep", examples: deep::examples() },
-        Group { name: "random", examples: random_examples() },
-        Group { name: "long", examples: long_examples() },
+        Group::plain("cases", cases::examples()),
+        Group::plain("published", published()),
+        Group::plain("edges", edges::examples()),
+        Group::plain("refused", refusals::examples()),
+        Group::plain("deep", deep::examples()),
+        Group::plain("random", random_examples()),
+        Group::plain("long", long_examples()),
+        Group { name: "days", dated: true, examples: dated_examples() },
     ]
 }
 
@@ -100,18 +126,28 @@ fn long_examples() -> Vec<Example> {
     plain.chain(several).collect()
 }
 
-/// A pack of files: for each four bytes of length, low byte first, and its bytes.
-pub fn pack(examples: &[Example]) -> Vec<u8> {
+/// Files with records of kind 8 on their days, then random ones.
+fn dated_examples() -> Vec<Example> {
+    let mut all = days::examples();
+    all.extend((0..DATED_FILES).map(|seed| {
+        let (day, file) = dated_file(seed);
+        Example::on(day, &format!("dated-{seed}"), file)
+    }));
+    all
+}
+
+/// A pack: for each entry four bytes of length, low byte first, and its bytes.
+pub fn pack(entries: impl IntoIterator<Item = Vec<u8>>) -> Vec<u8> {
     let mut bytes = Vec::new();
-    for example in examples {
-        let length = u32::try_from(example.file.len()).unwrap_or(u32::MAX);
+    for entry in entries {
+        let length = u32::try_from(entry.len()).unwrap_or(u32::MAX);
         bytes.extend_from_slice(&length.to_le_bytes());
-        bytes.extend_from_slice(&example.file);
+        bytes.extend_from_slice(&entry);
     }
     bytes
 }
 
-/// The files of a pack, or none if it is cut short.
+/// The entries of a pack, or none if it is cut short.
 pub fn unpack(mut bytes: &[u8]) -> Option<Vec<&[u8]>> {
     let mut files = Vec::new();
     while !bytes.is_empty() {
@@ -123,11 +159,17 @@ pub fn unpack(mut bytes: &[u8]) -> Option<Vec<&[u8]>> {
     Some(files)
 }
 
+/// The day and the file of an entry of a dated group, if it has two bytes for the day.
+pub fn day_and_file(entry: &[u8]) -> Option<(u16, &[u8])> {
+    let (&day, file) = entry.split_first_chunk()?;
+    Some((u16::from_le_bytes(day), file))
+}
+
 /// What every file of a group gives, as text.
 pub fn expected(group: &Group) -> String {
     let mut text = String::new();
     for example in &group.examples {
-        describe(&mut text, &example.name, &outcome(&example.file));
+        describe(&mut text, &example.name, &outcome_on(example.day, &example.file));
     }
     text
 }
@@ -163,7 +205,7 @@ pub fn listing(groups: &[Group]) -> String {
     for group in groups {
         line(&mut text, group.name, &group.examples.len());
         for (place, example) in group.examples.iter().enumerate() {
-            let outcome = outcome(&example.file);
+            let outcome = outcome_on(example.day, &example.file);
             let answer = joined(outcome.answer.numbers());
             let rest = format!("{answer} {} {}", hashes(&outcome), readout_hash(&outcome));
             line(&mut text, &place.to_string(), &rest);

@@ -44,7 +44,7 @@ fn all_answers_are_met() {
     for seed in 0..500 {
         let file = covering_file(seed);
         assert_eq!(file, covering_file(seed), "seed {seed}");
-        let answer = check(&file);
+        let answer = check(0, &file);
         if let Verdict::Refused { reason, record } = answer.verdict {
             // Only a record that is meant to be refused is, and it is the last.
             assert_eq!((reason, usize::from(record) + 1), (Reason::Kind, file.len() / 16), "seed {seed}");

@@ -30,7 +30,7 @@ fn the_largest_shapes_stand() {
             for ground in [0, 32, 64] {
                 let largest = largest(ending);
                 let shape = Shape { leaf_left, worked_first, ground, linked: 64 - ground, ..largest };
-                let answer = check(&shape.shortened(2));
+                let answer = check(0, &shape.shortened(2));
                 assert_eq!(answer.verdict, Verdict::Open, "{shape:?}");
             }
         }
@@ -42,7 +42,7 @@ fn other_shapes_stand_or_meet_a_limit() {
     let mut random = SplitMix64::new(1);
     for _ in 0..60 {
         let shape = Shape::random(&mut random);
-        match check(&shape.altered(&mut random).shortened(2)).verdict {
+        match check(0, &shape.altered(&mut random).shortened(2)).verdict {
             Verdict::Refused { reason: Reason::TooLarge | Reason::Work | Reason::Bindings, .. } => {}
             Verdict::Refused { reason, record } => panic!("{reason} at {record}: {shape:?}"),
             _ => {}

@@ -13,7 +13,8 @@ use crate::stack::with_stack;
 ///
 /// The file is checked first. If it does not stand, or a clause named is not an input clause of it, the answer is
 /// a refusal with [`Reason::NoComparison`](crate::Reason::NoComparison). All runs on a thread of its own with
-/// stack enough for every file; an error is the system's, where it gives no thread.
+/// stack enough for every file; an error is the system's, where it gives no thread. Days play no part: clauses are
+/// compared whether they are in force or not.
 ///
 /// ```no_run
 /// let file = std::fs::read("rulebook.proof")?;

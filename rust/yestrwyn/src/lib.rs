@@ -2,7 +2,8 @@
 //!
 //! ```no_run
 //! let file = std::fs::read("trip.proof")?;
-//! let answer = yestrwyn::check(&file)?;
+//! let day = 21_000; // 1 July 2027, where day 0 is 1 January 1970
+//! let answer = yestrwyn::check(day, &file)?;
 //! println!("{}", answer.verdict); // accepted N, open, or refused R at K
 //! # std::io::Result::Ok(())
 //! ```
@@ -11,6 +12,9 @@
 //! stay inside what they are lent, and give the verdict that the format's description says. This
 //! package hands slices to them and turns numbers into values; it is not proved, and it is the only
 //! one of this folder that calls them.
+//!
+//! Check and readout take a day: rules that a file gives a first and a last day are in force between these, and
+//! only a proof from rules in force is accepted.
 //!
 //! [`check()`], [`readout()`] and [`covers()`] take care of the stack themselves. Functions that end in `_here`
 //! run on the caller's, and say how much of it they need. A service that checks many files keeps a

@@ -34,17 +34,17 @@ pub struct Piece {
     pub rest: Rest,
 }
 
-/// The whole readout, made on a thread of its own with stack enough for every file.
-pub fn readout(file: &[u8]) -> io::Result<Vec<u8>> {
+/// The whole readout, made on a thread of its own with stack enough for every file. Its first line goes by the day.
+pub fn readout(day: u16, file: &[u8]) -> io::Result<Vec<u8>> {
     let mut text = Vec::new();
-    write_readout(file, &mut text)?;
+    write_readout(day, file, &mut text)?;
     Ok(text)
 }
 
 /// The same, written piece by piece. If it ends with an error, what was written is not the readout.
-pub fn write_readout(file: &[u8], out: &mut (impl Write + Send)) -> io::Result<()> {
+pub fn write_readout(day: u16, file: &[u8], out: &mut (impl Write + Send)) -> io::Result<()> {
     let (mut cells, mut output) = (Cells::new(), vec![0; ROOM]);
-    with_stack(|| write_readout_here(file, &mut cells.lend(), &mut output, out))?
+    with_stack(|| write_readout_here(day, file, &mut cells.lend(), &mut output, out))?
 }
 
 /// The same on the caller's own stack, of which 8 MiB must be left ([`check_here`](crate::check_here)
@@ -52,6 +52,7 @@ pub fn write_readout(file: &[u8], out: &mut (impl Write + Send)) -> io::Result<(
 /// for a line is an error: a readout is written whole or not called one. [`ENOUGH`] bytes have room for
 /// every line.
 pub fn write_readout_here(
+    day: u16,
     file: &[u8],
     tables: &mut Tables<'_>,
     output: &mut [u8],
@@ -59,7 +60,7 @@ pub fn write_readout_here(
 ) -> io::Result<()> {
     let mut clause = 0;
     loop {
-        let piece = readout_piece_here(file, tables, clause, output);
+        let piece = readout_piece_here(day, file, tables, clause, output);
         out.write_all(&output[..piece.written])?;
         match piece.rest {
             Rest::Complete => return Ok(()),
@@ -69,22 +70,29 @@ pub fn write_readout_here(
     }
 }
 
-/// Checks a file and writes as many whole lines of its readout as fit, from a clause on; from clause 0
+/// Checks a file on a day and writes as many whole lines of its readout as fit, from a clause on; from clause 0
 /// with the first line before them. Runs on a thread of its own with stack enough for every file.
 pub fn readout_piece(
+    day: u16,
     file: &[u8],
     tables: &mut Tables<'_>,
     clause: u16,
     output: &mut [u8],
 ) -> io::Result<Piece> {
-    with_stack(|| readout_piece_here(file, tables, clause, output))
+    with_stack(|| readout_piece_here(day, file, tables, clause, output))
 }
 
 /// The same on the caller's own stack, of which 8 MiB must be left: [`check_here`](crate::check_here)
 /// says why.
-pub fn readout_piece_here(file: &[u8], tables: &mut Tables<'_>, clause: u16, output: &mut [u8]) -> Piece {
+pub fn readout_piece_here(
+    day: u16,
+    file: &[u8],
+    tables: &mut Tables<'_>,
+    clause: u16,
+    output: &mut [u8],
+) -> Piece {
     let mut progress = [0; PROGRESS_CELLS];
-    readout_numbers(file, tables, clause, output, &mut progress);
+    readout_numbers(day, file, tables, clause, output, &mut progress);
     let [kind, written, next] = progress;
     let next = next as u16;
     let rest = match kind {

@@ -16,7 +16,7 @@ pub const STACK: usize = 8 << 20;
 /// // Many files on one such thread, with one set of tables.
 /// let mut cells = yestrwyn::Cells::new();
 /// let accepted = yestrwyn::with_stack(|| {
-///     let mut check = |file: &Vec<u8>| yestrwyn::check_here(file, &mut cells.lend());
+///     let mut check = |file: &Vec<u8>| yestrwyn::check_here(0, file, &mut cells.lend());
 ///     files().iter().filter(|file| check(file).verdict.is_accepted()).count()
 /// })?;
 /// # std::io::Result::Ok(())

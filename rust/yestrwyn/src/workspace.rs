@@ -18,7 +18,7 @@ use crate::stack::with_stack;
 /// // Many files on one thread with stack enough.
 /// let mut workspace = yestrwyn::Workspace::new();
 /// let accepted = yestrwyn::with_stack(|| {
-///     files().iter().filter(|file| workspace.check_here(file).verdict.is_accepted()).count()
+///     files().iter().filter(|file| workspace.check_here(0, file).verdict.is_accepted()).count()
 /// })?;
 /// # std::io::Result::Ok(())
 /// ```
@@ -35,32 +35,32 @@ impl Workspace {
         Workspace { nodes: zeros(), origins: zeros(), values: zeros(), cells: Cells::new() }
     }
 
-    /// Checks a file, on a thread of its own with stack enough for every file. An error is the system's,
+    /// Checks a file on a day, on a thread of its own with stack enough for every file. An error is the system's,
     /// where it gives no thread. To make the thread takes longer than to check a small file: a service has
     /// one thread for many files, and calls [`check_here`](Workspace::check_here) there.
-    pub fn check(&mut self, file: &[u8]) -> io::Result<Answer> {
-        with_stack(|| self.check_here(file))
+    pub fn check(&mut self, day: u16, file: &[u8]) -> io::Result<Answer> {
+        with_stack(|| self.check_here(day, file))
     }
 
     /// The same with tables that the caller lends in place of the workspace's own: afterwards they hold what
     /// stands. Tables that are too short are refused with reason 2.
-    pub fn check_into(&mut self, file: &[u8], tables: &mut Tables<'_>) -> io::Result<Answer> {
-        with_stack(|| self.check_into_here(file, tables))
+    pub fn check_into(&mut self, day: u16, file: &[u8], tables: &mut Tables<'_>) -> io::Result<Answer> {
+        with_stack(|| self.check_into_here(day, file, tables))
     }
 
-    /// Checks a file on the caller's own stack, of which 8 MiB ([`STACK`](crate::STACK)) must be left.
+    /// Checks a file on a day, on the caller's own stack, of which 8 MiB ([`STACK`](crate::STACK)) must be left.
     ///
     /// A check that runs out of stack ends the process. The arrays are not on the stack here, so that an
     /// ordinary file takes some 20 KiB of it; but a file can be made that takes 2.7 MiB, and how much a call
     /// takes is measured, not proved. A thread of Rust has 2 MiB unless told otherwise: see [`with_stack`].
-    pub fn check_here(&mut self, file: &[u8]) -> Answer {
+    pub fn check_here(&mut self, day: u16, file: &[u8]) -> Answer {
         let Workspace { nodes, origins, values, cells } = self;
-        run(file, &mut cells.lend(), &mut Arrays { nodes, origins, values })
+        run(day, file, &mut cells.lend(), &mut Arrays { nodes, origins, values })
     }
 
     /// The same with tables that the caller lends.
-    pub fn check_into_here(&mut self, file: &[u8], tables: &mut Tables<'_>) -> Answer {
-        run(file, tables, &mut self.lend())
+    pub fn check_into_here(&mut self, day: u16, file: &[u8], tables: &mut Tables<'_>) -> Answer {
+        run(day, file, tables, &mut self.lend())
     }
 
     /// The workspace's own tables: what stands of the last file that was checked without tables of the
@@ -83,9 +83,9 @@ impl Default for Workspace {
 }
 
 /// The check with its answer as a value.
-fn run(file: &[u8], tables: &mut Tables<'_>, arrays: &mut Arrays<'_>) -> Answer {
+fn run(day: u16, file: &[u8], tables: &mut Tables<'_>, arrays: &mut Arrays<'_>) -> Answer {
     let mut numbers = [0; ANSWER_CELLS];
-    check_numbers_with(file, tables, arrays, &mut numbers);
+    check_numbers_with(day, file, tables, arrays, &mut numbers);
     Answer::from_numbers(numbers)
 }
 

@@ -2,7 +2,10 @@
 
 use yestrwyn_builder::BuildError;
 
-use super::{covers, curfew, duty, permit, sheets, two_steps};
+use super::{covers, curfew, duty, permit, season, sheets, two_steps};
+
+/// Files whose readout is stored for another day too, beside that of day 0.
+pub const OTHER_DAYS: [(&str, u16); 1] = [("season", 21_000)];
 
 /// Every file of the folder `examples`, in the order of its page.
 pub fn files() -> Result<Vec<(&'static str, Vec<u8>)>, BuildError> {
@@ -11,6 +14,7 @@ pub fn files() -> Result<Vec<(&'static str, Vec<u8>)>, BuildError> {
         ("duty", duty::file()?),
         ("permit", permit::file()?),
         ("sheets", sheets::file()?),
+        ("season", season::file()?),
         ("covers", covers::file()?),
         ("refused", duty::refused_file()?),
         ("two_steps", two_steps::file()?),

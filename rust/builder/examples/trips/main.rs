@@ -1,9 +1,9 @@
-//! Four trips without a lawful plan and a small rulebook, written as proof files: copy one to begin a planner's writer.
+//! Five trips without a lawful plan and a small rulebook, written as proof files: copy one to begin a planner's writer.
 //!
 //!     cargo run --example trips
 //!
-//! writes each file, and its readout by the second implementation, into the folder `examples` of the
-//! repository. The page there says what every symbol and clause means.
+//! writes each file, and its readout on day 0 by the second implementation, into the folder `examples` of the
+//! repository; of some files the readout on another day too. The page there says what every symbol and clause means.
 
 use std::error::Error;
 use std::fs;
@@ -14,6 +14,7 @@ mod curfew;
 mod duty;
 mod files;
 mod permit;
+mod season;
 mod sheets;
 mod two_steps;
 
@@ -21,7 +22,10 @@ fn main() -> Result<(), Box<dyn Error>> {
     let folder = Path::new(env!("CARGO_MANIFEST_DIR")).join("../../examples");
     for (name, file) in files::files()? {
         fs::write(folder.join(format!("{name}.proof")), &file)?;
-        fs::write(folder.join(format!("{name}.txt")), yestrwyn_second::readout(&file))?;
+        fs::write(folder.join(format!("{name}.txt")), yestrwyn_second::readout(0, &file))?;
+        for (_, day) in files::OTHER_DAYS.iter().filter(|(other, _)| *other == name) {
+            fs::write(folder.join(format!("{name}-{day}.txt")), yestrwyn_second::readout(*day, &file))?;
+        }
     }
     Ok(())
 }

@@ -16,9 +16,9 @@ fn main() -> std::io::Result<()> {
         let mut bindings = [0u16; BINDING_CELLS];
         let mut tables =
             Tables { symbols: &mut symbols, rows: &mut rows, clauses: &mut clauses, bindings: &mut bindings };
-        println!("{:32} {}", example.name, check_here(&file[..length], &mut tables));
+        println!("{:32} {}", example.name, check_here(0, &file[..length], &mut tables));
         let (mut output, mut text) = (vec![0; ENOUGH], Vec::new());
-        write_readout_here(&file[..length], &mut tables, &mut output, &mut text)?;
+        write_readout_here(0, &file[..length], &mut tables, &mut output, &mut text)?;
         println!("{:32} {} bytes of readout", "", text.len());
         println!("{:32} {:?}", "", covers_here(&file[..length], 0, 0, &mut tables).outcome);
     }

@@ -1,5 +1,5 @@
 //! Compares the proved check, plain and for services, the proved readout and which clause covers which with the
-//! second implementation on files from a seed on:
+//! second implementation on files from a seed on, each on a day of its own:
 //!
 //! ```text
 //! differential SEED COUNT
@@ -12,7 +12,7 @@
 use std::process::ExitCode;
 
 use yestrwyn::with_stack;
-use yestrwyn_comparison::compare::{file_of, lengths_of, Pair};
+use yestrwyn_comparison::compare::{day_and_file_of, lengths_of, Pair};
 use yestrwyn_comparison::covers::{for_covering, Clauses, Coverings};
 use yestrwyn_comparison::pieces::Second;
 use yestrwyn_vectors::random::SplitMix64;
@@ -47,11 +47,11 @@ fn run(seed: u64, count: u64) -> ExitCode {
     let (mut both, mut tally) = (Both::default(), Tally::default());
     for place in 0..count {
         let own = seed.wrapping_add(place);
-        let file = file_of(own);
+        let (day, file) = day_and_file_of(own);
         tally.bytes += file.len() as u64;
-        if let Err(difference) = both.compare(&file, own, &mut tally) {
+        if let Err(difference) = both.compare(day, &file, own, &mut tally) {
             let hex: String = file.iter().map(|byte| format!("{byte:02x}")).collect();
-            println!("seed {own}: {difference}; {:?}; file {hex}", lengths_of(own));
+            println!("seed {own}: {difference}; {:?}; day {day}; file {hex}", lengths_of(own));
             return ExitCode::FAILURE;
         }
     }
@@ -74,11 +74,12 @@ struct Both {
 
 impl Both {
     /// Counts a file's answers if neither a check, nor the readout, nor which clause covers which differs.
-    fn compare(&mut self, file: &[u8], own: u64, tally: &mut Tally) -> Result<(), String> {
+    fn compare(&mut self, day: u16, file: &[u8], own: u64, tally: &mut Tally) -> Result<(), String> {
         let (lengths, mark, mut random) = (lengths_of(own), own as u16, SplitMix64::new(own));
-        let kind = self.pair.compare(file, lengths, mark).map_err(|difference| difference.to_string())?;
+        let kind =
+            self.pair.compare(day, file, lengths, mark).map_err(|difference| difference.to_string())?;
         count(kind, &mut tally.kinds, &mut tally.untouched);
-        Second::new(file, lengths, mark).two(&mut random)?;
+        Second::new(day, file, lengths, mark).two(&mut random)?;
         let clauses = Clauses::of(file);
         for _ in 0..PAIRS {
             let two = clauses.some_two(&mut random);

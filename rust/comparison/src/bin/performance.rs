@@ -18,7 +18,7 @@ use yestrwyn_comparison::questions::{questions, Question};
 use yestrwyn_comparison::rounds::Rounds;
 use yestrwyn_types::limits::RECORD_BYTES;
 use yestrwyn_types::{Answer, Cells, Covering};
-use yestrwyn_vectors::examples::{cases, heavy};
+use yestrwyn_vectors::examples::{cases, heavy, Example};
 use yestrwyn_vectors::stored::groups;
 
 /// A measurement is repeated until it takes about so long.
@@ -85,17 +85,16 @@ fn covers_table() -> io::Result<()> {
 /// Both with tables that are lent to them again and again.
 fn on_lent_tables() {
     for example in measured() {
-        check_line(example.name, &[&example.file]);
+        check_line(example.name, &[(0, &example.file)]);
     }
     for example in heavy::examples() {
-        check_line(format!("`{}`", example.name), &[&example.file]);
+        check_line(format!("`{}`", example.name), &[(0, &example.file)]);
     }
     for group in groups() {
-        let files: Vec<&[u8]> = group.examples.iter().map(|example| example.file.as_slice()).collect();
-        check_line(format!("stored vectors: `{}`", group.name), &files);
+        check_line(format!("stored vectors: `{}`", group.name), &on_their_days(&group.examples));
     }
     for example in cases::examples().iter().take(12) {
-        check_line(format!("case {} alone", example.name), &[&example.file]);
+        check_line(format!("case {} alone", example.name), &[(0, &example.file)]);
     }
 }
 
@@ -104,25 +103,32 @@ fn with_a_workspace() {
     let mut workspace = Workspace::new();
     for example in ordinary() {
         let name = format!("{}, {} records", example.name, example.file.len() / RECORD_BYTES);
-        services_line(name, &[&example.file], &mut workspace);
+        services_line(name, &[(0, &example.file)], &mut workspace);
     }
     for group in groups() {
-        let files: Vec<&[u8]> = group.examples.iter().map(|example| example.file.as_slice()).collect();
+        let files = on_their_days(&group.examples);
         services_line(format!("stored vectors: `{}`", group.name), &files, &mut workspace);
     }
 }
 
+/// A file and its day.
+type Dated<'a> = (u16, &'a [u8]);
+
+/// The files of a group, each with its day.
+fn on_their_days(examples: &[Example]) -> Vec<Dated<'_>> {
+    examples.iter().map(|example| (example.day, example.file.as_slice())).collect()
+}
+
 /// A line of the first table.
-fn check_line(name: impl Display, files: &[&[u8]]) {
+fn check_line(name: impl Display, files: &[Dated<'_>]) {
     let rounds = Rounds::take(|| time_all(files, plain), || time_all(files, second));
     println!("| {name} | {rounds} |");
 }
 
 /// A line of the second table.
-fn services_line(name: impl Display, files: &[&[u8]], workspace: &mut Workspace) {
-    let mut services = || {
-        time_all(files, |file: &[u8], cells: &mut Cells| workspace.check_into_here(file, &mut cells.lend()))
-    };
+fn services_line(name: impl Display, files: &[Dated<'_>], workspace: &mut Workspace) {
+    let mut services =
+        || time_all(files, |day, file, cells| workspace.check_into_here(day, file, &mut cells.lend()));
     let to_plain = Rounds::take(&mut services, || time_all(files, plain));
     let to_second = Rounds::take(&mut services, || time_all(files, second));
     println!("| {name} | {to_plain} | {} |", to_second.beside());
@@ -144,31 +150,31 @@ fn covers_line(question: &Question) {
 fn and_less_the_check(
     file: &[u8],
     compare: impl Fn(&mut Cells) -> Covering,
-    check: fn(&[u8], &mut Cells) -> Answer,
+    check: fn(u16, &[u8], &mut Cells) -> Answer,
 ) -> [Duration; 2] {
     let mut cells = Cells::new();
     let whole = time(|| {
         black_box(compare(&mut cells));
     });
-    [whole, whole.saturating_sub(time_all(&[file], check))]
+    [whole, whole.saturating_sub(time_all(&[(0, file)], check))]
 }
 
 /// The proved check with an array of its own.
-fn plain(file: &[u8], cells: &mut Cells) -> Answer {
-    yestrwyn::check_here(file, &mut cells.lend())
+fn plain(day: u16, file: &[u8], cells: &mut Cells) -> Answer {
+    yestrwyn::check_here(day, file, &mut cells.lend())
 }
 
 /// The second implementation.
-fn second(file: &[u8], cells: &mut Cells) -> Answer {
-    yestrwyn_second::check_into(file, &mut cells.lend())
+fn second(day: u16, file: &[u8], cells: &mut Cells) -> Answer {
+    yestrwyn_second::check_into(day, file, &mut cells.lend())
 }
 
 /// How long a check takes for all files.
-fn time_all(files: &[&[u8]], mut check: impl FnMut(&[u8], &mut Cells) -> Answer) -> Duration {
+fn time_all(files: &[Dated<'_>], mut check: impl FnMut(u16, &[u8], &mut Cells) -> Answer) -> Duration {
     let mut cells = Cells::new();
     time(|| {
-        for file in files {
-            black_box(check(file, &mut cells));
+        for &(day, file) in files {
+            black_box(check(day, file, &mut cells));
         }
     })
 }
@@ -178,10 +184,10 @@ fn whole_calls() {
     let examples = cases::examples();
     for example in examples.iter().filter(|example| ["A", "F", "K-12"].contains(&example.name.as_str())) {
         let rounds = Rounds::take(
-            || time(|| assert!(black_box(yestrwyn::check(&example.file)).is_ok())),
+            || time(|| assert!(black_box(yestrwyn::check(0, &example.file)).is_ok())),
             || {
                 time(|| {
-                    black_box(yestrwyn_second::check(&example.file));
+                    black_box(yestrwyn_second::check(0, &example.file));
                 })
             },
         );

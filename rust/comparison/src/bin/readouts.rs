@@ -6,7 +6,7 @@
 //! readouts PROOFREAD READOUT FOLDER
 //! ```
 //!
-//! The files are written to the folder first.
+//! What both read, two bytes of day and the file, is written to the folder first.
 
 use std::fs::{self, File};
 use std::path::Path;
@@ -51,12 +51,12 @@ fn files() -> Vec<(String, Vec<Example>)> {
     files
 }
 
-/// Writes a file of an example to the folder, and returns its path.
+/// Writes the day and the file of an example to the folder, and returns its path.
 fn write(folder: &str, example: &Example) -> String {
     let name: String =
         example.name.chars().map(|c| if c.is_ascii_alphanumeric() { c } else { '-' }).collect();
     let path = Path::new(folder).join(name);
-    fs::write(&path, &example.file).expect("a file is written");
+    fs::write(&path, example.input()).expect("a file is written");
     path.to_string_lossy().into_owned()
 }
 

@@ -72,14 +72,14 @@ impl Clock {
     /// The time of the check of a file, and how many clauses it has.
     fn check(&mut self, file: &[u8]) -> (Duration, u16) {
         let start = own_time();
-        let answer = check_here(file, &mut self.cells.lend());
+        let answer = check_here(0, file, &mut self.cells.lend());
         (own_time().saturating_sub(start), answer.clauses)
     }
 
     /// The time of the check of a file and of its lines from a clause on.
     fn read(&mut self, file: &[u8], clause: u16) -> Duration {
         let start = own_time();
-        readout_piece_here(file, &mut self.cells.lend(), clause, &mut self.output);
+        readout_piece_here(0, file, &mut self.cells.lend(), clause, &mut self.output);
         own_time().saturating_sub(start)
     }
 

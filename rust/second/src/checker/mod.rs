@@ -7,6 +7,7 @@ use yestrwyn_types::record::{kind, Record};
 use yestrwyn_types::{Answer, Reason, Verdict};
 
 use crate::clause::{Clause, Loader, Origin};
+use crate::days::{first_empty, Window};
 use crate::earliest::Earliest;
 use crate::environment::Environment;
 use crate::expression::{Binding, Node};
@@ -29,8 +30,11 @@ pub struct Checker {
     nodes: Vec<Node>,
     earliest: Earliest,
     clauses: Vec<Clause>,
+    /// A window for each clause; only those of input clauses have a meaning.
+    windows: Vec<Window>,
     bindings: Vec<Binding>,
-    empty: Option<u16>,
+    /// Is some clause empty?
+    empty: bool,
     outlines: Outlines,
     environment: Environment,
     loader: Loader,
@@ -60,6 +64,7 @@ impl Checker {
             kind::RESOLVE => self.resolve(&record),
             kind::FACTOR => self.factor(&record),
             kind::RESOLVE_SEVERAL => self.resolve_several(&record),
+            kind::WINDOW => self.window(&record),
             _ => Err(Reason::Kind),
         }?;
         self.records += 1;
@@ -97,12 +102,11 @@ impl Checker {
         &self.bindings
     }
 
-    /// The answer if the file ended here, or if the next record were refused for a reason.
-    pub fn answer(&self, refusal: Option<Reason>) -> Answer {
-        let verdict = match (refusal, self.empty) {
-            (Some(reason), _) => Verdict::Refused { reason, record: self.records },
-            (None, Some(clause)) => Verdict::Accepted(clause),
-            (None, None) => Verdict::Open,
+    /// The answer on a day if the file ended here, or if the next record were refused for a reason.
+    pub fn answer(&self, day: u16, refusal: Option<Reason>) -> Answer {
+        let verdict = match refusal {
+            Some(reason) => Verdict::Refused { reason, record: self.records },
+            None => self.accepted(day).map_or(Verdict::Open, Verdict::Accepted),
         };
         Answer {
             verdict,
@@ -111,6 +115,15 @@ impl Checker {
             clauses: small(self.clauses.len()),
             bindings: small(self.bindings.len()),
         }
+    }
+
+    /// The clause that is accepted on a day, by the windows as they are now.
+    fn accepted(&self, day: u16) -> Option<u16> {
+        // Without an empty clause there is nothing to look for.
+        if !self.empty {
+            return None;
+        }
+        first_empty(&self.clauses, &self.windows, day)
     }
 
     /// Makes the environment that of one clause, for reading values out, and hands it out with the rows.
@@ -175,6 +188,18 @@ impl Checker {
         Ok(())
     }
 
+    /// Kind 8: the days of an input clause, in place of those that an earlier record gave it.
+    fn window(&mut self, record: &Record) -> Result<(), Reason> {
+        require(record.count == 0 && record.zero_from(3), Reason::Range)?;
+        let [clause, first, last, ..] = record.fields;
+        let is_input = |clause: &Clause| matches!(clause.origin, Origin::Input(_));
+        let clause = usize::from(clause);
+        require(self.clauses.get(clause).is_some_and(is_input), Reason::Missing)?;
+        require(first <= last, Reason::Crossed)?;
+        self.windows[clause] = Window { first, last };
+        Ok(())
+    }
+
     /// Loads the bindings of a derivation into the environment, indices raised by `offset`.
     fn load_at(&mut self, clause: u16, offset: u16) {
         let Checker { clauses, bindings, environment, loader, .. } = self;
@@ -183,9 +208,8 @@ impl Checker {
 
     /// Adds a clause whose own bindings are those from number `held` on.
     fn clause(&mut self, origin: Origin, literals: u16, max_index: u16, held: usize) {
-        if literals == 0 && self.empty.is_none() {
-            self.empty = Some(small(self.clauses.len()));
-        }
+        self.empty |= literals == 0;
+        self.windows.push(Window::ALWAYS);
         self.clauses.push(Clause {
             record: self.records,
             origin,

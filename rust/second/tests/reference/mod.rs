@@ -4,9 +4,11 @@
 //! can also check without outlines, for what these alter.
 #![allow(dead_code)]
 
+mod days;
 mod outlines;
 mod rows;
 
+pub use days::Days;
 pub use outlines::Outline;
 pub use rows::Row;
 
@@ -36,6 +38,8 @@ pub struct Reference {
     /// Rows as written, each with its record and the earliest row that equals it.
     pub rows: Vec<(u16, Row, u16)>,
     pub clauses: Vec<Clause>,
+    /// Every record of kind 8, superseded ones too.
+    pub days: Vec<Days>,
     pub refusal: Option<(u16, u16)>,
     pub works: Vec<(u16, u32)>,
 }
@@ -87,6 +91,7 @@ impl Reference {
             4 => self.input(at, bytes),
             5 | 7 => self.resolve(at, bytes),
             6 => self.factor(at, bytes),
+            8 => self.days(bytes),
             _ => Err(3),
         }
     }
@@ -290,15 +295,15 @@ impl Reference {
         }
     }
 
-    /// The first clause without literals.
-    pub fn first_empty(&self) -> Option<usize> {
-        (0..self.clauses.len()).find(|&clause| self.literals(clause).is_empty())
+    /// The seven numbers of the answer on day 0.
+    pub fn answer(&self) -> [u16; 7] {
+        self.answer_on(0)
     }
 
-    /// The seven numbers of the answer.
-    pub fn answer(&self) -> [u16; 7] {
+    /// The seven numbers of the answer on a day.
+    pub fn answer_on(&self, day: u16) -> [u16; 7] {
         let bindings: usize = self.clauses.iter().map(|clause| clause.own.len()).sum();
-        let [kind, what, at] = match (self.refusal, self.first_empty()) {
+        let [kind, what, at] = match (self.refusal, self.accepted(day)) {
             (Some((reason, record)), _) => [2, reason, record],
             (None, Some(clause)) => [1, clause as u16, 0],
             (None, None) => [0, 0, 0],
@@ -324,8 +329,8 @@ impl Reference {
     }
 
     /// The readout, each literal written out first, up to many more occurrences than are shown.
-    pub fn readout(&self) -> String {
-        let mut text = match (self.refusal, self.first_empty()) {
+    pub fn readout_on(&self, day: u16) -> String {
+        let mut text = match (self.refusal, self.accepted(day)) {
             (Some((reason, record)), _) => format!("refused {reason} at {record}\n"),
             (None, Some(clause)) => format!("accepted {clause}\n"),
             (None, None) => "open\n".to_string(),

@@ -3,14 +3,14 @@
 use std::io::Write;
 use std::{fs, io};
 
-use yestrwyn_vectors::stored::{expected, groups, listing, listing_path, pack, pack_path, results_path};
+use yestrwyn_vectors::stored::{expected, groups, listing, listing_path, pack_path, results_path};
 
 fn main() -> io::Result<()> {
     let mut out = io::stdout().lock();
     let groups = groups();
     let mut total = 0;
     for group in &groups {
-        let (files, text) = (pack(&group.examples), expected(group));
+        let (files, text) = (group.pack(), expected(group));
         writeln!(
             out,
             "{}: {} files, {} and {} bytes",

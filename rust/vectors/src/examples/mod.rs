@@ -2,6 +2,7 @@
 //! limit, and files refused for each reason. Tests say what they should give; the vectors store it.
 
 pub mod cases;
+pub mod days;
 pub mod deep;
 pub mod edges;
 pub mod group_theory;
@@ -14,17 +15,28 @@ pub mod resolution_rules;
 pub mod several;
 pub mod structure_sharing;
 
-/// A file and its name.
+/// A file, its name, and the day that it is checked on.
 #[derive(Clone, Debug)]
 pub struct Example {
     pub name: String,
+    pub day: u16,
     pub file: Vec<u8>,
 }
 
 impl Example {
-    /// A named file.
+    /// A named file on day 0.
     pub fn new(name: &str, file: Vec<u8>) -> Example {
-        Example { name: name.to_string(), file }
+        Example { name: name.to_string(), day: 0, file }
+    }
+
+    /// A named file on a day, which its name says as well.
+    pub fn on(day: u16, name: &str, file: Vec<u8>) -> Example {
+        Example { name: format!("{name}-on-{day}"), day, file }
+    }
+
+    /// What the program `proofread` reads: two bytes of day, low byte first, then the file.
+    pub fn input(&self) -> Vec<u8> {
+        [&self.day.to_le_bytes()[..], &self.file].concat()
     }
 }
 

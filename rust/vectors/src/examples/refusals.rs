@@ -54,7 +54,7 @@ fn kinds() -> Vec<Example> {
         with("stands", kind::SYMBOL, 6, [0; 7]),
         with("3-kind-0", 0, 0, [0; 7]),
         with("stands-kind-7", 7, 1, [0, 1, 1, 1, 0, 0, 0]),
-        with("3-kind-8", 8, 0, [0; 7]),
+        with("3-kind-9", 9, 0, [0; 7]),
         with("3-kind-255", 255, 255, [65_535; 7]),
         with("4-symbol-arity-7", kind::SYMBOL, 7, [0; 7]),
         with("4-symbol-field-a", kind::SYMBOL, 1, [1, 0, 0, 0, 0, 0, 0]),
@@ -194,7 +194,7 @@ fn unused_bytes() -> Vec<Example> {
 
 /// Byte 1 where the kind has no count, and every byte from pair `used` on.
 pub(super) fn unused_bytes_of(name: &str, record: Record, used: usize) -> Vec<Example> {
-    let counted = !matches!(record.kind, kind::VARIABLE | kind::RESOLVE | kind::FACTOR);
+    let counted = !matches!(record.kind, kind::VARIABLE | kind::RESOLVE | kind::FACTOR | kind::WINDOW);
     let places = (1..2).filter(|_| !counted).chain(2 * used..16);
     let example = |place: usize| {
         let mut bytes = record.to_bytes();

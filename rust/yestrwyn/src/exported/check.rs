@@ -4,6 +4,7 @@ use yestrwyn_types::Tables;
 
 extern "C" {
     fn checker_check(
+        day: u16,
         file: *const u8,
         file_len: usize,
         symbols: *mut u16,
@@ -19,13 +20,14 @@ extern "C" {
     );
 }
 
-/// Checks a file; the answer is seven numbers. With fewer than seven cells for it nothing is touched.
-pub fn check_numbers(file: &[u8], tables: &mut Tables<'_>, answer: &mut [u16]) {
+/// Checks a file on a day; the answer is seven numbers. With fewer than seven cells for it nothing is touched.
+pub fn check_numbers(day: u16, file: &[u8], tables: &mut Tables<'_>, answer: &mut [u16]) {
     let Tables { symbols, rows, clauses, bindings } = tables;
     // Safety: each pointer comes from a slice and is passed with that slice's length, so it is valid
     // and aligned; the mutable slices overlap nothing. The function stays within these lengths.
     unsafe {
         checker_check(
+            day,
             file.as_ptr(),
             file.len(),
             symbols.as_mut_ptr(),

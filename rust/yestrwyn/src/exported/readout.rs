@@ -7,6 +7,7 @@ pub const PROGRESS_CELLS: usize = 3;
 
 extern "C" {
     fn checker_readout(
+        day: u16,
         file: *const u8,
         file_len: usize,
         symbols: *mut u16,
@@ -25,9 +26,10 @@ extern "C" {
     );
 }
 
-/// A piece of the readout; the progress is three numbers. With fewer than three cells for it nothing
+/// A piece of the readout on a day; the progress is three numbers. With fewer than three cells for it nothing
 /// is touched.
 pub fn readout_numbers(
+    day: u16,
     file: &[u8],
     tables: &mut Tables<'_>,
     clause: u16,
@@ -38,6 +40,7 @@ pub fn readout_numbers(
     // Safety: as for the check; output and progress are slices of their own.
     unsafe {
         checker_readout(
+            day,
             file.as_ptr(),
             file.len(),
             symbols.as_mut_ptr(),

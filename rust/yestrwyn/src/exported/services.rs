@@ -11,6 +11,7 @@ pub type Values = [u16; 524_416];
 
 extern "C" {
     fn checker_check_with(
+        day: u16,
         file: *const u8,
         file_len: usize,
         symbols: *mut u16,
@@ -43,15 +44,22 @@ pub struct Arrays<'a> {
     pub values: &'a mut Values,
 }
 
-/// Checks a file as [`check_numbers`](super::check_numbers) does, with a workspace that is lent. With
+/// Checks a file on a day as [`check_numbers`](super::check_numbers) does, with a workspace that is lent. With
 /// fewer than seven cells for the answer nothing is touched; a file refused with reason 1 or 2 leaves
 /// nodes and origins alone.
-pub fn check_numbers_with(file: &[u8], tables: &mut Tables<'_>, arrays: &mut Arrays<'_>, answer: &mut [u16]) {
+pub fn check_numbers_with(
+    day: u16,
+    file: &[u8],
+    tables: &mut Tables<'_>,
+    arrays: &mut Arrays<'_>,
+    answer: &mut [u16],
+) {
     let Tables { symbols, rows, clauses, bindings } = tables;
     let Arrays { nodes, origins, values } = arrays;
     // Safety: as for the check; the three arrays have the lengths that the function is compiled for.
     unsafe {
         checker_check_with(
+            day,
             file.as_ptr(),
             file.len(),
             symbols.as_mut_ptr(),

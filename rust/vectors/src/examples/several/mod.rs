@@ -29,7 +29,7 @@ pub fn cases() -> Vec<Example> {
     let steps = |file: &[u8]| file.chunks(RECORD_BYTES).any(|record| record[0] == kind::RESOLVE);
     let sheet = cases::sheet().into_iter().filter(|example| steps(&example.file));
     all.extend(
-        sheet.map(|Example { name, file }| Example::new(&format!("{name}-by-kind-7"), by_kind_7(&file))),
+        sheet.map(|Example { name, file, .. }| Example::new(&format!("{name}-by-kind-7"), by_kind_7(&file))),
     );
     all
 }

@@ -1,0 +1,118 @@
+//! Records of kind 8 in any place: superseding others, before and after steps, among repeated rows.
+
+use yestrwyn_types::limits::RECORD_BYTES;
+use yestrwyn_types::record::{kind, Record};
+
+use super::{on_days, opposites, refuted, window_bytes, Example};
+use crate::examples::cases::case_a;
+use crate::repeating::rows_twice;
+use crate::sketch::Sketch;
+
+/// All of them.
+pub fn examples() -> Vec<Example> {
+    let mut all = superseded();
+    all.extend(between_steps());
+    all.extend(places());
+    all.extend(repeated_rows());
+    all
+}
+
+/// Two and three windows for one clause, all after the steps: the last record counts, whatever its days.
+fn superseded() -> Vec<Example> {
+    let example = |name: &str, windows: &[(u16, u16)], days: &[u16]| {
+        let mut file = refuted(1);
+        for &(first, last) in windows {
+            file.window(0, first, last);
+        }
+        on_days(&format!("superseded-{name}"), &file.finish(), days)
+    };
+    let all = [
+        example("by-later-days", &[(10, 20), (30, 40)], &[15, 25, 30, 40, 41]),
+        example("by-earlier-days", &[(30, 40), (10, 20)], &[15, 25, 30, 40]),
+        example("by-days-within", &[(10, 40), (20, 30)], &[15, 20, 30, 35]),
+        example("by-days-around", &[(20, 30), (10, 40)], &[9, 15, 35, 41]),
+        example("by-always", &[(20, 30), (0, 65_535)], &[0, 25, 65_535]),
+        example("always", &[(0, 65_535), (20, 30)], &[0, 25, 65_535]),
+        example("by-the-same", &[(10, 20), (10, 20)], &[9, 10, 20, 21]),
+        example("twice", &[(10, 20), (30, 40), (50, 60)], &[15, 35, 55]),
+        example("twice-and-back", &[(10, 20), (30, 40), (10, 20)], &[15, 35]),
+    ];
+    all.concat()
+}
+
+/// Windows before, between and after the steps that use a clause; and of two clauses in turn.
+fn between_steps() -> Vec<Example> {
+    let mut before = opposites(2);
+    before.window(0, 10, 20);
+    before.resolve(0, 1, 1, 1);
+    before.resolve(2, 1, 3, 1);
+    let mut between = opposites(1);
+    between.window(0, 10, 20);
+    between.resolve(0, 1, 1, 1);
+    between.window(0, 30, 40);
+    between.resolve(0, 1, 1, 1);
+    let mut after = between.clone();
+    after.window(0, 50, 60);
+    let mut in_turn = refuted(1);
+    for (clause, first, last) in [(0, 10, 20), (1, 10, 20), (0, 15, 40), (1, 30, 40)] {
+        in_turn.window(clause, first, last);
+    }
+    let all = [
+        on_days("window-before-its-steps", &before.finish(), &[9, 10, 20, 21]),
+        on_days("window-between-two-steps", &between.finish(), &[15, 30, 35]),
+        on_days("window-after-all-steps", &after.finish(), &[15, 35, 55]),
+        on_days("windows-in-turn", &in_turn.finish(), &[12, 18, 25, 30, 40, 41]),
+    ];
+    all.concat()
+}
+
+/// A window after each record of case A from its first clause on: numbers of symbols, rows and clauses are as before. And one
+/// that comes last of all, after a symbol and a row that nothing uses.
+fn places() -> Vec<Example> {
+    let mut everywhere = Vec::new();
+    let mut clauses = 0;
+    for record in case_a().chunks_exact(RECORD_BYTES) {
+        everywhere.extend_from_slice(record);
+        clauses += u16::from(record[0] >= kind::INPUT);
+        if clauses > 0 {
+            everywhere.extend(window_bytes(0, 10 + clauses, 20));
+        }
+    }
+    // Rows, symbols and clauses after a window have the numbers that they would have without it.
+    let mut mixed = Sketch::new();
+    mixed.clause(&[]);
+    mixed.window(0, 10, 20);
+    for arity in [0, 1] {
+        mixed.symbol(arity);
+        mixed.window(0, 10, 20);
+    }
+    mixed.fields(kind::APPLICATION, 0, &[0]);
+    mixed.window(0, 10, 20);
+    mixed.fields(kind::INPUT, 1, &[1]);
+    mixed.window(1, 30, 40);
+    mixed.fields(kind::INPUT, 1, &[0]);
+    mixed.window(0, 10, 20);
+    mixed.fields(kind::RESOLVE, 0, &[1, 1, 2, 1]);
+    mixed.window(0, 10, 20);
+    let all = [
+        on_days("window-after-each-record", &everywhere, &[14, 15, 20, 21]),
+        on_days("window-between-all-kinds", &mixed.finish(), &[9, 10, 20, 25, 30, 40, 41]),
+    ];
+    all.concat()
+}
+
+/// Case A with every row twice, and a window before and after each clause that a step made.
+fn repeated_rows() -> Vec<Example> {
+    let mut file = Vec::new();
+    for record in rows_twice(&case_a()).file.chunks_exact(RECORD_BYTES) {
+        if record[0] == kind::RESOLVE {
+            file.extend(window_bytes(1, 5, 8));
+        }
+        file.extend_from_slice(record);
+    }
+    file.extend(window_bytes(1, 10, 20));
+    // A row that repeats another, after a window.
+    let again = Record::new(kind::VARIABLE, 0, &[0]).to_bytes();
+    file.extend_from_slice(&again);
+    on_days("window-among-repeated-rows", &file, &[6, 9, 10, 20, 21])
+}
