@@ -199,17 +199,17 @@ module _ (file : List ℕ) (before : Tables) (c d : ℕ) (S : State) (C D : List
 -- ── The ways of the program ──
 
 module _ (CL N O : List ℕ) (a : answer.Answer) (c d : ℕ) (R : AfterCheck CL N O a) where
-  given-verdict : verdictGiven (a .verdict) ≡ verdictNumbers (check (R .file) (lengthsOf (R .before)) .verdict)
-  given-verdict = verdict-given (R .file) (lengthsOf (R .before)) a (R .checked .checked .answer)
+  given-verdict : verdictGiven (a .verdict) ≡ verdictNumbers (check (R .day) (R .file) (lengthsOf (R .before)) .verdict)
+  given-verdict = verdict-given (R .day) (R .file) (lengthsOf (R .before)) a (R .checked .checked .answer)
 
   -- The file does not stand.
   pub refused-nothing : verdictStands (a .verdict) ≡ false → (S : State) (C D : List RowLiteral) → ¬ Comparable (R .file) (R .before) c d S C D
   refused-nothing f S C D K =
-      refused-not-standing (a .verdict) (firstEmpty everyClause (derivations S)) (given-verdict ∙ ap (λ (x : Checked). verdictNumbers (x .verdict)) (stands-check (R .file) (R .before) S (K .stands) (long-enough (R .file) (R .before) (K .tablesLong)))) f
+      refused-not-standing (a .verdict) (firstEmpty everyClause (derivations S)) (given-verdict ∙ ap (λ (x : Checked). verdictNumbers (x .verdict)) (stands-check (R .day) (R .file) (R .before) S (K .stands) (long-enough (R .file) (R .before) (K .tablesLong)))) f
 
   module _ (t : verdictStands (a .verdict) ≡ true) where
     stood : (longEnough (lengthsOf (R .before)) ≡ true) × ((S : State) × Stands (R .file) S)
-    stood = not-refused (R .file) (R .before) (stands-not-refused (a .verdict) (check (R .file) (lengthsOf (R .before)) .verdict) given-verdict t)
+    stood = not-refused (R .day) (R .file) (R .before) (stands-not-refused (a .verdict) (check (R .day) (R .file) (lengthsOf (R .before)) .verdict) given-verdict t)
 
     abbrev left : State
     left = stateOf (ending (R .file))
@@ -225,7 +225,7 @@ module _ (CL N O : List ℕ) (a : answer.Answer) (c d : ℕ) (R : AfterCheck CL 
 
     count-left : a .clauses ≡ length (left .clauses)
     count-left =
-        clauses-given (R .file) (lengthsOf (R .before)) a (R .checked .checked .answer)
+        clauses-given (R .day) (R .file) (lengthsOf (R .before)) a (R .checked .checked .answer)
         ∙ ap (λ (x : State). length (x .clauses)) (ap stateGiven (reading-records (R .file) (lengthsOf (R .before)) (stood .1 .1 .fits) (stood .0)))
 
     -- A clause that passes the test is an input clause, and conversely.

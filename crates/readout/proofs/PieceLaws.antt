@@ -45,8 +45,8 @@ fitting-size room (u ∷ us) = try (leb (length u) room) refl (fitting-size (roo
     try false p h = omega arith
 
 -- A piece is no longer than its room.
-pub piece-size : (file : List ℕ) (lengths : Lengths) (n room : ℕ) → length (pieceBytes file lengths n room) ≤ room
-piece-size file lengths n room = fitting-size room (unitsFrom file lengths n)
+pub piece-size : (day : ℕ) (file : List ℕ) (lengths : Lengths) (n room : ℕ) → length (pieceBytes day file lengths n room) ≤ room
+piece-size day file lengths n room = fitting-size room (unitsFrom day file lengths n)
 
 complete-none : (us : List (List ℕ)) (n taken : ℕ) → afterPiece us n taken ≡ complete → us ≡ []
 complete-none [] n taken q = refl
@@ -112,40 +112,40 @@ first-fits room (u ∷ us) n h q = absurd (try (leb (length u) room) refl q)
     try true p z = omega arith
     try false p z = let y = leb-false (length u) room p in let x = h .0 in omega arith
 
-module _ (file : List ℕ) (lengths : Lengths) where
-  from-rest : (n room : ℕ) → joinedLines (unitsFrom file lengths n) ≡ pieceBytes file lengths n room ++ joinedLines (unitsFrom file lengths (n + length (pieceLines file lengths n room)))
+module _ (day : ℕ) (file : List ℕ) (lengths : Lengths) where
+  from-rest : (n room : ℕ) → joinedLines (unitsFrom day file lengths n) ≡ pieceBytes day file lengths n room ++ joinedLines (unitsFrom day file lengths (n + length (pieceLines day file lengths n room)))
   unfolding unitsFrom
   from-rest n room =
-      fitting-rest room (unitsFrom file lengths n)
-      ∙ ap (λ (x : List (List ℕ)). pieceBytes file lengths n room ++ joinedLines x) (drop-more n (length (pieceLines file lengths n room)) (units (readoutLines file lengths)))
+      fitting-rest room (unitsFrom day file lengths n)
+      ∙ ap (λ (x : List (List ℕ)). pieceBytes day file lengths n room ++ joinedLines x) (drop-more n (length (pieceLines day file lengths n room)) (units (readoutLines day file lengths)))
 
-  pieces-from : (n : ℕ) (text : List ℕ) → Pieces file lengths n text → text ≡ joinedLines (unitsFrom file lengths n)
+  pieces-from : (n : ℕ) (text : List ℕ) → Pieces day file lengths n text → text ≡ joinedLines (unitsFrom day file lengths n)
   pieces-from n text (lastPiece room q) =
       sym
       (from-rest n room
-      ∙ ap (λ (x : List (List ℕ)). pieceBytes file lengths n room ++ joinedLines x) (complete-none (unitsFrom file lengths (n + length (pieceLines file lengths n room))) n (length (pieceLines file lengths n room)) q)
-      ∙ append-nil (pieceBytes file lengths n room))
+      ∙ ap (λ (x : List (List ℕ)). pieceBytes day file lengths n room ++ joinedLines x) (complete-none (unitsFrom day file lengths (n + length (pieceLines day file lengths n room))) n (length (pieceLines day file lengths n room)) q)
+      ∙ append-nil (pieceBytes day file lengths n room))
   pieces-from n text (piece {m = m} {text = rest} room q more) =
-      ap (λ (x : List ℕ). pieceBytes file lengths n room ++ x)
-      (pieces-from m rest more ∙ ap (λ (k : ℕ). joinedLines (unitsFrom file lengths k)) (go-on-is (unitsFrom file lengths (n + length (pieceLines file lengths n room))) n (length (pieceLines file lengths n room)) m q .0))
+      ap (λ (x : List ℕ). pieceBytes day file lengths n room ++ x)
+      (pieces-from m rest more ∙ ap (λ (k : ℕ). joinedLines (unitsFrom day file lengths k)) (go-on-is (unitsFrom day file lengths (n + length (pieceLines day file lengths n room))) n (length (pieceLines day file lengths n room)) m q .0))
       ∙ sym (from-rest n room)
 
-  all-units : joinedLines (unitsFrom file lengths 0) ≡ readout file lengths
+  all-units : joinedLines (unitsFrom day file lengths 0) ≡ readout day file lengths
   unfolding unitsFrom
-  all-units = units-joined (readoutLines file lengths)
+  all-units = units-joined (readoutLines day file lengths)
 
-  pub pieces-hold : AllWithin 131072 (units (readoutLines file lengths)) → PiecesHold file lengths
+  pub pieces-hold : AllWithin 131072 (units (readoutLines day file lengths)) → PiecesHold day file lengths
   unfolding unitsFrom tag
   pieces-hold within = record {
     together = λ text p. pieces-from 0 text p ∙ all-units;
     moves = λ n room m q.
-        let z = go-on-is (unitsFrom file lengths (n + length (pieceLines file lengths n room))) n (length (pieceLines file lengths n room)) m q in
+        let z = go-on-is (unitsFrom day file lengths (n + length (pieceLines day file lengths n room))) n (length (pieceLines day file lengths n room)) m q in
         let y = z .1 in
         let x = z .0 in
-        positive n m (length (pieceLines file lengths n room)) x y;
+        positive n m (length (pieceLines day file lengths n room)) x y;
     short = λ n room m q.
-        let z = too-short-is (unitsFrom file lengths (n + length (pieceLines file lengths n room))) n (length (pieceLines file lengths n room)) m q in
-        (z .0, ap joinedLines (none-left (pieceLines file lengths n room) (z .1)));
+        let z = too-short-is (unitsFrom day file lengths (n + length (pieceLines day file lengths n room))) n (length (pieceLines day file lengths n room)) m q in
+        (z .0, ap joinedLines (none-left (pieceLines day file lengths n room) (z .1)));
     enough = λ n room m big q. never n room m big q;
   }
     where
@@ -161,9 +161,9 @@ module _ (file : List ℕ) (lengths : Lengths) where
       left [] n taken m q e = let y : _≡_ {A = ℕ} 0 2 = ap tag q in omega arith
       left (u ∷ us) n taken m q e = let y : length (u ∷ us) ≡ 0 = ap length e in omega arith
 
-      never : (n room m : ℕ) → 131072 ≤ room → progress file lengths n room ≡ tooShortFor m → ⊥
+      never : (n room m : ℕ) → 131072 ≤ room → progress day file lengths n room ≡ tooShortFor m → ⊥
       never n room m big q =
-          let z = too-short-is (unitsFrom file lengths (n + length (pieceLines file lengths n room))) n (length (pieceLines file lengths n room)) m q in
-          let e : unitsFrom file lengths n ≡ [] = first-fits room (unitsFrom file lengths n) n (wider room big (unitsFrom file lengths n) (drop-within 131072 n (units (readoutLines file lengths)) within)) (z .1) in
-          let d : unitsFrom file lengths (n + length (pieceLines file lengths n room)) ≡ [] = sym (drop-more n (length (pieceLines file lengths n room)) (units (readoutLines file lengths))) ∙ ap (drop (length (pieceLines file lengths n room))) e ∙ drop-none {A = List ℕ} (length (pieceLines file lengths n room)) in
-          left (unitsFrom file lengths (n + length (pieceLines file lengths n room))) n (length (pieceLines file lengths n room)) m q d
+          let z = too-short-is (unitsFrom day file lengths (n + length (pieceLines day file lengths n room))) n (length (pieceLines day file lengths n room)) m q in
+          let e : unitsFrom day file lengths n ≡ [] = first-fits room (unitsFrom day file lengths n) n (wider room big (unitsFrom day file lengths n) (drop-within 131072 n (units (readoutLines day file lengths)) within)) (z .1) in
+          let d : unitsFrom day file lengths (n + length (pieceLines day file lengths n room)) ≡ [] = sym (drop-more n (length (pieceLines day file lengths n room)) (units (readoutLines day file lengths))) ∙ ap (drop (length (pieceLines day file lengths n room))) e ∙ drop-none {A = List ℕ} (length (pieceLines day file lengths n room)) in
+          left (unitsFrom day file lengths (n + length (pieceLines day file lengths n room))) n (length (pieceLines day file lengths n room)) m q d

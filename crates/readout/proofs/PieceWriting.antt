@@ -62,10 +62,10 @@ units-within v (u ∷ us) l h = let x = h .0 in (omega (arith, length-append v u
 abbrev Short : State → Type 0
 Short S = (n : ℕ) (d : Derivation) → clauseOf S n ≡ some d → length (clauseLine S n d) ≤ 106780
 
-pub all-within : (F : List ℕ) (lengths : Lengths) → AllWithin 131072 (units (readoutLines F lengths))
-all-within F lengths =
-    subst (λ (ls : List (List ℕ)). AllWithin 131072 (units ls)) (sym (lines-left F lengths))
-    (units-within (verdictLine (check F lengths .verdict)) (clauseLines (stateLeft F lengths) (derivations (stateLeft F lengths))) (verdict-short (check F lengths .verdict))
+pub all-within : (day : ℕ) (F : List ℕ) (lengths : Lengths) → AllWithin 131072 (units (readoutLines day F lengths))
+all-within day F lengths =
+    subst (λ (ls : List (List ℕ)). AllWithin 131072 (units ls)) (sym (lines-left day F lengths))
+    (units-within (verdictLine (check day F lengths .verdict)) (clauseLines (stateLeft F lengths) (derivations (stateLeft F lengths))) (verdict-short (check day F lengths .verdict))
     (lines-within (stateLeft F lengths) (derivations (stateLeft F lengths)) (try (fittingLength (length F)) refl (longEnough lengths) refl)))
   where
     none : (n : ℕ) (d : Derivation) → clauseOf emptyState n ≡ some d → length (clauseLine emptyState n d) ≤ 106780
@@ -76,8 +76,8 @@ all-within F lengths =
     try true p false q = let e : stateLeft F lengths ≡ emptyState = rw (p, q) refl in subst Short (sym e) none
     try false p g q = let e : stateLeft F lengths ≡ emptyState = rw p refl in subst Short (sym e) none
 
-pub pieces-always : (F : List ℕ) (lengths : Lengths) → PiecesHold F lengths
-pieces-always F lengths = pieces-hold F lengths (all-within F lengths)
+pub pieces-always : (day : ℕ) (F : List ℕ) (lengths : Lengths) → PiecesHold day F lengths
+pieces-always day F lengths = pieces-hold day F lengths (all-within day F lengths)
 
 one-within : (room : ℕ) (us : List (List ℕ)) (n : ℕ) → AllWithin room us → n < length us → length (getD us n []) ≤ room
 one-within room [] n h l = absurd (omega arith)
@@ -85,21 +85,21 @@ one-within room (u ∷ us) zero h l = h .0
 one-within room (u ∷ us) (suc n) h l = one-within room us n (h .1) (omega arith)
 
 module _ {C B N O A : List ℕ} {a : Answer} (R : AfterCheck C B N O A a) where
-  number : unitsWithin (a .clauses) ≡ length (units (readoutLines (R .file) (lengthsOf (R .before))))
-  number = ap unitsWithin (clauses-given (R .file) (lengthsOf (R .before)) a (R .checked .checked .answer)) ∙ sym (unit-count (R .file) (lengthsOf (R .before)))
+  number : unitsWithin (a .clauses) ≡ length (units (readoutLines (R .day) (R .file) (lengthsOf (R .before))))
+  number = ap unitsWithin (clauses-given (R .day) (R .file) (lengthsOf (R .before)) a (R .checked .checked .answer)) ∙ sym (unit-count (R .day) (R .file) (lengthsOf (R .before)))
 
   -- A unit as it stands at the start of the buffer.
   record AtStart (T : List ℕ) (n end : ℕ) : Type 0 where
-    inside : n < length (units (readoutLines (R .file) (lengthsOf (R .before))))
-    size : end ≡ length (unitAt (R .file) (lengthsOf (R .before)) n)
-    bytes : take end T ≡ unitAt (R .file) (lengthsOf (R .before)) n
+    inside : n < length (units (readoutLines (R .day) (R .file) (lengthsOf (R .before))))
+    size : end ≡ length (unitAt (R .day) (R .file) (lengthsOf (R .before)) n)
+    bytes : take end T ≡ unitAt (R .day) (R .file) (lengthsOf (R .before)) n
 
   at-start : {A₁ A₂ T₀ T : List ℕ} {n end : ℕ} → length A₁ ≡ 524416 → length T₀ ≡ 131072 → n < unitsWithin (a .clauses) → UnitWritten C B N O A₁ A₂ T₀ T a n end → AtStart T n end
   unfolding after-again unitAt
   at-start {A₁} {A₂} {T₀} {T} {n} {end} values room l W =
-      let i : n < length (units (readoutLines (R .file) (lengthsOf (R .before)))) = subst (λ (k : ℕ). n < k) number l in
-      let w : Wrote T₀ T 0 end (unitAt (R .file) (lengthsOf (R .before)) n) = W .wrote (after-again R values) in
-      let fits = one-within 131072 (units (readoutLines (R .file) (lengthsOf (R .before)))) n (all-within (R .file) (lengthsOf (R .before))) i in
+      let i : n < length (units (readoutLines (R .day) (R .file) (lengthsOf (R .before)))) = subst (λ (k : ℕ). n < k) number l in
+      let w : Wrote T₀ T 0 end (unitAt (R .day) (R .file) (lengthsOf (R .before)) n) = W .wrote (after-again R values) in
+      let fits = one-within 131072 (units (readoutLines (R .day) (R .file) (lengthsOf (R .before)))) n (all-within (R .day) (R .file) (lengthsOf (R .before))) i in
       let e = wrote-position w (omega (arith, fits, room)) in
       record { inside = i; size = omega (arith, e); bytes = wrote-bytes w (omega (arith, fits, room)) }
 
@@ -108,16 +108,16 @@ end-inside R room W = omega (arith, wrote-inside (W .wrote R) (omega arith), roo
 
 -- The invariant of the loop and the ways out of it.
 abbrev pub Written : List ℕ → List ℕ → List ℕ → List ℕ → List ℕ → Answer → ℕ → List ℕ → List ℕ → ℕ → ℕ → Type 0
-Written C B N O A a begin out₀ out n written = (R : AfterCheck C B N O A a) → SoFar (R .file) (lengthsOf (R .before)) begin out₀ out n written
+Written C B N O A a begin out₀ out n written = (R : AfterCheck C B N O A a) → SoFar (R .day) (R .file) (lengthsOf (R .before)) begin out₀ out n written
 
 module _ {C B N O A : List ℕ} {a : Answer} {begin : ℕ} {out₀ : List ℕ} where
   pub written-none : Written C B N O A a begin out₀ out₀ begin 0
-  written-none R = so-far-none (R .file) (lengthsOf (R .before)) begin out₀
+  written-none R = so-far-none (R .day) (R .file) (lengthsOf (R .before)) begin out₀
 
   module _ {out : List ℕ} {n written : ℕ} (X : Written C B N O A a begin out₀ out n written) where
     pub written-all : {A₁ : List ℕ} → length A₁ ≡ 524416 → unitsWithin (a .clauses) ≤ n → (p : Piece) → p .written ≡ written → p .rest ≡ Complete → PieceOf C B N O A A₁ a begin out₀ out p
     written-all v h p pw pr = record {
-      piece = λ R. so-far-all (R .file) (lengthsOf (R .before)) begin out₀ (X R) (subst (λ (k : ℕ). k ≤ n) (number R) h) p pw pr;
+      piece = λ R. so-far-all (R .day) (R .file) (lengthsOf (R .before)) begin out₀ (X R) (subst (λ (k : ℕ). k ≤ n) (number R) h) p pw pr;
       values = v;
     }
 
@@ -126,22 +126,22 @@ module _ {C B N O A : List ℕ} {a : Answer} {begin : ℕ} {out₀ : List ℕ} w
       written-stopped h p pw pr = record {
         piece = λ R.
             let s = at-start R values room l W in
-            so-far-stopped (R .file) (lengthsOf (R .before)) begin out₀ (X R) (s .inside) (subst (λ (k : ℕ). length out₀ - written < k) (s .size) h) p pw pr;
+            so-far-stopped (R .day) (R .file) (lengthsOf (R .before)) begin out₀ (X R) (s .inside) (subst (λ (k : ℕ). length out₀ - written < k) (s .size) h) p pw pr;
         values = W .sized .values;
       }
 
       pub written-more : end ≤ length out₀ - written → {out′ : List ℕ} → out′ ≡ paste out written T end → Written C B N O A a begin out₀ out′ (n + 1) (written + end)
       written-more h q R =
           let s = at-start R values room l W in
-          so-far-more (R .file) (lengthsOf (R .before)) begin out₀ (X R) (s .inside) T end (s .size) (s .bytes) h q
+          so-far-more (R .day) (R .file) (lengthsOf (R .before)) begin out₀ (X R) (s .inside) T end (s .size) (s .bytes) h q
 
 -- The contract of a piece.
-pub piece-written : (F : List ℕ) (t : Tables) (clause : ℕ) (out out′ : List ℕ) (p : Piece) (a : Answer) (w : Workspace) (s r C B N O A A′ : List ℕ) → CheckedWith F t w a (tablesWith s r C B) (workspaceWith N O A) → PieceOf C B N O A A′ a clause out out′ p → PieceWritten F t clause out p (tablesWith s r C B) out′
-piece-written F t clause out out′ p a w s r C B N O A A′ X P = record {
-  piece = P .piece (record { file = F; before = t; lent = w; symbols = s; rows = r; checked = X });
+pub piece-written : (day : ℕ) (F : List ℕ) (t : Tables) (clause : ℕ) (out out′ : List ℕ) (p : Piece) (a : Answer) (w : Workspace) (s r C B N O A A′ : List ℕ) → CheckedWith day F t w a (tablesWith s r C B) (workspaceWith N O A) → PieceOf C B N O A A′ a clause out out′ p → PieceWritten day F t clause out p (tablesWith s r C B) out′
+piece-written day F t clause out out′ p a w s r C B N O A A′ X P = record {
+  piece = P .piece (record { day = day; file = F; before = t; lent = w; symbols = s; rows = r; checked = X });
   symbols = X .checked .symbols;
   rows = X .checked .rows;
   clauses = X .checked .clauses;
   bindings = X .checked .bindings;
-  pieces = pieces-always F (lengthsOf t);
+  pieces = pieces-always day F (lengthsOf t);
 }

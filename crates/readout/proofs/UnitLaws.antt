@@ -39,9 +39,9 @@ clause-line-at S (e ∷ ds) n d q = try (eqb n (length ds)) refl q (λ r. clause
     try false p r ih = List·getD-append (clauseLines S ds) (clauseLine S (length ds) e ∷ []) [] n (omega (arith, entry-below ds n d r, clause-lines-length S ds)) ∙ ih r
 
 -- The lines of a file are those of the verdict and the state that its check leaves.
-pub lines-left : (F : List ℕ) (lengths : Lengths) → readoutLines F lengths ≡ linesOf (check F lengths .verdict) (stateLeft F lengths)
+pub lines-left : (day : ℕ) (F : List ℕ) (lengths : Lengths) → readoutLines day F lengths ≡ linesOf (check day F lengths .verdict) (stateLeft F lengths)
 unfolding readoutLines check
-lines-left F lengths = refl
+lines-left day F lengths = refl
 
 -- Units of a line and the lines after it.
 units-one : (v : List ℕ) (ls : List (List ℕ)) → length ls ≡ 0 → getD (units (v ∷ ls)) 0 [] ≡ v
@@ -61,7 +61,7 @@ units-length : (v : List ℕ) (ls : List (List ℕ)) → length (units (v ∷ ls
 units-length v [] = refl
 units-length v (l ∷ ls) = sym (ap (λ (b : Bool). pick b 1 (suc (length ls))) (ne-eqb (suc (length ls)) 0 (λ q. omega arith)))
 
-module _ (F : List ℕ) (lengths : Lengths) where
+module _ (day : ℕ) (F : List ℕ) (lengths : Lengths) where
   abbrev S : State
   S = stateLeft F lengths
 
@@ -69,32 +69,32 @@ module _ (F : List ℕ) (lengths : Lengths) where
   lines = clauseLines S (derivations S)
 
   abbrev heading : List ℕ
-  heading = verdictLine (check F lengths .verdict)
+  heading = verdictLine (check day F lengths .verdict)
 
   lines-count : length lines ≡ length (S .clauses)
   lines-count = clause-lines-length S (derivations S) ∙ length-map (S .clauses) (λ (c : ℕ × Derivation). c .1)
 
-  pub unit-count : length (units (readoutLines F lengths)) ≡ unitsWithin (length (S .clauses))
-  unit-count = ap (λ (l : List (List ℕ)). length (units l)) (lines-left F lengths) ∙ units-length heading lines ∙ ap unitsWithin lines-count
+  pub unit-count : length (units (readoutLines day F lengths)) ≡ unitsWithin (length (S .clauses))
+  unit-count = ap (λ (l : List (List ℕ)). length (units l)) (lines-left day F lengths) ∙ units-length heading lines ∙ ap unitsWithin lines-count
 
   -- Unit 0 without clauses, unit 0 with clauses, and any other.
-  pub unit-alone : length (S .clauses) ≡ 0 → unitAt F lengths 0 ≡ heading
+  pub unit-alone : length (S .clauses) ≡ 0 → unitAt day F lengths 0 ≡ heading
   unfolding unitAt
-  unit-alone z = ap (λ (l : List (List ℕ)). getD (units l) 0 []) (lines-left F lengths) ∙ units-one heading lines (lines-count ∙ z)
+  unit-alone z = ap (λ (l : List (List ℕ)). getD (units l) 0 []) (lines-left day F lengths) ∙ units-one heading lines (lines-count ∙ z)
 
-  pub unit-first : (d : Derivation) → clauseOf S 0 ≡ some d → unitAt F lengths 0 ≡ heading ++ clauseLine S 0 d
+  pub unit-first : (d : Derivation) → clauseOf S 0 ≡ some d → unitAt day F lengths 0 ≡ heading ++ clauseLine S 0 d
   unfolding unitAt
   unit-first d q =
       let l = entry-below (derivations S) 0 d q in
-      ap (λ (x : List (List ℕ)). getD (units x) 0 []) (lines-left F lengths)
+      ap (λ (x : List (List ℕ)). getD (units x) 0 []) (lines-left day F lengths)
       ∙ units-first heading lines (omega (arith, l, clause-lines-length S (derivations S)))
       ∙ ap (λ (x : List ℕ). heading ++ x) (clause-line-at S (derivations S) 0 d q)
 
-  pub unit-other : (n : ℕ) (d : Derivation) → (n ≡ 0 → ⊥) → clauseOf S n ≡ some d → unitAt F lengths n ≡ clauseLine S n d
+  pub unit-other : (n : ℕ) (d : Derivation) → (n ≡ 0 → ⊥) → clauseOf S n ≡ some d → unitAt day F lengths n ≡ clauseLine S n d
   unfolding unitAt
   unit-other n d h q =
       let l = entry-below (derivations S) n d q in
-      ap (λ (x : List (List ℕ)). getD (units x) n []) (lines-left F lengths)
+      ap (λ (x : List (List ℕ)). getD (units x) n []) (lines-left day F lengths)
       ∙ units-next heading lines n (positive n h) (omega (arith, l, clause-lines-length S (derivations S)))
       ∙ clause-line-at S (derivations S) n d q
     where

@@ -35,7 +35,7 @@ units-some c q = sym (ap (λ (b : Bool). pick b 1 c) (ne-eqb c 0 q))
 
 module _ {C B N O A : List ℕ} {a : Answer} (R : AfterCheck C B N O A a) where
   count : a .clauses ≡ length (stateLeft (R .file) (lengthsOf (R .before)) .clauses)
-  count = clauses-given (R .file) (lengthsOf (R .before)) a (R .checked .checked .answer)
+  count = clauses-given (R .day) (R .file) (lengthsOf (R .before)) a (R .checked .checked .answer)
 
   -- Where there is a clause, records were read.
   record WasRead : Type 0 where
@@ -73,6 +73,7 @@ module _ {C B N O A : List ℕ} {a : Answer} (R : AfterCheck C B N O A a) where
 -- Any array in the array's place.
 unfoldable pub after-again : {C B N O A A′ : List ℕ} {a : Answer} → AfterCheck C B N O A a → length A′ ≡ 524416 → AfterCheck C B N O A′ a
 after-again {C} {B} {N} {O} {A} {A′} {a} R v = record {
+  day = R .day;
   file = R .file;
   before = R .before;
   lent = R .lent;
@@ -112,7 +113,7 @@ module _ {C B N O A T : List ℕ} {a : Answer} {n : ℕ} (U : UnitReady C B N O 
 module _ {C B N O A A′ T T′ : List ℕ} {a : Answer} {end : ℕ} where
   pub unit-line : {n : ℕ} → (n ≡ 0 → ⊥) → n < a .clauses → LineWritten C B N O A A′ T T′ 0 n end → UnitWritten C B N O A A′ T T′ a n end
   unit-line {n} h l W = record {
-    wrote = λ R. subst (Wrote T T′ 0 end) (sym (unit-other (R .file) (lengthsOf (R .before)) n (there R n l .clause) h (there R n l .isClause))) (line-text R n l W (there R n l));
+    wrote = λ R. subst (Wrote T T′ 0 end) (sym (unit-other (R .day) (R .file) (lengthsOf (R .before)) n (there R n l .clause) h (there R n l .isClause))) (line-text R n l W (there R n l));
     sized = W .sized;
   }
 
@@ -121,12 +122,12 @@ module _ {C B N O A A′ T T′ : List ℕ} {a : Answer} {end : ℕ} where
     wrote = λ R.
         let c = there R n l in
         let S = stateLeft (R .file) (lengthsOf (R .before)) in
-        let v = check (R .file) (lengthsOf (R .before)) .verdict in
+        let v = check (R .day) (R .file) (lengthsOf (R .before)) .verdict in
         subst (Wrote T T′ 0 end)
-        (sym (ap (unitAt (R .file) (lengthsOf (R .before))) z ∙ unit-first (R .file) (lengthsOf (R .before)) (c .clause) (subst (λ (k : ℕ). clauseOf S k ≡ some (c .clause)) z (c .isClause))))
+        (sym (ap (unitAt (R .day) (R .file) (lengthsOf (R .before))) z ∙ unit-first (R .day) (R .file) (lengthsOf (R .before)) (c .clause) (subst (λ (k : ℕ). clauseOf S k ≡ some (c .clause)) z (c .isClause))))
         (subst (λ (k : ℕ). Wrote T T′ 0 end (verdictLine v ++ clauseLine S k (c .clause))) z
         (wrote-then T T₁ T′ 0 middle end (verdictLine v) (clauseLine S n (c .clause))
-        (verdict-line v (verdict-given (R .file) (lengthsOf (R .before)) a (R .checked .checked .answer)) G)
+        (verdict-line v (verdict-given (R .day) (R .file) (lengthsOf (R .before)) a (R .checked .checked .answer)) G)
         (line-text R n l W c)));
     sized = W .sized;
   }
@@ -135,7 +136,7 @@ module _ {C B N O A T T′ : List ℕ} {a : Answer} {end : ℕ} where
   pub unit-heading : {n : ℕ} → n ≡ 0 → a .clauses ≡ 0 → VerdictWritten (a .verdict) T T′ 0 end → Sized N A T′ → UnitWritten C B N O A A T T′ a n end
   unit-heading {n} z none W sized = record {
     wrote = λ R. subst (Wrote T T′ 0 end)
-        (sym (ap (unitAt (R .file) (lengthsOf (R .before))) z ∙ unit-alone (R .file) (lengthsOf (R .before)) (sym (count R) ∙ none)))
-        (verdict-line (check (R .file) (lengthsOf (R .before)) .verdict) (verdict-given (R .file) (lengthsOf (R .before)) a (R .checked .checked .answer)) W);
+        (sym (ap (unitAt (R .day) (R .file) (lengthsOf (R .before))) z ∙ unit-alone (R .day) (R .file) (lengthsOf (R .before)) (sym (count R) ∙ none)))
+        (verdict-line (check (R .day) (R .file) (lengthsOf (R .before)) .verdict) (verdict-given (R .day) (R .file) (lengthsOf (R .before)) a (R .checked .checked .answer)) W);
     sized = sized;
   }

@@ -1,4 +1,4 @@
--- The contract of a piece of the readout: what `readout_piece` promises of every file, every four tables, every clause to begin with and
+-- The contract of a piece of the readout: what `readout_piece` promises of every day, every file, every four tables, every clause to begin with and
 -- every output, with no condition on the call.
 use mathlib.Core.Path.{_≡_}
 use mathlib.Core.List.{List}
@@ -8,13 +8,13 @@ use Rattle.readout.specs.Pieces.{PiecesHold}
 use Rattle.readout.specs.Units.{PieceAt}
 use Rattle.readout.specs.declared.piece.Piece.{Piece}
 
-pub record PieceWritten (file : List ℕ) (before : Tables) (clause : ℕ) (output : List ℕ) (p : Piece) (after : Tables) (output′ : List ℕ) : Type 0 where
+pub record PieceWritten (day : ℕ) (file : List ℕ) (before : Tables) (clause : ℕ) (output : List ℕ) (p : Piece) (after : Tables) (output′ : List ℕ) : Type 0 where
   -- The bytes at the start of the output are those of the piece, the rest of it is untouched; and the two numbers that are answered.
-  pub piece : PieceAt file (lengthsOf before) clause output output′ p
+  pub piece : PieceAt day file (lengthsOf before) clause output output′ p
   -- Each table, cell by cell, as the check leaves it.
   pub symbols : after .symbols ≡ tablesAfter file before .symbols
   pub rows : after .rows ≡ tablesAfter file before .rows
   pub clauses : after .clauses ≡ tablesAfter file before .clauses
   pub bindings : after .bindings ≡ tablesAfter file before .bindings
   -- Pieces put together are the readout, and each moves on or says why not.
-  pub pieces : PiecesHold file (lengthsOf before)
+  pub pieces : PiecesHold day file (lengthsOf before)

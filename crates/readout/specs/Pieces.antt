@@ -29,9 +29,9 @@ abbrev pub afterPiece : List (List ℕ) → ℕ → ℕ → Progress
 afterPiece [] n taken = complete
 afterPiece (u ∷ us) n taken = pick (eqb taken 0) (tooShortFor n) (goOnWith (n + taken))
 
-module _ (file : List ℕ) (lengths : Lengths) where
+module _ (day : ℕ) (file : List ℕ) (lengths : Lengths) where
   unfoldable pub unitsFrom : ℕ → List (List ℕ)
-  unitsFrom n = drop n (units (readoutLines file lengths))
+  unitsFrom n = drop n (units (readoutLines day file lengths))
 
   abbrev pub pieceLines : ℕ → ℕ → List (List ℕ)
   pieceLines n room = fitting room (unitsFrom n)
@@ -50,8 +50,8 @@ module _ (file : List ℕ) (lengths : Lengths) where
 
 -- What holds of the pieces of every file: put together they are the readout; each moves on, or its room is too short for the next line and
 -- nothing is written; and room for the longest line is never too short.
-pub record PiecesHold (file : List ℕ) (lengths : Lengths) : Type 0 where
-  pub together : (text : List ℕ) → Pieces file lengths 0 text → text ≡ readout file lengths
-  pub moves : (n room m : ℕ) → progress file lengths n room ≡ goOnWith m → n < m
-  pub short : (n room m : ℕ) → progress file lengths n room ≡ tooShortFor m → (m ≡ n) × (pieceBytes file lengths n room ≡ [])
-  pub enough : (n room m : ℕ) → 131072 ≤ room → ¬ (progress file lengths n room ≡ tooShortFor m)
+pub record PiecesHold (day : ℕ) (file : List ℕ) (lengths : Lengths) : Type 0 where
+  pub together : (text : List ℕ) → Pieces day file lengths 0 text → text ≡ readout day file lengths
+  pub moves : (n room m : ℕ) → progress day file lengths n room ≡ goOnWith m → n < m
+  pub short : (n room m : ℕ) → progress day file lengths n room ≡ tooShortFor m → (m ≡ n) × (pieceBytes day file lengths n room ≡ [])
+  pub enough : (n room m : ℕ) → 131072 ≤ room → ¬ (progress day file lengths n room ≡ tooShortFor m)

@@ -22,17 +22,18 @@ use Rattle.readout.specs.declared.piece.Rest.the-variants.{Complete, GoO
 abbrev pub unitsWithin : ℕ → ℕ
 unitsWithin clauses = pick (eqb clauses 0) 1 clauses
 
-unfoldable pub unitAt : List ℕ → Lengths → ℕ → List ℕ
-unitAt file lengths n = getD (units (readoutLines file lengths)) n []
+unfoldable pub unitAt : ℕ → List ℕ → Lengths → ℕ → List ℕ
+unitAt day file lengths n = getD (units (readoutLines day file lengths)) n []
 
 -- What is there after a check of some file: its answer, for some tables before it, with the workspace that it left.
 pub record AfterCheck (C B N O A : List ℕ) (a : Answer) : Type 0 where
+  pub day : ℕ
   pub file : List ℕ
   pub before : Tables
   pub lent : Workspace
   pub symbols : List ℕ
   pub rows : List ℕ
-  pub checked : CheckedWith file before lent a (tablesWith symbols rows C B) (workspaceWith N O A)
+  pub checked : CheckedWith day file before lent a (tablesWith symbols rows C B) (workspaceWith N O A)
 
 -- What writing unit n at the start of the buffer asks, and what it says, whichever file was checked and whichever tables there were before.
 pub record UnitReady (C B N O A T : List ℕ) (a : Answer) (n : ℕ) : Type 0 where
@@ -41,7 +42,7 @@ pub record UnitReady (C B N O A T : List ℕ) (a : Answer) (n : ℕ) : Type 0 wh
   pub text : length T ≡ 131072
 
 pub record UnitWritten (C B N O A A′ T T′ : List ℕ) (a : Answer) (n end : ℕ) : Type 0 where
-  pub wrote : (R : AfterCheck C B N O A a) → Wrote T T′ 0 end (unitAt (R .file) (lengthsOf (R .before)) n)
+  pub wrote : (R : AfterCheck C B N O A a) → Wrote T T′ 0 end (unitAt (R .day) (R .file) (lengthsOf (R .before)) n)
   pub sized : Sized N A′ T′
 
 -- What comes after a piece, as the program says it; and where one that began with a clause stopped before clause n.
@@ -54,12 +55,12 @@ abbrev pub stoppedAt : ℕ → ℕ → Progress
 stoppedAt begin n = pick (eqb n begin) (tooShortFor begin) (goOnWith n)
 
 -- The bytes of a piece at the start of an output, and the rest of it as it was.
-pub record PieceAt (file : List ℕ) (lengths : Lengths) (begin : ℕ) (output output′ : List ℕ) (p : Piece) : Type 0 where
-  pub written : p .written ≡ length (pieceBytes file lengths begin (length output))
-  pub rest : restGiven (p .rest) ≡ progress file lengths begin (length output)
-  pub bytes : output′ ≡ pieceBytes file lengths begin (length output) ++ drop (length (pieceBytes file lengths begin (length output))) output
+pub record PieceAt (day : ℕ) (file : List ℕ) (lengths : Lengths) (begin : ℕ) (output output′ : List ℕ) (p : Piece) : Type 0 where
+  pub written : p .written ≡ length (pieceBytes day file lengths begin (length output))
+  pub rest : restGiven (p .rest) ≡ progress day file lengths begin (length output)
+  pub bytes : output′ ≡ pieceBytes day file lengths begin (length output) ++ drop (length (pieceBytes day file lengths begin (length output))) output
 
 -- What writing a piece says, whichever tables there were before the check. The array keeps its length, so that the next piece can be written.
 pub record PieceOf (C B N O A A′ : List ℕ) (a : Answer) (begin : ℕ) (output output′ : List ℕ) (p : Piece) : Type 0 where
-  pub piece : (R : AfterCheck C B N O A a) → PieceAt (R .file) (lengthsOf (R .before)) begin output output′ p
+  pub piece : (R : AfterCheck C B N O A a) → PieceAt (R .day) (R .file) (lengthsOf (R .before)) begin output output′ p
   pub values : length A′ ≡ 524416

@@ -13,7 +13,7 @@ check-with-requires c κs = search needs
 
 write-piece-requires : tie.Need-write-piece-requires
 write-piece-requires c κs =
-    record { file = _; before = _; lent = _; symbols = _; rows = _; checked = c .before .before .before .before .before .before .before .before .before .before .before .before .before .before .check-with .ensures }
+    record { day = _; file = _; before = _; lent = _; symbols = _; rows = _; checked = c .before .before .before .before .before .before .before .before .before .before .before .before .before .before .check-with .ensures }
 
 same-length : tie.Need-same-length
 same-length c = search needs
@@ -32,7 +32,7 @@ same-length-5 c = search needs
 
 returns : tie.Need-returns
 returns c =
-    piece-written _ _ _ _ _ _ _ _ _ _ _ _ _ _ _ _ (c .before .before .before .before .before .before .before .before .before .before .before .before .before .before .before .before .before .check-with .ensures) (c .before .before .write-piece .ensures)
+    piece-written _ _ _ _ _ _ _ _ _ _ _ _ _ _ _ _ _ (c .before .before .before .before .before .before .before .before .before .before .before .before .before .before .before .before .before .check-with .ensures) (c .before .before .write-piece .ensures)
 
 pub readout-piece-spec : {M : Type 1} → statement M
 readout-piece-spec =
