@@ -1,7 +1,9 @@
 // Runs every stored vector through the check and prints, for each file, the answer, a hash of each table, and the length and
-// the hash of its readout. The packs are in data/, and stdout has what the second implementation gives for the same files (`rust/vectors/README.md`).
+// the hash of its readout. The packs are in data/, the last one with a day before each file, and stdout has what the second implementation gives for the same files (`rust/vectors/README.md`).
 mod print;
 
+use dated::day_of;
+use outcomes::outcome::Outcome;
 use outcomes::outcome::outcome_of;
 use pack::Counted;
 use pack::Entry;
@@ -11,15 +13,26 @@ ghost use Prim.Native.Nat.{_≤_};
 ghost use lib.ListN.{length};
 ghost use Rattle.io.specs.Counts.{Counts};
 
+// What the check and the readout give for an entry of a pack: a file, on day 0; or, in a pack with days, what the program proofread reads.
+fn entry_outcome(entry: &[u8], has_days: bool) -> Outcome {
+    if !has_days {
+        return outcome_of(0, entry);
+    }
+    if entry.len() < 2 {
+        return outcome_of(0, entry);
+    }
+    outcome_of(day_of(entry), &entry[2..])
+}
+
 // A line for each file of a pack.
-fn print_files(pack: &[u8]) {
+fn print_files(pack: &[u8], has_days: bool) {
     let mut at = 0;
     let mut place = 0;
     while at < pack.len() {
         let Entry::File(first, end) = entry_at(pack, at) else {
             return;
         };
-        print::line(place, outcome_of(&pack[first..end]));
+        print::line(place, entry_outcome(&pack[first..end], has_days));
         at = end;
         place += 1;
     }
@@ -43,7 +56,7 @@ fn print_name(path: &[u8], files: usize)
 }
 
 // The lines of a group. Whether its pack is whole.
-fn print_group(path: &[u8], pack: &[u8]) -> bool
+fn print_group(path: &[u8], pack: &[u8], has_days: bool) -> bool
     requires { ⌜ 4 ≤ length (now path) ⌝ }
 {
     match count_files(pack) {
@@ -53,7 +66,7 @@ fn print_group(path: &[u8], pack: &[u8]) -> bool
         }
         Counted::Files(n) => {
             print_name(path, n);
-            print_files(pack);
+            print_files(pack, has_days);
             true
         }
     }
@@ -73,7 +86,7 @@ fn read_file(path: &[u8], space: &mut [u8]) -> usize
 }
 
 // Reads the pack of a group into `space` and prints its lines. Whether it could be read whole.
-fn run_in(path: &[u8], space: &mut [u8]) -> bool
+fn run_in(path: &[u8], space: &mut [u8], has_days: bool) -> bool
     requires { ⌜ 4 ≤ length (now path) ⌝ }
 {
     let n = read_file(path, space);
@@ -85,36 +98,39 @@ fn run_in(path: &[u8], space: &mut [u8]) -> bool
         complain(path, b" is too long\n");
         return false;
     }
-    print_group(path, &space[..n])
+    print_group(path, &space[..n], has_days)
 }
 
 // The same with space for the longest pack.
-fn run_group(path: &[u8]) -> bool
+fn run_group(path: &[u8], has_days: bool) -> bool
     requires { ⌜ 4 ≤ length (now path) ⌝ }
 {
     let mut space = [0u8; 655360];
-    run_in(path, &mut space)
+    run_in(path, &mut space, has_days)
 }
 
 // All groups in order, up to the first whose pack cannot be read.
 fn main() {
-    if !run_group(b"cases.bin") {
+    if !run_group(b"cases.bin", false) {
         return;
     }
-    if !run_group(b"published.bin") {
+    if !run_group(b"published.bin", false) {
         return;
     }
-    if !run_group(b"edges.bin") {
+    if !run_group(b"edges.bin", false) {
         return;
     }
-    if !run_group(b"refused.bin") {
+    if !run_group(b"refused.bin", false) {
         return;
     }
-    if !run_group(b"deep.bin") {
+    if !run_group(b"deep.bin", false) {
         return;
     }
-    if !run_group(b"random.bin") {
+    if !run_group(b"random.bin", false) {
         return;
     }
-    run_group(b"long.bin");
+    if !run_group(b"long.bin", false) {
+        return;
+    }
+    run_group(b"days.bin", true);
 }

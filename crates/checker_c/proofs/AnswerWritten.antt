@@ -28,8 +28,8 @@ written a k w r xs q l =
     ∙ ap (λ (v : List ℕ). (v ++ (a .symbols ∷ a .rows ∷ a .clauses ∷ a .bindings ∷ [])) ++ drop 7 xs) q
 
 -- The two ways that the exported check can go.
-pub left-alone : (F : List ℕ) (t : Tables) (A : List ℕ) → length A < 7 → Exported F t A t A
-left-alone F t A l = record {
+pub left-alone : (day : ℕ) (F : List ℕ) (t : Tables) (A : List ℕ) → length A < 7 → Exported day F t A t A
+left-alone day F t A l = record {
   answerLeft = λ m. refl;
   symbolsLeft = λ m. refl;
   rowsLeft = λ m. refl;
@@ -42,8 +42,8 @@ left-alone F t A l = record {
   bindings = λ m. absurd (omega arith);
 }
 
-pub answered : (F : List ℕ) (t : Tables) (A : List ℕ) (a : Answer) (here : Tables) (B : List ℕ) → 7 ≤ length A → Checked F t a here → B ≡ answerGiven a ++ drop 7 A → Exported F t A here B
-answered F t A a here B l C q = record {
+pub answered : (day : ℕ) (F : List ℕ) (t : Tables) (A : List ℕ) (a : Answer) (here : Tables) (B : List ℕ) → 7 ≤ length A → Checked day F t a here → B ≡ answerGiven a ++ drop 7 A → Exported day F t A here B
+answered day F t A a here B l C q = record {
   answerLeft = λ m. absurd (omega arith);
   symbolsLeft = λ m. absurd (omega arith);
   rowsLeft = λ m. absurd (omega arith);
@@ -57,19 +57,19 @@ answered F t A a here B l C q = record {
 }
 
 -- The same with a workspace.
-pub left-alone-with : (file : List ℕ) (before : Tables) (w : Workspace) (answer : List ℕ) → length answer < 7 → ExportedWith file before w answer before w answer
-left-alone-with file before w answer l = record {
-  exported = left-alone file before answer l;
+pub left-alone-with : (day : ℕ) (file : List ℕ) (before : Tables) (w : Workspace) (answer : List ℕ) → length answer < 7 → ExportedWith day file before w answer before w answer
+left-alone-with day file before w answer l = record {
+  exported = left-alone day file before answer l;
   workspaceLeft = λ _. refl;
   nodes = λ m. absurd (omega arith);
   origins = λ m. absurd (omega arith);
   values = λ m. absurd (omega arith);
 }
 
-pub answered-with : (file : List ℕ) (before : Tables) (w : Workspace) (answer : List ℕ) (a : Answer) (after : Tables) (left : Workspace) (answer′ : List ℕ) → 7 ≤ length answer → CheckedWith file before w a after left → answer′ ≡ answerGiven a ++ drop 7 answer
-    → ExportedWith file before w answer after left answer′
-answered-with file before w answer a after left answer′ l X q = record {
-  exported = answered file before answer a after answer′ l (X .checked) q;
+pub answered-with : (day : ℕ) (file : List ℕ) (before : Tables) (w : Workspace) (answer : List ℕ) (a : Answer) (after : Tables) (left : Workspace) (answer′ : List ℕ) → 7 ≤ length answer → CheckedWith day file before w a after left → answer′ ≡ answerGiven a ++ drop 7 answer
+    → ExportedWith day file before w answer after left answer′
+answered-with day file before w answer a after left answer′ l X q = record {
+  exported = answered day file before answer a after answer′ l (X .checked) q;
   workspaceLeft = λ m. absurd (omega arith);
   nodes = λ _. X .nodes;
   origins = λ _. X .origins;

@@ -23,14 +23,14 @@ stored k w n numbers xs q l =
     three xs k w n l ∙ ap (λ (v : List ℕ). v ++ drop 3 xs) q
 
 -- The numbers of an answered piece are those of its definition.
-numbered : (F : List ℕ) (t : Tables) (clause : ℕ) (O : List ℕ) (p : Piece) (here : Tables) (O′ : List ℕ) → PieceWritten F t clause O p here O′ → progressNumbers (restGiven (p .rest)) (p .written) ≡ pieceNumbers F t clause (length O)
-numbered F t clause O p here O′ W =
+numbered : (day : ℕ) (F : List ℕ) (t : Tables) (clause : ℕ) (O : List ℕ) (p : Piece) (here : Tables) (O′ : List ℕ) → PieceWritten day F t clause O p here O′ → progressNumbers (restGiven (p .rest)) (p .written) ≡ pieceNumbers day F t clause (length O)
+numbered day F t clause O p here O′ W =
     ap (λ (r : Progress). progressNumbers r (p .written)) (W .piece .rest)
-    ∙ ap (progressNumbers (progress F (lengthsOf t) clause (length O))) (W .piece .written)
+    ∙ ap (progressNumbers (progress day F (lengthsOf t) clause (length O))) (W .piece .written)
 
 -- The two ways that the exported readout can go.
-pub left-alone : (F : List ℕ) (t : Tables) (clause : ℕ) (O P : List ℕ) → length P < 3 → ExportedReadout F t clause O P t O P
-left-alone F t clause O P l = record {
+pub left-alone : (day : ℕ) (F : List ℕ) (t : Tables) (clause : ℕ) (O P : List ℕ) → length P < 3 → ExportedReadout day F t clause O P t O P
+left-alone day F t clause O P l = record {
   progressLeft = λ m. refl;
   outputLeft = λ m. refl;
   symbolsLeft = λ m. refl;
@@ -46,15 +46,15 @@ left-alone F t clause O P l = record {
   pieces = λ m. absurd (omega arith);
 }
 
-pub piece-exported : (F : List ℕ) (t : Tables) (clause : ℕ) (O P : List ℕ) (p : Piece) (here : Tables) (O′ P′ : List ℕ) → 3 ≤ length P → PieceWritten F t clause O p here O′ → P′ ≡ progressNumbers (restGiven (p .rest)) (p .written) ++ drop 3 P → ExportedReadout F t clause O P here O′ P′
-piece-exported F t clause O P p here O′ P′ l W q = record {
+pub piece-exported : (day : ℕ) (F : List ℕ) (t : Tables) (clause : ℕ) (O P : List ℕ) (p : Piece) (here : Tables) (O′ P′ : List ℕ) → 3 ≤ length P → PieceWritten day F t clause O p here O′ → P′ ≡ progressNumbers (restGiven (p .rest)) (p .written) ++ drop 3 P → ExportedReadout day F t clause O P here O′ P′
+piece-exported day F t clause O P p here O′ P′ l W q = record {
   progressLeft = λ m. absurd (omega arith);
   outputLeft = λ m. absurd (omega arith);
   symbolsLeft = λ m. absurd (omega arith);
   rowsLeft = λ m. absurd (omega arith);
   clausesLeft = λ m. absurd (omega arith);
   bindingsLeft = λ m. absurd (omega arith);
-  numbers = λ m. q ∙ ap (λ (v : List ℕ). v ++ drop 3 P) (numbered F t clause O p here O′ W);
+  numbers = λ m. q ∙ ap (λ (v : List ℕ). v ++ drop 3 P) (numbered day F t clause O p here O′ W);
   output = λ m. W .piece .bytes;
   symbols = λ m. W .symbols;
   rows = λ m. W .rows;

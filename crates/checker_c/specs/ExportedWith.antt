@@ -1,4 +1,4 @@
--- The contract of the exported check for services: what `checker_check_with` promises of every file, every four tables, every answer slice and
+-- The contract of the exported check for services: what `checker_check_with` promises of every day, every file, every four tables, every answer slice and
 -- every workspace, whatever it holds, with no condition on the call.
 use mathlib.Core.Path.{_≡_}
 use mathlib.Core.List.{List}
@@ -9,9 +9,9 @@ use Rattle.verdict.specs.Verdict.{reading}
 use Rattle.checker.specs.Contract.{Workspace, nodesGiven, originsGiven}
 use Rattle.checker_c.specs.Exported.{Exported}
 
-pub record ExportedWith (file : List ℕ) (before : Tables) (lent : Workspace) (answerBefore : List ℕ) (after : Tables) (left : Workspace) (answerAfter : List ℕ) : Type 0 where
+pub record ExportedWith (day : ℕ) (file : List ℕ) (before : Tables) (lent : Workspace) (answerBefore : List ℕ) (after : Tables) (left : Workspace) (answerAfter : List ℕ) : Type 0 where
   -- The answer and the tables as `checker_check` leaves them.
-  pub exported : Exported file before answerBefore after answerAfter
+  pub exported : Exported day file before answerBefore after answerAfter
   -- An answer slice of fewer than seven cells: the workspace is left as it was.
   pub workspaceLeft : length answerBefore < 7 → left ≡ lent
   -- Otherwise its node table and its table of origins as the check leaves them. What its array of values holds is left to the program.

@@ -22,9 +22,10 @@ ghost use Rattle.checker_c.specs.ExportedWith.{ExportedWith};
 ghost use Rattle.checker_c.specs.ExportedReadout.{ExportedReadout};
 ghost use Rattle.checker_c.specs.ExportedCovers.{ExportedCovers};
 
-// The check of a file, with the answer in seven cells. Where `answer` has fewer, nothing is touched.
+// The check of a file on a day, with the answer in seven cells. Where `answer` has fewer, nothing is touched.
 #[no_mangle]
 pub extern "C" fn checker_check(
+    day: u16,
     file: &[u8],
     symbols: &mut [u16],
     rows: &mut [u16],
@@ -32,18 +33,19 @@ pub extern "C" fn checker_check(
     bindings: &mut [u16],
     answer: &mut [u16],
 )
-    ensures { λ _. ⌜ Exported (now (file .entry)) (tablesWith (now (symbols .entry)) (now (rows .entry)) (now (clauses .entry)) (now (bindings .entry))) (now (answer .entry)) (tablesWith (now (symbols .exit)) (now (rows .exit)) (now (clauses .exit)) (now (bindings .exit))) (now (answer .exit)) ⌝ }
+    ensures { λ _. ⌜ Exported day (now (file .entry)) (tablesWith (now (symbols .entry)) (now (rows .entry)) (now (clauses .entry)) (now (bindings .entry))) (now (answer .entry)) (tablesWith (now (symbols .exit)) (now (rows .exit)) (now (clauses .exit)) (now (bindings .exit))) (now (answer .exit)) ⌝ }
 {
     if answer.len() < 7 {
         return;
     }
-    let a = check(file, symbols, rows, clauses, bindings);
+    let a = check(day, file, symbols, rows, clauses, bindings);
     put(a, answer);
 }
 
 // The same for services, with a workspace that the caller lends and keeps between files, whatever it holds.
 #[no_mangle]
 pub extern "C" fn checker_check_with(
+    day: u16,
     file: &[u8],
     symbols: &mut [u16],
     rows: &mut [u16],
@@ -54,12 +56,13 @@ pub extern "C" fn checker_check_with(
     values: &mut ValueCells,
     answer: &mut [u16],
 )
-    ensures { λ _. ⌜ ExportedWith (now (file .entry)) (tablesWith (now (symbols .entry)) (now (rows .entry)) (now (clauses .entry)) (now (bindings .entry))) (workspaceWith (now (nodes .entry)) (now (origins .entry)) (now (values .entry))) (now (answer .entry)) (tablesWith (now (symbols .exit)) (now (rows .exit)) (now (clauses .exit)) (now (bindings .exit))) (workspaceWith (now (nodes .exit)) (now (origins .exit)) (now (values .exit))) (now (answer .exit)) ⌝ }
+    ensures { λ _. ⌜ ExportedWith day (now (file .entry)) (tablesWith (now (symbols .entry)) (now (rows .entry)) (now (clauses .entry)) (now (bindings .entry))) (workspaceWith (now (nodes .entry)) (now (origins .entry)) (now (values .entry))) (now (answer .entry)) (tablesWith (now (symbols .exit)) (now (rows .exit)) (now (clauses .exit)) (now (bindings .exit))) (workspaceWith (now (nodes .exit)) (now (origins .exit)) (now (values .exit))) (now (answer .exit)) ⌝ }
 {
     if answer.len() < 7 {
         return;
     }
     let a = check_with(
+        day,
         file,
         symbols,
         rows,
@@ -93,9 +96,10 @@ pub extern "C" fn checker_covers(
     put_covering(r, answer);
 }
 
-// A piece of the readout of a file, from a clause on, with the progress in three cells. Where `progress` has fewer, nothing is touched.
+// A piece of the readout of a file on a day, from a clause on, with the progress in three cells. Where `progress` has fewer, nothing is touched.
 #[no_mangle]
 pub extern "C" fn checker_readout(
+    day: u16,
     file: &[u8],
     symbols: &mut [u16],
     rows: &mut [u16],
@@ -105,11 +109,11 @@ pub extern "C" fn checker_readout(
     output: &mut [u8],
     progress: &mut [u64],
 )
-    ensures { λ _. ⌜ ExportedReadout (now (file .entry)) (tablesWith (now (symbols .entry)) (now (rows .entry)) (now (clauses .entry)) (now (bindings .entry))) clause (now (output .entry)) (now (progress .entry)) (tablesWith (now (symbols .exit)) (now (rows .exit)) (now (clauses .exit)) (now (bindings .exit))) (now (output .exit)) (now (progress .exit)) ⌝ }
+    ensures { λ _. ⌜ ExportedReadout day (now (file .entry)) (tablesWith (now (symbols .entry)) (now (rows .entry)) (now (clauses .entry)) (now (bindings .entry))) clause (now (output .entry)) (now (progress .entry)) (tablesWith (now (symbols .exit)) (now (rows .exit)) (now (clauses .exit)) (now (bindings .exit))) (now (output .exit)) (now (progress .exit)) ⌝ }
 {
     if progress.len() < 3 {
         return;
     }
-    let p = readout_piece(file, symbols, rows, clauses, bindings, clause, output);
+    let p = readout_piece(day, file, symbols, rows, clauses, bindings, clause, output);
     put_progress(p, progress);
 }

@@ -77,10 +77,10 @@ module _ (CL N O : List ℕ) (a : answer.Answer) (c d : ℕ) (r : given.Covering
     }
 
 -- What the check leaves is what comparing asks for.
-pub covers-answered : (F s₀ r₀ C₀ B₀ N₀ O₀ A₀ s₁ r₁ C₁ B₁ N₁ O₁ A₁ : List ℕ) (a : answer.Answer) (c d : ℕ) (r : given.Covering) → CheckedWith F (tablesWith s₀ r₀ C₀ B₀) (workspaceWith N₀ O₀ A₀) a (tablesWith s₁ r₁ C₁ B₁) (workspaceWith N₁ O₁ A₁)
+pub covers-answered : (day : ℕ) (F s₀ r₀ C₀ B₀ N₀ O₀ A₀ s₁ r₁ C₁ B₁ N₁ O₁ A₁ : List ℕ) (a : answer.Answer) (c d : ℕ) (r : given.Covering) → CheckedWith day F (tablesWith s₀ r₀ C₀ B₀) (workspaceWith N₀ O₀ A₀) a (tablesWith s₁ r₁ C₁ B₁) (workspaceWith N₁ O₁ A₁)
     → Compared C₁ N₁ O₁ a c d r → CoversAnswered F (tablesWith s₀ r₀ C₀ B₀) c d r (tablesWith s₁ r₁ C₁ B₁)
-covers-answered F s₀ r₀ C₀ B₀ N₀ O₀ A₀ s₁ r₁ C₁ B₁ N₁ O₁ A₁ a c d r K G =
-    let X = G .covering (record { file = F; before = tablesWith s₀ r₀ C₀ B₀; lent = workspaceWith N₀ O₀ A₀; symbols = s₁; rows = r₁; bindings = B₁; values = A₁; checked = K }) in
+covers-answered day F s₀ r₀ C₀ B₀ N₀ O₀ A₀ s₁ r₁ C₁ B₁ N₁ O₁ A₁ a c d r K G =
+    let X = G .covering (record { day = day; file = F; before = tablesWith s₀ r₀ C₀ B₀; lent = workspaceWith N₀ O₀ A₀; symbols = s₁; rows = r₁; bindings = B₁; values = A₁; checked = K }) in
     record {
       answer = X .answer;
       numbers = X .numbers;

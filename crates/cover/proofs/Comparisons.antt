@@ -17,7 +17,8 @@ use Rattle.verdict.specs.Refusal.{Reason}
 use Rattle.verdict.specs.State.{arityOf, State, derivations, clauseOf}
 use Rattle.verdict.specs.Step.{stateOf}
 use Rattle.verdict.specs.Tables.{Tables, lengthsOf}
-use Rattle.verdict.specs.Verdict.{Verdict, refusal, verdictNumbers, check, Answer as Checked, longEnough, ending, Stands, standing, firstEmpty, everyClause, stateGiven}
+use Rattle.verdict.specs.Force.{usesInForce}
+use Rattle.verdict.specs.Verdict.{Verdict, refusal, verdictNumbers, check, Answer as Checked, longEnough, ending, Stands, standing, firstEmpty, stateGiven}
 use Rattle.verdict.proofs.Demanded.{not-refused, stands-check, tables-fail, long-enough}
 use Rattle.verdict.proofs.Inversions.{entry-some}
 use Rattle.verdict.proofs.Reading.{ending-stands, reading-records}
@@ -205,7 +206,7 @@ module _ (CL N O : List ℕ) (a : answer.Answer) (c d : ℕ) (R : AfterCheck CL 
   -- The file does not stand.
   pub refused-nothing : verdictStands (a .verdict) ≡ false → (S : State) (C D : List RowLiteral) → ¬ Comparable (R .file) (R .before) c d S C D
   refused-nothing f S C D K =
-      refused-not-standing (a .verdict) (firstEmpty everyClause (derivations S)) (given-verdict ∙ ap (λ (x : Checked). verdictNumbers (x .verdict)) (stands-check (R .day) (R .file) (R .before) S (K .stands) (long-enough (R .file) (R .before) (K .tablesLong)))) f
+      refused-not-standing (a .verdict) (firstEmpty (usesInForce S (R .day)) (derivations S)) (given-verdict ∙ ap (λ (x : Checked). verdictNumbers (x .verdict)) (stands-check (R .day) (R .file) (R .before) S (K .stands) (long-enough (R .file) (R .before) (K .tablesLong)))) f
 
   module _ (t : verdictStands (a .verdict) ≡ true) where
     stood : (longEnough (lengthsOf (R .before)) ≡ true) × ((S : State) × Stands (R .file) S)

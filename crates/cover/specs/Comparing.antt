@@ -48,6 +48,7 @@ isInput O count c = ltb c count && eqb (originCode O c) 1
 
 -- What is there after a check of some file: its answer, for some tables before it, with the workspace that it left.
 pub record AfterCheck (C N O : List ℕ) (a : answer.Answer) : Type 0 where
+  pub day : ℕ
   pub file : List ℕ
   pub before : Tables
   pub lent : Workspace
@@ -55,7 +56,7 @@ pub record AfterCheck (C N O : List ℕ) (a : answer.Answer) : Type 0 where
   pub rows : List ℕ
   pub bindings : List ℕ
   pub values : List ℕ
-  pub checked : CheckedWith file before lent a (tablesWith symbols rows C bindings) (workspaceWith N O values)
+  pub checked : CheckedWith day file before lent a (tablesWith symbols rows C bindings) (workspaceWith N O values)
 
 -- What comparing says, whichever file was checked and whichever tables there were before.
 pub record CoveringOf (file : List ℕ) (before : Tables) (c d : ℕ) (r : Covering) : Type 0 where

@@ -10,7 +10,8 @@ use covering::Covering;
 ghost use Rattle.entry.specs.Progress.{tablesWith};
 ghost use Rattle.cover.specs.Contract.{CoversAnswered};
 
-// Whether input clause c of a file covers input clause d. The file is checked first, and the tables are left as the check leaves them.
+// Whether input clause c of a file covers input clause d. The file is checked first, and the tables are left as the check leaves them. Whether it
+// stands does not depend on a day, so any day does.
 pub fn covers(
     file: &[u8],
     symbols: &mut [u16],
@@ -26,6 +27,7 @@ pub fn covers(
     let mut origins = [0u16; 32768];
     let mut values = [0u16; 524416];
     let a = check_with(
+        0,
         file,
         symbols,
         rows,

@@ -25,52 +25,52 @@ use Rattle.outcomes.specs.declared.digest.Digest.{Digest}
 use Rattle.hash.proofs.HashLaws.{bytes-append}
 
 -- A piece that was written into an output with room for the longest line: its bytes, and where it ended.
-record Ended (F : List ℕ) (L : Lengths) (n : ℕ) (output output′ : List ℕ) (p : Piece) : Type 0 where
-  pub bytes : take (p .written) output′ ≡ pieceBytes F L n 131072
-  pub written : p .written ≡ length (pieceBytes F L n 131072)
-  pub rest : restGiven (p .rest) ≡ progress F L n 131072
+record Ended (day : ℕ) (F : List ℕ) (L : Lengths) (n : ℕ) (output output′ : List ℕ) (p : Piece) : Type 0 where
+  pub bytes : take (p .written) output′ ≡ pieceBytes day F L n 131072
+  pub written : p .written ≡ length (pieceBytes day F L n 131072)
+  pub rest : restGiven (p .rest) ≡ progress day F L n 131072
 
-ended : {F : List ℕ} {L : Lengths} {n : ℕ} {output output′ : List ℕ} {p : Piece} → length output ≡ 131072 → PieceAt F L n output output′ p → Ended F L n output output′ p
-ended {F} {L} {n} {output} {output′} {p} room P = record {
-  bytes = ap (take (p .written)) (P .bytes) ∙ take-at (pieceBytes F L n (length output)) (drop (length (pieceBytes F L n (length output))) output) (p .written) (sym (P .written)) ∙ ap (pieceBytes F L n) room;
-  written = P .written ∙ ap (λ (k : ℕ). length (pieceBytes F L n k)) room;
-  rest = P .rest ∙ ap (progress F L n) room;
+ended : {day : ℕ} {F : List ℕ} {L : Lengths} {n : ℕ} {output output′ : List ℕ} {p : Piece} → length output ≡ 131072 → PieceAt day F L n output output′ p → Ended day F L n output output′ p
+ended {day} {F} {L} {n} {output} {output′} {p} room P = record {
+  bytes = ap (take (p .written)) (P .bytes) ∙ take-at (pieceBytes day F L n (length output)) (drop (length (pieceBytes day F L n (length output))) output) (p .written) (sym (P .written)) ∙ ap (pieceBytes day F L n) room;
+  written = P .written ∙ ap (λ (k : ℕ). length (pieceBytes day F L n k)) room;
+  rest = P .rest ∙ ap (progress day F L n) room;
 }
 
 -- The pieces so far, up to clause n.
-pub record Taken (F : List ℕ) (L : Lengths) (n size hash : ℕ) : Type 0 where
+pub record Taken (day : ℕ) (F : List ℕ) (L : Lengths) (n size hash : ℕ) : Type 0 where
   pub text : List ℕ
-  pub onward : (more : List ℕ) → Pieces F L n more → Pieces F L 0 (text ++ more)
+  pub onward : (more : List ℕ) → Pieces day F L n more → Pieces day F L 0 (text ++ more)
   pub sizes : size ≡ length text
   pub hashes : hash ≡ hashBytes start text
 
-taken-none : (F : List ℕ) (L : Lengths) → Taken F L 0 0 start
+taken-none : (day : ℕ) (F : List ℕ) (L : Lengths) → Taken day F L 0 0 start
 unfolding hashBytes
-taken-none F L = record { text = []; onward = λ more P. P; sizes = refl; hashes = refl }
+taken-none day F L = record { text = []; onward = λ more P. P; sizes = refl; hashes = refl }
 
-module _ {F : List ℕ} {L : Lengths} {n size hash : ℕ} (T : Taken F L n size hash) {output output′ : List ℕ} {p : Piece} (E : Ended F L n output output′ p) {hash′ : ℕ} (h : hash′ ≡ hashBytes hash (take (p .written) output′)) where
-  sum : size + p .written ≡ length (T .text ++ pieceBytes F L n 131072)
-  sum = omega (arith, T .sizes, E .written, length-append (T .text) (pieceBytes F L n 131072))
+module _ {day : ℕ} {F : List ℕ} {L : Lengths} {n size hash : ℕ} (T : Taken day F L n size hash) {output output′ : List ℕ} {p : Piece} (E : Ended day F L n output output′ p) {hash′ : ℕ} (h : hash′ ≡ hashBytes hash (take (p .written) output′)) where
+  sum : size + p .written ≡ length (T .text ++ pieceBytes day F L n 131072)
+  sum = omega (arith, T .sizes, E .written, length-append (T .text) (pieceBytes day F L n 131072))
 
-  both : hash′ ≡ hashBytes start (T .text ++ pieceBytes F L n 131072)
+  both : hash′ ≡ hashBytes start (T .text ++ pieceBytes day F L n 131072)
   both =
       h
       ∙ ap (hashBytes hash) (E .bytes)
-      ∙ ap (λ (k : ℕ). hashBytes k (pieceBytes F L n 131072)) (T .hashes)
-      ∙ sym (bytes-append start (T .text) (pieceBytes F L n 131072))
+      ∙ ap (λ (k : ℕ). hashBytes k (pieceBytes day F L n 131072)) (T .hashes)
+      ∙ sym (bytes-append start (T .text) (pieceBytes day F L n 131072))
 
-  taken-more : (m : ℕ) → p .rest ≡ GoOn m → Taken F L m (size + p .written) hash′
+  taken-more : (m : ℕ) → p .rest ≡ GoOn m → Taken day F L m (size + p .written) hash′
   taken-more m q = record {
-    text = T .text ++ pieceBytes F L n 131072;
-    onward = λ more P. subst (Pieces F L 0) (sym (append-assoc (T .text) (pieceBytes F L n 131072) more)) (T .onward (pieceBytes F L n 131072 ++ more) (piece 131072 (sym (E .rest) ∙ ap restGiven q) P));
+    text = T .text ++ pieceBytes day F L n 131072;
+    onward = λ more P. subst (Pieces day F L 0) (sym (append-assoc (T .text) (pieceBytes day F L n 131072) more)) (T .onward (pieceBytes day F L n 131072 ++ more) (piece 131072 (sym (E .rest) ∙ ap restGiven q) P));
     sizes = sum;
     hashes = both;
   }
 
-  taken-all : p .rest ≡ Complete → (d : Digest) → d .length ≡ size + p .written → d .hash ≡ hash′ → DigestOf F L d
+  taken-all : p .rest ≡ Complete → (d : Digest) → d .length ≡ size + p .written → d .hash ≡ hash′ → DigestOf day F L d
   taken-all q d ds dh =
-      let whole : T .text ++ pieceBytes F L n 131072 ≡ readout F L =
-      pieces-always F L .together (T .text ++ pieceBytes F L n 131072) (T .onward (pieceBytes F L n 131072) (lastPiece 131072 (sym (E .rest) ∙ ap restGiven q))) in
+      let whole : T .text ++ pieceBytes day F L n 131072 ≡ readout day F L =
+      pieces-always day F L .together (T .text ++ pieceBytes day F L n 131072) (T .onward (pieceBytes day F L n 131072) (lastPiece 131072 (sym (E .rest) ∙ ap restGiven q))) in
       record {
         length = ds ∙ sum ∙ ap length whole;
         hash = dh ∙ both ∙ ap (hashBytes start) whole;
@@ -78,29 +78,29 @@ module _ {F : List ℕ} {L : Lengths} {n size hash : ℕ} (T : Taken F L n size 
 
 -- The invariant of the loop, whichever tables there were before the check.
 abbrev pub TakenAfter : List ℕ → List ℕ → List ℕ → List ℕ → List ℕ → Answer → ℕ → ℕ → ℕ → Type 0
-TakenAfter C B N O A a n size hash = (R : AfterCheck C B N O A a) → Taken (R .file) (lengthsOf (R .before)) n size hash
+TakenAfter C B N O A a n size hash = (R : AfterCheck C B N O A a) → Taken (R .day) (R .file) (lengthsOf (R .before)) n size hash
 
 pub after-none : {C B N O A : List ℕ} {a : Answer} → TakenAfter C B N O A a 0 0 start
-after-none R = taken-none (R .file) (lengthsOf (R .before))
+after-none R = taken-none (R .day) (R .file) (lengthsOf (R .before))
 
 -- A piece by the array as it is now.
 module _ {C B N O A A₁ A₂ : List ℕ} {a : Answer} {n : ℕ} {output output′ : List ℕ} {p : Piece} (values : length A₁ ≡ 524416) (room : length output ≡ 131072) (P : PieceOf C B N O A₁ A₂ a n output output′ p) where
-  ended-after : (R : AfterCheck C B N O A a) → Ended (R .file) (lengthsOf (R .before)) n output output′ p
+  ended-after : (R : AfterCheck C B N O A a) → Ended (R .day) (R .file) (lengthsOf (R .before)) n output output′ p
   unfolding after-again
   ended-after R = ended room (P .piece (after-again R values))
 
   pub short : AfterCheck C B N O A a → length output′ ≡ 131072 → p .written ≤ 131072
   unfolding after-again
   short R kept =
-      let Q : PieceAt (R .file) (lengthsOf (R .before)) n output output′ p = P .piece (after-again R values) in
-      let b = pieceBytes (R .file) (lengthsOf (R .before)) n (length output) in
+      let Q : PieceAt (R .day) (R .file) (lengthsOf (R .before)) n output output′ p = P .piece (after-again R values) in
+      let b = pieceBytes (R .day) (R .file) (lengthsOf (R .before)) n (length output) in
       omega (arith, Q .written, ap length (Q .bytes), length-append b (drop (length b) output), length-drop (length b) output, kept, room)
 
   pub onwards : AfterCheck C B N O A a → (m : ℕ) → p .rest ≡ GoOn m → n < m
-  onwards R m q = pieces-always (R .file) (lengthsOf (R .before)) .moves n 131072 m (sym (ended-after R .rest) ∙ ap restGiven q)
+  onwards R m q = pieces-always (R .day) (R .file) (lengthsOf (R .before)) .moves n 131072 m (sym (ended-after R .rest) ∙ ap restGiven q)
 
   pub never-short : AfterCheck C B N O A a → (m : ℕ) → p .rest ≡ TooShort m → ⊥
-  never-short R m q = pieces-always (R .file) (lengthsOf (R .before)) .enough n 131072 m (omega arith) (sym (ended-after R .rest) ∙ ap restGiven q)
+  never-short R m q = pieces-always (R .day) (R .file) (lengthsOf (R .before)) .enough n 131072 m (omega arith) (sym (ended-after R .rest) ∙ ap restGiven q)
 
   module _ {size hash hash′ : ℕ} (X : TakenAfter C B N O A a n size hash) (h : hash′ ≡ hashBytes hash (take (p .written) output′)) where
     pub after-more : (m : ℕ) → p .rest ≡ GoOn m → TakenAfter C B N O A a m (size + p .written) hash′

@@ -11,12 +11,12 @@ use Rattle.outcomes.specs.Digest.{DigestAfter}
 use Rattle.outcomes.specs.Outcome.{OutcomeOf}
 use Rattle.outcomes.specs.declared.digest.Digest.{Digest}
 
-pub outcome-given : (file : List ℕ) (before : Tables) (w : Workspace) (a : Answer) (S R C B N O A : List ℕ) (s r c b : ℕ) (d : Digest) → CheckedWith file before w a (tablesWith S R C B) (workspaceWith N O A) → s ≡ hashCells start S → r ≡ hashCells start R → c ≡ hashCells start C → b ≡ hashCells start B → DigestAfter C B N O A a d → OutcomeOf file before (record { answer = a; hashes = record { symbols = s; rows = r; clauses = c; bindings = b }; readout = d })
-outcome-given file before w a S R C B N O A s r c b d X ps pr pc pb D = record {
+pub outcome-given : (day : ℕ) (file : List ℕ) (before : Tables) (w : Workspace) (a : Answer) (S R C B N O A : List ℕ) (s r c b : ℕ) (d : Digest) → CheckedWith day file before w a (tablesWith S R C B) (workspaceWith N O A) → s ≡ hashCells start S → r ≡ hashCells start R → c ≡ hashCells start C → b ≡ hashCells start B → DigestAfter C B N O A a d → OutcomeOf day file before (record { answer = a; hashes = record { symbols = s; rows = r; clauses = c; bindings = b }; readout = d })
+outcome-given day file before w a S R C B N O A s r c b d X ps pr pc pb D = record {
   answer = X .checked .answer;
   symbols = ps ∙ ap (hashCells start) (X .checked .symbols);
   rows = pr ∙ ap (hashCells start) (X .checked .rows);
   clauses = pc ∙ ap (hashCells start) (X .checked .clauses);
   bindings = pb ∙ ap (hashCells start) (X .checked .bindings);
-  readout = D .digest (record { file = file; before = before; lent = w; symbols = S; rows = R; checked = X });
+  readout = D .digest (record { day = day; file = file; before = before; lent = w; symbols = S; rows = R; checked = X });
 }

@@ -11,11 +11,11 @@ use Rattle.readout.specs.Units.{AfterCheck}
 use Rattle.hash.specs.Hash.{start, hashBytes}
 use Rattle.outcomes.specs.declared.digest.Digest.{Digest}
 
--- The number of bytes of a file's readout, and their hash.
-pub record DigestOf (file : List ℕ) (lengths : Lengths) (d : Digest) : Type 0 where
-  pub length : d .length ≡ length (readout file lengths)
-  pub hash : d .hash ≡ hashBytes start (readout file lengths)
+-- The number of bytes of a file's readout on a day, and their hash.
+pub record DigestOf (day : ℕ) (file : List ℕ) (lengths : Lengths) (d : Digest) : Type 0 where
+  pub length : d .length ≡ length (readout day file lengths)
+  pub hash : d .hash ≡ hashBytes start (readout day file lengths)
 
 -- The same by what a check left, whichever file it was of and whichever tables there were before it.
 pub record DigestAfter (C B N O A : List ℕ) (a : Answer) (d : Digest) : Type 0 where
-  pub digest : (R : AfterCheck C B N O A a) → DigestOf (R .file) (lengthsOf (R .before)) d
+  pub digest : (R : AfterCheck C B N O A a) → DigestOf (R .day) (R .file) (lengthsOf (R .before)) d

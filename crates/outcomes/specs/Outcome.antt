@@ -14,12 +14,12 @@ use Rattle.outcomes.specs.declared.outcome.Outcome.{Outcome}
 abbrev pub zeroTables : Tables
 zeroTables = record { symbols = replicate (named .symbols) 0; rows = replicate (named .rows) 0; clauses = replicate (named .clauses) 0; bindings = replicate (named .bindings) 0 }
 
--- The seven numbers of the answer, the hash of each table, and the length and the hash of the readout, for a file that is checked with
--- some tables.
-pub record OutcomeOf (file : List ℕ) (before : Tables) (o : Outcome) : Type 0 where
-  pub answer : answerGiven (o .answer) ≡ answerNumbers (check file (lengthsOf before))
+-- The seven numbers of the answer, the hash of each table, and the length and the hash of the readout, for a file that is checked on a
+-- day with some tables.
+pub record OutcomeOf (day : ℕ) (file : List ℕ) (before : Tables) (o : Outcome) : Type 0 where
+  pub answer : answerGiven (o .answer) ≡ answerNumbers (check day file (lengthsOf before))
   pub symbols : o .hashes .symbols ≡ hashCells start (tablesAfter file before .symbols)
   pub rows : o .hashes .rows ≡ hashCells start (tablesAfter file before .rows)
   pub clauses : o .hashes .clauses ≡ hashCells start (tablesAfter file before .clauses)
   pub bindings : o .hashes .bindings ≡ hashCells start (tablesAfter file before .bindings)
-  pub readout : DigestOf file (lengthsOf before) (o .readout)
+  pub readout : DigestOf day file (lengthsOf before) (o .readout)

@@ -25,8 +25,9 @@ pub struct Outcome {
     pub readout: Digest,
 }
 
-// Checks a file with the caller's tables, and goes on to the readout by what the check left.
+// Checks a file on a day with the caller's tables, and goes on to the readout by what the check left.
 fn outcome_with(
+    day: u16,
     file: &[u8],
     symbols: &mut [u16],
     rows: &mut [u16],
@@ -36,9 +37,10 @@ fn outcome_with(
     origins: &mut Origins,
     values: &mut ValueCells,
 ) -> Outcome
-    ensures { λ o. ⌜ OutcomeOf (now (file .entry)) (tablesWith (now (symbols .entry)) (now (rows .entry)) (now (clauses .entry)) (now (bindings .entry))) o ⌝ }
+    ensures { λ o. ⌜ OutcomeOf day (now (file .entry)) (tablesWith (now (symbols .entry)) (now (rows .entry)) (now (clauses .entry)) (now (bindings .entry))) o ⌝ }
 {
     let answer = check_with(
+        day,
         file,
         symbols,
         rows,
@@ -63,8 +65,8 @@ fn outcome_with(
 }
 
 // The same with tables that are just long enough and zero before.
-pub fn outcome_of(file: &[u8]) -> Outcome
-    ensures { λ o. ⌜ OutcomeOf (now (file .entry)) zeroTables o ⌝ }
+pub fn outcome_of(day: u16, file: &[u8]) -> Outcome
+    ensures { λ o. ⌜ OutcomeOf day (now (file .entry)) zeroTables o ⌝ }
 {
     let mut symbols = [0u16; 4096];
     let mut rows = [0u16; 4096];
@@ -74,6 +76,7 @@ pub fn outcome_of(file: &[u8]) -> Outcome
     let mut origins = [0u16; 32768];
     let mut values = [0u16; 524416];
     outcome_with(
+        day,
         file,
         &mut symbols,
         &mut rows,

@@ -1,5 +1,5 @@
-// Reads a proof file from standard input and prints its readout on standard output, and nothing else. It reads one byte more than a file
-// may have, so that a longer input is refused and an endless one ends. Where the input cannot be read it prints nothing, where the output
+// Reads two bytes of day, low byte first, and then a proof file from standard input, and prints the file's readout on that day on standard
+// output, and nothing else. It reads one byte more than a day and a file may have, so that a longer input is refused and an endless one ends. Where the input cannot be read it prints nothing, where the output
 // cannot be written it stops, and standard error says which. It takes no arguments.
 mod input;
 mod output;
@@ -10,6 +10,8 @@ use checker::check_with;
 use following::nodes::Nodes;
 use following::nodes::Origins;
 use following::values::ValueCells;
+use dated::day_of;
+use dated::file_part;
 use input::Input;
 use input::read_input;
 use libc::STDIN_FILENO;
@@ -40,8 +42,9 @@ fn print_lines(
     }
 }
 
-// Checks a file once, and prints its readout by what the check left.
+// Checks a file once, on a day, and prints its readout by what the check left.
 fn print_with(
+    day: u16,
     file: &[u8],
     symbols: &mut [u16],
     rows: &mut [u16],
@@ -52,6 +55,7 @@ fn print_with(
     values: &mut ValueCells,
 ) {
     let a = check_with(
+        day,
         file,
         symbols,
         rows,
@@ -65,7 +69,7 @@ fn print_with(
 }
 
 // The same with tables that are just long enough.
-fn print_readout(file: &[u8]) {
+fn print_readout(day: u16, file: &[u8]) {
     let mut symbols = [0u16; 4096];
     let mut rows = [0u16; 4096];
     let mut clauses = [0u16; 20480];
@@ -74,6 +78,7 @@ fn print_readout(file: &[u8]) {
     let mut origins = [0u16; 32768];
     let mut values = [0u16; 524416];
     print_with(
+        day,
         file,
         &mut symbols,
         &mut rows,
@@ -87,12 +92,14 @@ fn print_readout(file: &[u8]) {
 
 // Reads the input and prints its readout.
 fn run() {
-    let mut space = [0u8; 65537];
+    let mut space = [0u8; 65539];
     let Input::Whole(n) = read_input(STDIN_FILENO, &mut space) else {
         report::unread();
         return;
     };
-    print_readout(&space[..n]);
+    let part = file_part(n);
+    let day = day_of(&space[..n]);
+    print_readout(day, &space[part.first..part.end]);
 }
 
 fn main() {

@@ -6,7 +6,7 @@ use libc::STDERR_FILENO;
 pub fn usage() {
     io::write_all(
         STDERR_FILENO,
-        b"proofread takes no arguments; it reads a proof file from standard input: proofread < FILE\n",
+        b"proofread takes no arguments; it reads two bytes of day, low byte first, and a proof file from standard input: proofread < DAY_AND_FILE\n",
     );
 }
 

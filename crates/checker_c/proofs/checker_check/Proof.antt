@@ -2,10 +2,14 @@ use Rattle.checker_c.proofs.AnswerWritten.{left-alone, answered}
 use borrow.Author.Needs.{needs}
 use Rattle.checker_c.proofs.checker_check.Statement.{statement}
 use Rattle.checker_c.proofs.checker_check.Tie as tie
+use Rattle.checker_c.proofs.checker_check.Reads as reads
+use Rattle.checker_c.proofs.checker_check.Lts as lts
+use Rattle.checker.proofs.check.Reads as check-reads
+use Rattle.checker_c.proofs.cells.put.Reads as put-reads
 
 returns : tie.Need-returns
 returns c =
-    left-alone _ _ _ (c .if1 .taken)
+    left-alone _ _ _ _ (c .if1 .taken)
 
 check-requires : tie.Need-check-requires
 check-requires c κs = search needs
@@ -30,7 +34,7 @@ same-length-5 c = search needs
 
 returns-2 : tie.Need-returns-2
 returns-2 c =
-    answered _ _ _ _ _ _ (c .before .before .before .before .before .before .before .before .before .before .before .before .before .before .before .before .before .if1 .left) (c .before .before .before .before .before .before .before .before .before .before .before .before .check .ensures) (c .before .before .put .ensures)
+    answered _ _ _ _ _ _ _ (c .before .before .before .before .before .before .before .before .before .before .before .before .before .before .before .before .before .if1 .left) (c .before .before .before .before .before .before .before .before .before .before .before .before .check .ensures) (c .before .before .put .ensures)
 
 pub checker-check-spec : {M : Type 1} → statement M
 checker-check-spec =

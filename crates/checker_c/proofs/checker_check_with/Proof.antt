@@ -10,7 +10,7 @@ use Rattle.checker_c.proofs.cells.put.Reads as put-reads
 
 returns : tie.Need-returns
 returns c =
-    left-alone-with _ _ _ _ (c .if1 .taken)
+    left-alone-with _ _ _ _ _ (c .if1 .taken)
 
 check-with-requires : tie.Need-check-with-requires
 check-with-requires c κs = search needs
@@ -35,7 +35,7 @@ same-length-5 c = search needs
 
 returns-2 : tie.Need-returns-2
 returns-2 c =
-    answered-with _ _ _ _ _ _ _ _ (c .before .before .before .before .before .before .before .before .before .before .before .before .before .before .before .before .before .before .before .before .if1 .left) (c .before .before .before .before .before .before .before .before .before .before .before .before .check-with .ensures) (c .before .before .put .ensures)
+    answered-with _ _ _ _ _ _ _ _ _ (c .before .before .before .before .before .before .before .before .before .before .before .before .before .before .before .before .before .before .before .before .if1 .left) (c .before .before .before .before .before .before .before .before .before .before .before .before .check-with .ensures) (c .before .before .put .ensures)
 
 pub checker-check-with-spec : {M : Type 1} → statement M
 checker-check-with-spec =

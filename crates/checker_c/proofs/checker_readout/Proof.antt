@@ -2,10 +2,14 @@ use Rattle.checker_c.proofs.ProgressWritten.{left-alone, piece-exported
 use borrow.Author.Needs.{needs}
 use Rattle.checker_c.proofs.checker_readout.Statement.{statement}
 use Rattle.checker_c.proofs.checker_readout.Tie as tie
+use Rattle.checker_c.proofs.checker_readout.Reads as reads
+use Rattle.checker_c.proofs.checker_readout.Lts as lts
+use Rattle.checker_c.proofs.progress.put_progress.Reads as put-progress-reads
+use Rattle.readout.proofs.readout_piece.Reads as readout-piece-reads
 
 returns : tie.Need-returns
 returns c =
-    left-alone _ _ _ _ _ (c .if1 .taken)
+    left-alone _ _ _ _ _ _ (c .if1 .taken)
 
 readout-piece-requires : tie.Need-readout-piece-requires
 readout-piece-requires c κs = search needs
@@ -33,7 +37,7 @@ same-length-6 c = search needs
 
 returns-2 : tie.Need-returns-2
 returns-2 c =
-    piece-exported _ _ _ _ _ _ _ _ _ (c .before .before .before .before .before .before .before .before .before .before .before .before .before .before .before .before .before .before .before .before .if1 .left) (c .before .before .before .before .before .before .before .before .before .before .before .before .before .before .readout-piece .ensures) (c .before .before .put-progress .ensures)
+    piece-exported _ _ _ _ _ _ _ _ _ _ (c .before .before .before .before .before .before .before .before .before .before .before .before .before .before .before .before .before .before .before .before .if1 .left) (c .before .before .before .before .before .before .before .before .before .before .before .before .before .before .readout-piece .ensures) (c .before .before .put-progress .ensures)
 
 pub checker-readout-spec : {M : Type 1} → statement M
 checker-readout-spec =

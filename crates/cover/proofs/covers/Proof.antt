@@ -13,7 +13,7 @@ check-with-requires c κs = search needs
 
 compare-requires : tie.Need-compare-requires
 compare-requires c κs =
-    record { file = _; before = _; lent = _; symbols = _; rows = _; bindings = _; values = _; checked = c .before .before .before .before .before .before .before .before .before .before .before .check-with .ensures }
+    record { day = _; file = _; before = _; lent = _; symbols = _; rows = _; bindings = _; values = _; checked = c .before .before .before .before .before .before .before .before .before .before .before .check-with .ensures }
 
 same-length : tie.Need-same-length
 same-length c = search needs
@@ -29,7 +29,7 @@ same-length-4 c = search needs
 
 returns : tie.Need-returns
 returns c =
-    covers-answered _ _ _ _ _ _ _ _ _ _ _ _ _ _ _ _ _ _ _ (c .before .before .before .before .before .before .before .before .before .before .before .before .check-with .ensures) (c .compare .ensures)
+    covers-answered _ _ _ _ _ _ _ _ _ _ _ _ _ _ _ _ _ _ _ _ (c .before .before .before .before .before .before .before .before .before .before .before .before .check-with .ensures) (c .compare .ensures)
 
 pub covers-spec : {M : Type 1} → statement M
 covers-spec =

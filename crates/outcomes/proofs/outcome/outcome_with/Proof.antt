@@ -26,7 +26,7 @@ hash-of-requires-4 c κs = search needs
 
 digest-of-requires : tie.Need-digest-of-requires
 digest-of-requires c κs =
-    record { file = _; before = _; lent = _; symbols = _; rows = _; checked = c .before .before .before .before .before .before .before .before .before .before .before .before .before .before .before .before .before .before .before .before .before .check-with .ensures }
+    record { day = _; file = _; before = _; lent = _; symbols = _; rows = _; checked = c .before .before .before .before .before .before .before .before .before .before .before .before .before .before .before .before .before .before .before .before .before .check-with .ensures }
 
 same-length : tie.Need-same-length
 same-length c = search needs
@@ -42,7 +42,7 @@ same-length-4 c = search needs
 
 returns : tie.Need-returns
 returns c =
-    outcome-given _ _ _ _ _ _ _ _ _ _ _ _ _ _ _ _ (c .before .before .before .before .before .before .before .before .before .before .before .before .before .before .before .before .before .before .before .before .before .before .check-with .ensures) (c .before .before .before .before .before .before .before .before .before .before .before .before .hash-of .ensures) (c .before .before .before .before .before .before .before .before .before .before .hash-of2 .ensures) (c .before .before .before .before .before .before .before .before .hash-of3 .ensures) (c .before .before .before .before .before .before .hash-of4 .ensures) (c .digest-of .ensures)
+    outcome-given _ _ _ _ _ _ _ _ _ _ _ _ _ _ _ _ _ (c .before .before .before .before .before .before .before .before .before .before .before .before .before .before .before .before .before .before .before .before .before .before .check-with .ensures) (c .before .before .before .before .before .before .before .before .before .before .before .before .hash-of .ensures) (c .before .before .before .before .before .before .before .before .before .before .hash-of2 .ensures) (c .before .before .before .before .before .before .before .before .hash-of3 .ensures) (c .before .before .before .before .before .before .hash-of4 .ensures) (c .digest-of .ensures)
 
 pub outcome-with-spec : {M : Type 1} → statement M
 outcome-with-spec =
