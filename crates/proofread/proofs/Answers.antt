@@ -1,14 +1,17 @@
 -- What the tests of a read's answer show of what it says, and where the bytes lie that came.
 use mathlib.Core.List.{List}
 use mathlib.Core.Path.{_≡_, refl, sym, subst}
-use mathlib.Core.Bool.{true, false}
+use mathlib.Core.Bool.{Bool, true, false}
 use Prim.Native.Nat.{ℕ, zero, suc, _+_, _-_, _≤_}
 use native.Mathlib.Omega.{arith}
-use lib.Dec.{T}
+use lib.Dec.{ltb, T}
 use lib.IntN.{ℤ, pos, negsuc, natAbs}
 use lib.ListN.{length, take, drop, length-take, length-drop}
 use lib.Signed.{ltZ, nonNeg}
 use borrow.Author.Tests.{ltb-true, ltb-false}
+use Rattle.record.specs.Record.{pick}
+use Rattle.dated.specs.Dated.{filePart}
+use Rattle.dated.specs.declared.Part.{Part}
 use Rattle.io.specs.Counts.{Counts}
 use Rattle.libc.specs.Io.{Moved}
 use Rattle.proofread.specs.Input.{readOf, Room, Inside}
@@ -49,3 +52,14 @@ grown {g} {n} xs done inside room came =
 
 pub inside : {r : Input} {n : ℕ} (xs : List ℕ) → Inside r xs → r ≡ Whole n → Counts n xs
 inside xs in-space whole = subst (λ (r : Input). Inside r xs) whole in-space
+
+-- The part of the space that is the file lies within it.
+abbrev Within : ℕ → Part → Type 0
+Within size p = (p .first ≤ p .end) × (p .end ≤ size)
+
+pub part-within : {p : Part} (n size : ℕ) → p ≡ filePart n → n ≤ size → 1 ≤ size → (p .first ≤ p .end) × (p .end ≤ size)
+part-within n size e l m = subst (Within size) (sym e) (try (ltb n 2) refl)
+  where
+    try : (b : Bool) → ltb n 2 ≡ b → Within size (pick b (record { first = 0; end = 1 }) (record { first = 2; end = n }))
+    try true q = (omega arith, m)
+    try false q = (ltb-false n 2 q, l)

@@ -97,9 +97,11 @@ fn run() {
         report::unread();
         return;
     };
-    let part = file_part(n);
     let day = day_of(&space[..n]);
-    print_readout(day, &space[part.first..part.end]);
+    let part = file_part(n);
+    let first = part.first;
+    let end = part.end;
+    print_readout(day, &space[first..end]);
 }
 
 fn main() {

@@ -1,0 +1,42 @@
+-- What the check leaves is what the lines ask for.
+use borrow.Author.Needs.{needs}
+use Rattle.proofread.proofs.print_with.Statement.{statement}
+use Rattle.proofread.proofs.print_with.Tie as tie
+use Rattle.proofread.proofs.print_with.Reads as reads
+use Rattle.proofread.proofs.print_with.Lts as lts
+use Rattle.checker.proofs.check_with.Reads as check-with-reads
+use Rattle.proofread.proofs.print_lines.Reads as print-lines-reads
+
+check-with-requires : tie.Need-check-with-requires
+check-with-requires c κs = search needs
+
+print-lines-requires : tie.Need-print-lines-requires
+print-lines-requires c κs =
+    record { day = _; file = _; before = _; lent = _; symbols = _; rows = _; checked = c .before .before .before .before .before .before .before .before .before .before .before .before .before .check-with .ensures }
+
+same-length : tie.Need-same-length
+same-length c = search needs
+
+same-length-2 : tie.Need-same-length-2
+same-length-2 c = search needs
+
+same-length-3 : tie.Need-same-length-3
+same-length-3 c = search needs
+
+same-length-4 : tie.Need-same-length-4
+same-length-4 c = search needs
+
+returns : tie.Need-returns
+returns c = search needs
+
+pub print-with-spec : {M : Type 1} → statement M
+print-with-spec =
+    tie.close
+    (tie.spec
+    check-with-requires
+    print-lines-requires
+    same-length
+    same-length-2
+    same-length-3
+    same-length-4
+    returns)
