@@ -7,13 +7,18 @@ use Rattle.pack.proofs.PackLaws.{inside}
 use borrow.Author.Needs.{needs}
 use Rattle.cases.proofs.print_files.Statement.{statement}
 use Rattle.cases.proofs.print_files.Tie as tie
+use Rattle.cases.proofs.print_files.Reads as reads
+use Rattle.cases.proofs.print_files.Lts as lts
+use Rattle.cases.proofs.entry_outcome.Reads as entry-outcome-reads
+use Rattle.cases.proofs.print.line.Reads as line-reads
+use Rattle.pack.proofs.entry_at.Reads as entry-at-reads
 
 abbrev Inv-loop : tie.InvT-loop
-Inv-loop pack at₀ place₀ at place =
+Inv-loop pack has-days at₀ place₀ at place =
     (at ≤ length pack) × (place ≤ at)
 
 abbrev μ-loop : tie.MeasureT-loop
-μ-loop pack at₀ place₀ at place =
+μ-loop pack has-days at₀ place₀ at place =
     length pack - at
 
 loop-holds : tie.Need-loop-holds Inv-loop μ-loop
@@ -31,20 +36,20 @@ enum-told c = search needs
 returns : tie.Need-returns Inv-loop μ-loop
 returns c = search needs
 
-sub-outcome-of : tie.Need-sub-outcome-of Inv-loop μ-loop
-sub-outcome-of c =
+sub-entry-outcome : tie.Need-sub-entry-outcome Inv-loop μ-loop
+sub-entry-outcome c =
     let i = inside (sym (c .before .before .before .entry-at .ensures) ∙ c .before .first .given .1) in omega (arith, i .ordered)
 
-part-outcome-of-start : tie.Need-part-outcome-of-start Inv-loop μ-loop
-part-outcome-of-start c =
+part-entry-outcome-start : tie.Need-part-entry-outcome-start Inv-loop μ-loop
+part-entry-outcome-start c =
     let i = inside (sym (c .before .before .before .entry-at .ensures) ∙ c .before .first .given .1) in omega (arith, i .ordered, i .ends)
 
-part-outcome-of-end : tie.Need-part-outcome-of-end Inv-loop μ-loop
-part-outcome-of-end c =
+part-entry-outcome-end : tie.Need-part-entry-outcome-end Inv-loop μ-loop
+part-entry-outcome-end c =
     let i = inside (sym (c .before .before .before .entry-at .ensures) ∙ c .before .first .given .1) in omega (arith, i .ordered, i .ends)
 
-outcome-of-requires : tie.Need-outcome-of-requires Inv-loop μ-loop
-outcome-of-requires c κs = search needs
+entry-outcome-requires : tie.Need-entry-outcome-requires Inv-loop μ-loop
+entry-outcome-requires c κs = search needs
 
 line-requires : tie.Need-line-requires Inv-loop μ-loop
 line-requires c κs = search needs
@@ -77,10 +82,10 @@ print-files-spec =
     enum-known-first
     enum-told
     returns
-    sub-outcome-of
-    part-outcome-of-start
-    part-outcome-of-end
-    outcome-of-requires
+    sub-entry-outcome
+    part-entry-outcome-start
+    part-entry-outcome-end
+    entry-outcome-requires
     line-requires
     add-place
     loop-less
