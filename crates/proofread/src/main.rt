@@ -7,11 +7,11 @@ mod report;
 
 use answer::Answer;
 use checker::check_with;
+use dated::day_of;
+use dated::file_part;
 use following::nodes::Nodes;
 use following::nodes::Origins;
 use following::values::ValueCells;
-use dated::day_of;
-use dated::file_part;
 use input::Input;
 use input::read_input;
 use libc::STDIN_FILENO;
