@@ -32,11 +32,11 @@ windows-next ws (q ∷ rs) r = windows-next (withWindowOf ws q) rs r
 -- A record keeps how many flags there are, and so do all.
 record-length : (day : ℕ) (p L : List ℕ) → length (withRecord day p L) ≡ length L
 unfolding withRecord
-record-length day p L = try (eqb (kindOf p) 8)
+record-length day p L = try _ (eqb (kindOf p) 8)
   where
-    try : (b : Bool) → length (pick b (set L (fieldOf p 0) (dayFlag day p)) L) ≡ length L
-    try true = length-set L (fieldOf p 0) (dayFlag day p)
-    try false = refl
+    try : (v : ℕ) (b : Bool) → length (pick b (set L (fieldOf p 0) v) L) ≡ length L
+    try v true = length-set L (fieldOf p 0) v
+    try v false = refl
 
 after-length : (day : ℕ) (F : List ℕ) (k : ℕ) (L : List ℕ) → length (flagsAfter day F k L) ≡ length L
 after-length day F zero L = refl
