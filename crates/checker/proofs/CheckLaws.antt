@@ -15,7 +15,7 @@ use Rattle.derivation.specs.Stored.{originTableOf, literalsCell}
 use Rattle.answer.specs.Given.{answerGiven, numbersWith, accepts, firstAccepted, standingNumbers, allSet, endedNumbers}
 use Rattle.tables.specs.Cells.{clearedPart}
 use Rattle.entry.specs.Progress.{nodeTableOf, countsOf, ReadTo, tablesWith}
-use Rattle.checker.specs.Reader.{Begun, EndsAs, EndedWith, Readable, FileRead, FileReadWith}
+use Rattle.reading.specs.Reader.{Begun, EndsAs, EndedWith, Readable, FileRead, FileReadWith}
 use Rattle.verdict.specs.Refusal.{Reason, reasonNumber}
 use Rattle.verdict.specs.Force.{usesInForce}
 use Rattle.verdict.specs.State.{State, entry, derivations, clauseOf}

@@ -9,7 +9,7 @@ use Rattle.unification.specs.Row.{Variable}
 use Rattle.unification.proofs.Tests.{true-not-false}
 use Rattle.checker.specs.Contract.{Checked, Workspace, workspaceWith, CheckedWith}
 use Rattle.answer.specs.Given.{answerGiven, untouchedNumbers}
-use Rattle.checker.specs.Reader.{Readable, FileRead, FileReadWith, clearTable}
+use Rattle.reading.specs.Reader.{Readable, FileRead, FileReadWith, clearTable}
 use Rattle.tables.specs.Cells.{clearedPart}
 use Rattle.derivation.specs.Stored.{originTableOf}
 use Rattle.entry.specs.Progress.{nodeTableOf}

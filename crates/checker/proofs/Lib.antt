@@ -1,4 +1,2 @@
-pub mod RecordLaws
-pub mod RecordsLaws
 pub mod CheckLaws
 pub mod CheckedLaws

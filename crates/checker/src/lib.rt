@@ -1,7 +1,6 @@
 // The check of a proof file. The definitions are in the crate verdict: `Verdict` and `Tables` have what the check answers, `Demands`
-// what is demanded of it. In specs/, `Contract` has what `check` promises, and `Reader` says how this program goes about it. Single
-// records are read by the crates entry, resolution and factoring.
-mod reader;
+// what is demanded of it. In specs/, `Contract` has what `check` promises; `Reader` of the crate reading says how this program goes
+// about it. Single records are read by the crates record_entry, resolution and factoring.
 mod workspace;
 
 use answer::Answer;
@@ -12,13 +11,13 @@ use answer::untouched;
 use following::nodes::Nodes;
 use following::nodes::Origins;
 use following::values::ValueCells;
-use reader::read_records;
+use reading::reader::read_records;
 use tables::clear;
 use workspace::clear_table;
 use workspace::whole_table;
 use workspace::whole_values;
 ghost use Rattle.checker.specs.Contract.{Checked, CheckedWith, workspaceWith};
-ghost use Rattle.checker.specs.Reader.{Readable, FileRead, ReadableWith, FileReadWith};
+ghost use Rattle.reading.specs.Reader.{Readable, FileRead, ReadableWith, FileReadWith};
 ghost use Rattle.entry.specs.Progress.{tablesWith};
 
 // The named parts cleared, and all records read. The rows go to the node table as well, and the clauses to the table of origins.

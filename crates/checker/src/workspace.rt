@@ -5,7 +5,7 @@ use following::values::ValueCells;
 use tables::clear;
 ghost use mathlib.Core.Path.{_≡_};
 ghost use lib.ListN.{length};
-ghost use Rattle.checker.specs.Reader.{clearTable};
+ghost use Rattle.reading.specs.Reader.{clearTable};
 
 // A node table or a table of origins is whole.
 pub fn whole_table(table: &Nodes)

@@ -1,26 +1,22 @@
-// The check of a proof file, its readout and which clause covers which, for C. The definitions are in specs/: `Exported` says what
+// The check of a proof file, its readout and which clause covers which, for C. The definitions are in the crate exported: `Exported` says what
 // `checker_check` promises, `ExportedWith` what `checker_check_with`, `ExportedReadout` what `checker_readout` and `ExportedCovers` what
 // `checker_covers` does, and checker.h has their declarations.
-mod cells;
-mod covering;
-mod progress;
-
-use cells::put;
 use checker::check;
 use checker::check_with;
 use cover::covers;
-use covering::put_covering;
+use exported::cells::put;
+use exported::covering::put_covering;
+use exported::progress::put_progress;
 use following::nodes::Nodes;
 use following::nodes::Origins;
 use following::values::ValueCells;
-use progress::put_progress;
 use readout::readout_piece;
 ghost use Rattle.entry.specs.Progress.{tablesWith};
 ghost use Rattle.checker.specs.Contract.{workspaceWith};
-ghost use Rattle.checker_c.specs.Exported.{Exported};
-ghost use Rattle.checker_c.specs.ExportedWith.{ExportedWith};
-ghost use Rattle.checker_c.specs.ExportedReadout.{ExportedReadout};
-ghost use Rattle.checker_c.specs.ExportedCovers.{ExportedCovers};
+ghost use Rattle.exported.specs.Exported.{Exported};
+ghost use Rattle.exported.specs.ExportedWith.{ExportedWith};
+ghost use Rattle.exported.specs.ExportedReadout.{ExportedReadout};
+ghost use Rattle.exported.specs.ExportedCovers.{ExportedCovers};
 
 // The check of a file on a day, with the answer in seven cells. Where `answer` has fewer, nothing is touched.
 #[no_mangle]

@@ -15,7 +15,7 @@ use Rattle.unification.specs.Term.{Term}
 use Rattle.unification.proofs.Tests.{to-T, from-T, both-true, true-not-false}
 use Rattle.derivation.specs.Derivation.{literalOf}
 use Rattle.cover.specs.Covering.{Substitution, Turns}
-use Rattle.matching.specs.Matching.{atomsMatched}
+use Rattle.images.specs.Matching.{atomsMatched}
 use Rattle.matching.specs.Pairs.{bit, isPair, leftNumber, rightNumber, numbersMatched, pairMatched, Pairs, foundPair, pairsMatched}
 use Rattle.cover.proofs.Solutions.{TermsOf, Noted, AtomsCame, atoms-came}
 use Rattle.cover.proofs.Taking.{same-or-not, Holds}

@@ -15,7 +15,7 @@ use Rattle.unification.specs.Row.{argumentTerms}
 use Rattle.unification.specs.Term.{Term, Terms, var, app, nil, cons, apply, applyAll}
 use Rattle.unification.proofs.Tests.{from-T, both-true, true-not-false}
 use Rattle.cover.specs.Covering.{Substitution}
-use Rattle.matching.specs.Matching.{andThen, imaged, sameHead, argumentsImaged, Images, withNotes, withRows, rowMatched, ifImaged, rowsMatched, notesOf, atomsMatched}
+use Rattle.images.specs.Matching.{andThen, imaged, sameHead, argumentsImaged, Images, withNotes, withRows, rowMatched, ifImaged, rowsMatched, notesOf, atomsMatched}
 use Rattle.cover.proofs.Taking.{same-or-not, only-zeros, Holds, Taken, taken}
 
 -- The node table N has the rows whose terms, over variable numbers, `term` gives: rows name earlier rows, and equal terms are equal rows.

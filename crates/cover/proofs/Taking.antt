@@ -12,7 +12,7 @@ use borrow.Author.Tests.{eqb-true, eqb-false}
 use Rattle.record.specs.Record.{pick}
 use Rattle.unification.proofs.Tests.{true-not-false}
 use Rattle.cover.specs.Covering.{Substitution}
-use Rattle.matching.specs.Matching.{imaged}
+use Rattle.images.specs.Matching.{imaged}
 
 pub same-or-not : (a b : ℕ) → (a ≡ b) ⊎ ¬ (a ≡ b)
 same-or-not a b = try (eqb a b) refl

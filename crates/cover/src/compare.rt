@@ -9,7 +9,7 @@ use clauses::literals_cell;
 use clauses::origin_code;
 use following::nodes::Nodes;
 use following::nodes::Origins;
-use matching::images::Notes;
+use images::images::Notes;
 use matching::pairs::Found;
 use matching::pairs::Together;
 use matching::pairs::fill_table;

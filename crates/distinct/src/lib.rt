@@ -6,7 +6,7 @@ ghost use Prim.Native.Nat.{_+_, _≤_, _<_};
 ghost use lib.ListN.{length};
 ghost use Rattle.unification.specs.Repeated.{equalLists};
 ghost use Rattle.distinct.specs.Rows.{nodeAt, rowWithCells, foundRow};
-ghost use Rattle.distinct.specs.Index.{bucketOf, Indexed, Findable, Listable};
+ghost use Rattle.distinct.specs.Index.{bucketOf, Indexed, Listable};
 use following::nodes::Nodes;
 
 // For each bucket one more than its newest row, or 0.
@@ -22,7 +22,7 @@ pub enum FoundRow {
 }
 
 // The bucket of eight cells. The products do not wait for each other.
-fn bucket(code: u16, a: u16, b: u16, c: u16, d: u16, e: u16, f: u16, g: u16) -> usize
+pub fn bucket(code: u16, a: u16, b: u16, c: u16, d: u16, e: u16, f: u16, g: u16) -> usize
     ensures { λ k. ⌜ (k ≡ bucketOf (code ∷ a ∷ b ∷ c ∷ d ∷ e ∷ f ∷ g ∷ [])) × (k < 4096) ⌝ }
 {
     let left = (code as u64) * 4031196873
@@ -37,7 +37,7 @@ fn bucket(code: u16, a: u16, b: u16, c: u16, d: u16, e: u16, f: u16, g: u16) -> 
 }
 
 // Whether row r has this code and these numbers. Most rows differ in one of the first cells, so it stops at the first difference.
-fn same_cells(nodes: &Nodes, r: u16, code: u16, numbers: &[u16; 7]) -> bool
+pub fn same_cells(nodes: &Nodes, r: u16, code: u16, numbers: &[u16; 7]) -> bool
     requires { ⌜ length (now nodes) ≡ 32768 ⌝ }
     requires { ⌜ length (now numbers) ≡ 7 ⌝ }
     requires { ⌜ r < 4096 ⌝ }
@@ -58,7 +58,7 @@ fn same_cells(nodes: &Nodes, r: u16, code: u16, numbers: &[u16; 7]) -> bool
 }
 
 // The lowest row below n that has this code and these numbers, by comparing every row.
-fn scan_rows(nodes: &Nodes, n: u16, code: u16, numbers: &[u16; 7]) -> FoundRow
+pub fn scan_rows(nodes: &Nodes, n: u16, code: u16, numbers: &[u16; 7]) -> FoundRow
     requires { ⌜ length (now nodes) ≡ 32768 ⌝ }
     requires { ⌜ length (now numbers) ≡ 7 ⌝ }
     requires { ⌜ n ≤ 4096 ⌝ }
@@ -70,45 +70,6 @@ fn scan_rows(nodes: &Nodes, n: u16, code: u16, numbers: &[u16; 7]) -> FoundRow
             return FoundRow::At(row);
         }
         row += 1;
-    }
-    FoundRow::Nowhere
-}
-
-// The row below n that has this code and these numbers. Listed rows differ from each other, so the first that is found is the lowest.
-// A chain is followed for 16 rows: where it goes on, rows were chosen to collide, and going through the table is faster.
-pub fn find_row(
-    nodes: &Nodes,
-    heads: &Heads,
-    links: &Links,
-    n: u16,
-    code: u16,
-    numbers: &[u16; 7],
-) -> FoundRow
-    requires { ⌜ Findable (now nodes) n (now heads) (now links) code (now numbers) ⌝ }
-    ensures { λ f. ⌜ f ≡ foundRow (rowWithCells (now (nodes .entry)) n (code ∷ now (numbers .entry))) ⌝ }
-{
-    let b = bucket(
-        code,
-        numbers[0],
-        numbers[1],
-        numbers[2],
-        numbers[3],
-        numbers[4],
-        numbers[5],
-        numbers[6],
-    );
-    let mut c = heads[b];
-    let mut compared: u16 = 0;
-    while c > 0 {
-        let r = c - 1;
-        if same_cells(nodes, r, code, numbers) {
-            return FoundRow::At(r);
-        }
-        compared += 1;
-        if compared == 16 {
-            return scan_rows(nodes, n, code, numbers);
-        }
-        c = links[r as usize];
     }
     FoundRow::Nowhere
 }

@@ -44,7 +44,7 @@ pub(crate) fn earliest_of(nodes: &Nodes, r: u16) -> u16
 }
 
 // The fields of an application with each argument taken so. Row 0 is never a repeat, so unused fields stay zero.
-pub(crate) fn taken_arguments(nodes: &Nodes, numbers: &[u16; 7]) -> [u16; 7]
+pub fn taken_arguments(nodes: &Nodes, numbers: &[u16; 7]) -> [u16; 7]
     requires { ⌜ length (now nodes) ≡ 32768 ⌝ }
     ensures { λ ns. ⌜ ns ≡ takenArguments (now (nodes .entry)) (now (numbers .entry)) ⌝ }
 {
@@ -67,7 +67,7 @@ fn taken_literal(nodes: &Nodes, n: u16) -> u16
     2 * earliest_of(nodes, n / 2) + n % 2
 }
 
-pub(crate) fn taken_literals(nodes: &Nodes, numbers: &[u16; 7]) -> [u16; 7]
+pub fn taken_literals(nodes: &Nodes, numbers: &[u16; 7]) -> [u16; 7]
     requires { ⌜ RowsReady (now nodes) ⌝ }
     ensures { λ ns. ⌜ ns ≡ takenLiterals (now (nodes .entry)) (now (numbers .entry)) ⌝ }
 {
@@ -83,7 +83,7 @@ pub(crate) fn taken_literals(nodes: &Nodes, numbers: &[u16; 7]) -> [u16; 7]
 }
 
 // Reason 7: whether no literal of an input clause is on a variable row.
-pub(crate) fn no_variable(nodes: &Nodes, part: &[u8]) -> bool
+pub fn no_variable(nodes: &Nodes, part: &[u8]) -> bool
     requires { ⌜ length (now nodes) ≡ 32768 ⌝ }
     requires { ⌜ countOf (now part) ≤ 7 ⌝ }
     ensures { λ b. ⌜ b ≡ noVariable (now (nodes .entry)) (inputLiterals (decoded (now (part .entry)))) ⌝ }

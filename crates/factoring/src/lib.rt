@@ -4,56 +4,22 @@ use clauses::index_cell;
 use clauses::literals_cell;
 use entry::entry::Counts;
 use entry::entry::Entered;
-use fields::step_in_range;
 use following::nodes::Nodes;
 use following::nodes::Origins;
 use following::values::ValueCells;
 use inference::Atom;
 use inference::NamedPair;
-use inference::finish_step;
 use inference::named_pair;
 use inference::same_sign;
-use loading::load;
 use outlines::outlines_clash;
 use record::fields;
 use record::record_part;
-use unify::Unified;
-use unify::unify_literals;
+use step_end::finish_step;
+use step_fields::step_in_range;
+use step_unify::unify_factor;
 ghost use mathlib.Core.Path.{_≡_};
 ghost use Rattle.record.specs.Record.{recordPart, kindOf};
-ghost use Rattle.unify.specs.Unifying.{outcomeOf};
-ghost use Rattle.verdict.specs.Step.{unifyFactor};
-ghost use Rattle.inference.specs.Stepping.{BeforeStep, Factoring, UnifiedTables, atomNamed, FactorNamed, StepRead};
-
-// Unifies the two atoms of a factor over the bindings of its parent.
-fn unify_factor(
-    k: u16,
-    counts: Counts,
-    clauses: &[u16],
-    bindings: &mut [u16],
-    nodes: &Nodes,
-    origins: &Origins,
-    values: &mut ValueCells,
-    kept: Atom,
-    deleted: Atom,
-) -> Unified
-    requires { ⌜ Factoring k counts (now clauses) (now bindings) (now nodes) (now origins) (now values) kept deleted ⌝ }
-    ensures { λ u. ⌜ ((R : Factoring k counts (now (clauses .entry)) (now (bindings .entry)) (now (nodes .entry)) (now (origins .entry)) (now (values .entry)) kept deleted) → unifyFactor (R .step .state) (atomNamed (R .kept)) (atomNamed (R .deleted)) ≡ outcomeOf (now (bindings .exit)) (counts .bindings) u) ⌝ }
-    ensures { λ u. ⌜ UnifiedTables (now (bindings .entry)) (now (bindings .exit)) (now (values .exit)) (counts .bindings) u ⌝ }
-{
-    following::values::clear(values, index_cell(clauses, kept.clause));
-    load(origins, clauses, bindings, nodes, values, kept.clause, 0);
-    unify_literals(
-        nodes,
-        values,
-        bindings,
-        counts.bindings,
-        kept.row,
-        kept.index,
-        deleted.row,
-        deleted.index,
-    )
-}
+ghost use Rattle.inference.specs.Stepping.{BeforeStep, FactorNamed, StepRead};
 
 // A factor on two named atoms of one clause: outlines, unification, and its end. Its result is no larger than the clause, so no limit is passed.
 fn factor_atoms(

@@ -2,17 +2,16 @@
 // has the contracts; what the tests are stands in `Refusal` of the crate verdict.
 use record::count;
 use record::field;
-use record::kind;
 use record::record_part;
 use tables::cell;
 ghost use mathlib.Core.Path.{_≡_};
 ghost use mathlib.Core.List.{map};
 ghost use Prim.Native.Nat.{_≤_};
-ghost use lib.ListN.{take, drop};
-ghost use Rattle.record.specs.Record.{decoded, countOf, fieldsOf, symbolKind, variableKind, applicationKind, inputKind, severalKind};
+ghost use lib.ListN.{drop};
+ghost use Rattle.record.specs.Record.{decoded, countOf, fieldsOf, symbolKind, variableKind, applicationKind, inputKind};
 ghost use Rattle.derivation.specs.Derivation.{inputLiterals};
-ghost use Rattle.verdict.specs.Refusal.{zeros, inRange, argumentRows, allBelow, rising};
-ghost use Rattle.fields.specs.Fields.{arityIn, arityAnswer, stepInRange, rightCount};
+ghost use Rattle.verdict.specs.Refusal.{zeros, inRange, argumentRows, allBelow};
+ghost use Rattle.fields.specs.Fields.{arityIn, arityAnswer};
 
 // A symbol's arity, or that there is no such symbol.
 pub enum Arity {
@@ -21,7 +20,7 @@ pub enum Arity {
 }
 
 // Whether the fields from number `from` on are all zero.
-fn zeros_from(part: &[u8], from: u8) -> bool
+pub fn zeros_from(part: &[u8], from: u8) -> bool
     ensures { λ b. ⌜ b ≡ zeros (drop from (fieldsOf (now (part .entry)))) ⌝ }
 {
     let mut i = from;
@@ -77,62 +76,6 @@ pub fn input_in_range(part: &[u8]) -> bool
 {
     let n = count(part);
     if n <= 7 { zeros_from(part, n) } else { false }
-}
-
-// A resolve uses four fields, a factor and a window three; byte 1 is zero in all.
-pub fn step_in_range(part: &[u8], used: u8) -> bool
-    ensures { λ b. ⌜ b ≡ stepInRange used (decoded (now (part .entry))) ⌝ }
-{
-    if count(part) == 0 {
-        zeros_from(part, used)
-    } else {
-        false
-    }
-}
-
-// A resolve on several right literals has one to four of them, from field d on.
-pub fn several_in_range(part: &[u8]) -> bool
-    ensures { λ b. ⌜ b ≡ inRange severalKind (decoded (now (part .entry))) ⌝ }
-{
-    let n = count(part);
-    if n == 0 {
-        return false;
-    }
-    if n <= 4 {
-        zeros_from(part, 3 + n)
-    } else {
-        false
-    }
-}
-
-// How many right literals a resolve names, one or as many as byte 1 says; none where byte 1 or an unused field is out of its range.
-pub fn right_count(part: &[u8]) -> u8
-    ensures { λ n. ⌜ n ≡ rightCount (now (part .entry)) ⌝ }
-{
-    if kind(part) == 5 {
-        return if step_in_range(part, 4) { 1 } else { 0 };
-    }
-    if several_in_range(part) {
-        count(part)
-    } else {
-        0
-    }
-}
-
-// Whether n right literals, from field d on, strictly rise.
-pub fn rights_rise(part: &[u8], n: u8) -> bool
-    requires { ⌜ n ≤ 4 ⌝ }
-    ensures { λ b. ⌜ b ≡ rising (take n (drop 3 (fieldsOf (now (part .entry))))) ⌝ }
-{
-    let last = n + 2;
-    let mut i: u8 = 3;
-    while i < last {
-        if field(part, i) >= field(part, i + 1) {
-            return false;
-        }
-        i += 1;
-    }
-    true
 }
 
 // Whether every argument row of an application is below the limit.

@@ -2,9 +2,9 @@
 use clauses::origin_code;
 use entry::entry::Counts;
 use entry::entry::Entered;
-use fields::step_in_range;
 use following::nodes::Origins;
 use record::field;
+use step_fields::step_in_range;
 ghost use mathlib.Core.Path.{_≡_};
 ghost use lib.ListN.{length};
 ghost use Rattle.force.specs.Window.{windowEntered};

@@ -1,3 +1,1 @@
-pub mod ListedLiterals
-pub mod CollectedLiterals
 pub mod LineTexts

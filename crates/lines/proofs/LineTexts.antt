@@ -34,7 +34,7 @@ use Rattle.entry.specs.Progress.{ReadTo, tablesWith}
 use Rattle.entry.proofs.Kept.{fitting-records}
 use Rattle.inference.proofs.KeptClauses as kept
 use Rattle.lines.specs.Lines.{AllWritable, NumberedReady, LiteralsReady, WritesNumbered, WritesLiterals, LineReady, LineWritten}
-use Rattle.lines.specs.Literals.{listed, Collectable, Collected}
+use Rattle.collecting.specs.Literals.{listed, Collectable, Collected}
 use Rattle.verdict.specs.Readout.{clauseLine}
 use Rattle.verdict.specs.Text.{decimal, literalText, literalsText}
 use Rattle.terms.specs.Writing.{Wrote, Sized, WritingReady, WritesLiteral}

@@ -17,7 +17,7 @@ use Rattle.verdict.specs.State.{State, clauseOf}
 use Rattle.verdict.specs.Tables.{Tables}
 use Rattle.clauses.specs.Named.{StoredClause}
 use Rattle.entry.specs.Progress.{ReadTo, tablesWith}
-use Rattle.lines.specs.Literals.{Collectable}
+use Rattle.collecting.specs.Literals.{Collectable}
 use Rattle.verdict.specs.Readout.{clauseLine}
 use Rattle.verdict.specs.Text.{literalsText}
 use Rattle.terms.specs.Writing.{Wrote, Sized, WritingReady, LiteralWritten, WritesLiteral}

@@ -1,10 +1,10 @@
 // A line of the readout: a clause written out, with its number, its maximum index and its literals.
 use super::LiteralList;
-use super::literals::collect;
 use clauses::index_cell;
 use clauses::literal::NamedLiteral;
 use clauses::literal::literal;
 use clauses::literals_cell;
+use collecting::literals::collect;
 use following::nodes::Nodes;
 use following::nodes::Origins;
 use following::values::ValueCells;
@@ -18,7 +18,7 @@ ghost use mathlib.Core.Path.{_≡_};
 ghost use Prim.Native.Nat.{_<_};
 ghost use lib.ListN.{length};
 ghost use Rattle.lines.specs.Lines.{NumberedReady, LiteralsReady, WritesNumbered, WritesLiterals, LineReady, LineWritten};
-ghost use Rattle.lines.specs.Literals.{listed};
+ghost use Rattle.collecting.specs.Literals.{listed};
 ghost use Rattle.terms.specs.Writing.{Sized, WritingReady, WritesLiteral};
 
 // A clause with at most so many literals has each of them looked up. One with more has them collected in one walk, which takes as long

@@ -1,3 +1,2 @@
-pub mod ImageSteps
 pub mod PairSteps
 pub mod SearchSteps

@@ -10,7 +10,7 @@ use lib.ListN.{getD, set}
 use borrow.Author.Tests.{eq-eqb, ne-eqb, lt-ltb, le-ltb, lt-leb, le-leb}
 use Rattle.record.specs.Record.{pick}
 use Rattle.unification.specs.Nodes.{part}
-use Rattle.matching.specs.Matching.{atomsMatched}
+use Rattle.images.specs.Matching.{atomsMatched}
 use Rattle.matching.specs.Pairs.{bit, isPair, numbersMatched, pairMatched, Pairs, foundPair, pairsMatched, agreeAt, agreeFrom, goTogether, tableFilled}
 
 -- Two images of one variable.

@@ -1,3 +1,2 @@
-pub mod Matching
 pub mod Pairs
 pub mod Searching

@@ -7,7 +7,7 @@ use lib.Dec.{eqb, leb, ltb}
 use lib.ListN.{length, getD, set}
 use Rattle.record.specs.Record.{pick}
 use Rattle.unification.specs.Nodes.{part}
-use Rattle.matching.specs.Matching.{atomsMatched}
+use Rattle.images.specs.Matching.{atomsMatched}
 
 -- 1 for true.
 abbrev pub bit : Bool → ℕ

@@ -1,10 +1,10 @@
 // All pairs of a literal of C and one of D: which match, what is noted of their variables, and which two go together.
-use super::images::Notes;
-use super::images::image;
-use super::images::match_atoms;
 use following::nodes::Nodes;
 use following::nodes::Origins;
 use following::nodes::part_of;
+use images::images::Notes;
+use images::images::image;
+use images::images::match_atoms;
 ghost use mathlib.Core.Path.{_≡_};
 ghost use Prim.Native.Nat.{_<_};
 ghost use lib.ListN.{length, getD};

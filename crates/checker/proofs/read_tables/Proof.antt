@@ -8,7 +8,7 @@ use Rattle.checker.proofs.read_tables.Tie as tie
 use Rattle.checker.proofs.read_tables.Reads as reads
 use Rattle.checker.proofs.read_tables.Lts as lts
 use Rattle.answer.proofs.ended_answer.Reads as ended-answer-reads
-use Rattle.checker.proofs.reader.read_records.Reads as read-records-reads
+use Rattle.reading.proofs.reader.read_records.Reads as read-records-reads
 use Rattle.tables.proofs.clear.Reads as clear-reads
 
 clear-requires : tie.Need-clear-requires

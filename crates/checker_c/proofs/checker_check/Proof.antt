@@ -1,11 +1,11 @@
-use Rattle.checker_c.proofs.AnswerWritten.{left-alone, answered}
+use Rattle.exported.proofs.AnswerWritten.{left-alone, answered}
 use borrow.Author.Needs.{needs}
 use Rattle.checker_c.proofs.checker_check.Statement.{statement}
 use Rattle.checker_c.proofs.checker_check.Tie as tie
 use Rattle.checker_c.proofs.checker_check.Reads as reads
 use Rattle.checker_c.proofs.checker_check.Lts as lts
 use Rattle.checker.proofs.check.Reads as check-reads
-use Rattle.checker_c.proofs.cells.put.Reads as put-reads
+use Rattle.exported.proofs.cells.put.Reads as put-reads
 
 returns : tie.Need-returns
 returns c =

@@ -1,12 +1,12 @@
 -- A short answer leaves everything alone; else the check's answer is put into it.
-use Rattle.checker_c.proofs.AnswerWritten.{left-alone-with, answered-with}
+use Rattle.exported.proofs.AnswerWritten.{left-alone-with, answered-with}
 use borrow.Author.Needs.{needs}
 use Rattle.checker_c.proofs.checker_check_with.Statement.{statement}
 use Rattle.checker_c.proofs.checker_check_with.Tie as tie
 use Rattle.checker_c.proofs.checker_check_with.Reads as reads
 use Rattle.checker_c.proofs.checker_check_with.Lts as lts
 use Rattle.checker.proofs.check_with.Reads as check-with-reads
-use Rattle.checker_c.proofs.cells.put.Reads as put-reads
+use Rattle.exported.proofs.cells.put.Reads as put-reads
 
 returns : tie.Need-returns
 returns c =

@@ -1,10 +1,10 @@
-use Rattle.checker_c.proofs.CoveringWritten.{covers-left-alone, covers-exported}
+use Rattle.exported.proofs.CoveringWritten.{covers-left-alone, covers-exported}
 use borrow.Author.Needs.{needs}
 use Rattle.checker_c.proofs.checker_covers.Statement.{statement}
 use Rattle.checker_c.proofs.checker_covers.Tie as tie
 use Rattle.checker_c.proofs.checker_covers.Reads as reads
 use Rattle.checker_c.proofs.checker_covers.Lts as lts
-use Rattle.checker_c.proofs.covering.put_covering.Reads as put-covering-reads
+use Rattle.exported.proofs.covering.put_covering.Reads as put-covering-reads
 use Rattle.cover.proofs.covers.Reads as covers-reads
 
 returns : tie.Need-returns

@@ -1,10 +1,10 @@
-use Rattle.checker_c.proofs.ProgressWritten.{left-alone, piece-exported}
+use Rattle.exported.proofs.ProgressWritten.{left-alone, piece-exported}
 use borrow.Author.Needs.{needs}
 use Rattle.checker_c.proofs.checker_readout.Statement.{statement}
 use Rattle.checker_c.proofs.checker_readout.Tie as tie
 use Rattle.checker_c.proofs.checker_readout.Reads as reads
 use Rattle.checker_c.proofs.checker_readout.Lts as lts
-use Rattle.checker_c.proofs.progress.put_progress.Reads as put-progress-reads
+use Rattle.exported.proofs.progress.put_progress.Reads as put-progress-reads
 use Rattle.readout.proofs.readout_piece.Reads as readout-piece-reads
 
 returns : tie.Need-returns

@@ -10,8 +10,8 @@ use Rattle.factoring.proofs.factor_atoms.Reads as reads
 use Rattle.factoring.proofs.factor_atoms.Lts as lts
 use Rattle.clauses.proofs.index_cell.Reads as index-cell-reads
 use Rattle.clauses.proofs.literals_cell.Reads as literals-cell-reads
-use Rattle.factoring.proofs.unify_factor.Reads as unify-factor-reads
-use Rattle.inference.proofs.finish_step.Reads as finish-step-reads
+use Rattle.step_unify.proofs.unify_factor.Reads as unify-factor-reads
+use Rattle.step_end.proofs.finish_step.Reads as finish-step-reads
 use Rattle.outlines.proofs.outlines_clash.Reads as outlines-clash-reads
 
 outlines-clash-requires : tie.Need-outlines-clash-requires

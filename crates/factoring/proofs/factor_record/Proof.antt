@@ -6,7 +6,7 @@ use Rattle.factoring.proofs.factor_record.Tie as tie
 use Rattle.factoring.proofs.factor_record.Reads as reads
 use Rattle.factoring.proofs.factor_record.Lts as lts
 use Rattle.factoring.proofs.factor_atoms.Reads as factor-atoms-reads
-use Rattle.fields.proofs.step_in_range.Reads as step-in-range-reads
+use Rattle.step_fields.proofs.step_in_range.Reads as step-in-range-reads
 use Rattle.inference.proofs.named_pair.Reads as named-pair-reads
 use Rattle.inference.proofs.same_sign.Reads as same-sign-reads
 use Rattle.record.proofs.fields.Reads as fields-reads

@@ -5,7 +5,7 @@ use Rattle.force.proofs.window.window_record.Tie as tie
 use Rattle.force.proofs.window.window_record.Reads as reads
 use Rattle.force.proofs.window.window_record.Lts as lts
 use Rattle.clauses.proofs.origin_code.Reads as origin-code-reads
-use Rattle.fields.proofs.step_in_range.Reads as step-in-range-reads
+use Rattle.step_fields.proofs.step_in_range.Reads as step-in-range-reads
 use Rattle.record.proofs.field.Reads as field-reads
 
 step-in-range-requires : tie.Need-step-in-range-requires

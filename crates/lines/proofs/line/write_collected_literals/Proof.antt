@@ -9,7 +9,7 @@ use Rattle.lines.proofs.line.write_collected_literals.Tie as tie
 use Rattle.lines.proofs.line.write_collected_literals.Reads as reads
 use Rattle.lines.proofs.line.write_collected_literals.Lts as lts
 use Rattle.lines.proofs.line.write_listed.Reads as write-listed-reads
-use Rattle.lines.proofs.literals.collect.Reads as collect-reads
+use Rattle.collecting.proofs.literals.collect.Reads as collect-reads
 
 abbrev Inv-loop : tie.InvT-loop
 Inv-loop origins clauses nodes values₀ text₀ at c list count end₀ n₀ values text end n =

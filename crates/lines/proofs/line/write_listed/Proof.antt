@@ -1,4 +1,4 @@
-use Rattle.lines.specs.Literals.{listed}
+use Rattle.collecting.specs.Literals.{listed}
 use borrow.Author.Needs.{needs}
 use Rattle.lines.proofs.line.write_listed.Statement.{statement}
 use Rattle.lines.proofs.line.write_listed.Tie as tie

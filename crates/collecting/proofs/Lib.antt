@@ -1,0 +1,2 @@
+pub mod ListedLiterals
+pub mod CollectedLiterals

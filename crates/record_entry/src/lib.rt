@@ -1,0 +1,157 @@
+// Records of kind 1 to 4: each is tested in the order of the numbers that it can be refused with, and then entered in the tables.
+use distinct::Heads;
+use distinct::Links;
+use entry::entry::Counts;
+use entry::entry::Entered;
+use entry::rows::no_variable;
+use entry::rows::put_cells;
+use entry::rows::taken_arguments;
+use entry::rows::taken_literals;
+use fields::Arity;
+use fields::application_in_range;
+use fields::arguments_below;
+use fields::arity_in;
+use fields::input_in_range;
+use fields::literal_rows_below;
+use fields::symbol_in_range;
+use fields::variable_in_range;
+use following::nodes::Nodes;
+use following::nodes::Origins;
+use record::clause_literals;
+use record::count;
+use record::field;
+use record::fields;
+use record::record_part;
+use row_entry::enter_row;
+use tables::put_clause;
+use tables::set_cell;
+ghost use mathlib.Core.Path.{_≡_};
+ghost use Prim.Native.Nat.{_≤_, _<_};
+ghost use lib.ListN.{length};
+ghost use Rattle.record.specs.Record.{recordPart, kindOf, countOf};
+ghost use Rattle.distinct.specs.Index.{Indexed};
+ghost use Rattle.entry.specs.Program.{RowsReady, RowsIndexed, rowsAfter, symbolLeft, symbolEntered, rowLeft, variableEntered, applicationThere, applicationEntered, inputLeft, inputEntered};
+
+// Kind 1. The table of symbols gets the record's number.
+pub fn symbol_record(part: &[u8], k: u16, counts: Counts, symbols: &mut [u16]) -> Entered
+    requires { ⌜ counts .symbols < 4096 ⌝ }
+    ensures { λ e. ⌜ symbolLeft e (now (symbols .exit)) ≡ symbolEntered (now (part .entry)) k counts (now (symbols .entry)) ⌝ }
+{
+    if !symbol_in_range(part) {
+        return Entered::Refused(4);
+    }
+    let n = counts.symbols;
+    set_cell(symbols, n as usize, k);
+    Entered::Stands(Counts {
+        symbols: n + 1,
+        rows: counts.rows,
+        clauses: counts.clauses,
+        bindings: counts.bindings,
+    })
+}
+
+// Kind 2. A variable's code in the node table is 1.
+pub fn variable_record(
+    part: &[u8],
+    k: u16,
+    counts: Counts,
+    rows: &mut [u16],
+    nodes: &mut Nodes,
+    heads: &mut Heads,
+    links: &mut Links,
+) -> Entered
+    requires { ⌜ RowsIndexed (now nodes) counts (now heads) (now links) ⌝ }
+    ensures { λ e. ⌜ rowLeft e (now (rows .exit)) (now (nodes .exit)) ≡ variableEntered (now (part .entry)) k counts (now (rows .entry)) (now (nodes .entry)) ⌝ }
+    ensures { λ e. ⌜ Indexed (now (nodes .exit)) (rowsAfter counts e) (now (heads .exit)) (now (links .exit)) ⌝ }
+{
+    if !variable_in_range(part) {
+        return Entered::Refused(4);
+    }
+    let numbers = fields(part);
+    enter_row(&numbers, k, 1, counts, rows, nodes, heads, links)
+}
+
+// Reason 5 for an application: its symbol exists and has as many arguments, and its argument rows exist.
+fn application_there(file: &[u8], part: &[u8], counts: Counts, symbols: &[u16]) -> bool
+    requires { ⌜ countOf (now part) ≤ 6 ⌝ }
+    ensures { λ b. ⌜ b ≡ applicationThere (now (file .entry)) (now (part .entry)) counts (now (symbols .entry)) ⌝ }
+{
+    match arity_in(file, symbols, counts.symbols, field(part, 0)) {
+        Arity::Is(a) => {
+            if a == count(part) {
+                arguments_below(part, counts.rows)
+            } else {
+                false
+            }
+        }
+        Arity::Missing => false,
+    }
+}
+
+// Kind 3. An application's code in the node table is 2 more than the number of its arguments, each of which is taken as the earliest equal row.
+pub fn application_record(
+    file: &[u8],
+    part: &[u8],
+    k: u16,
+    counts: Counts,
+    symbols: &[u16],
+    rows: &mut [u16],
+    nodes: &mut Nodes,
+    heads: &mut Heads,
+    links: &mut Links,
+) -> Entered
+    requires { ⌜ RowsIndexed (now nodes) counts (now heads) (now links) ⌝ }
+    ensures { λ e. ⌜ rowLeft e (now (rows .exit)) (now (nodes .exit)) ≡ applicationEntered (now (file .entry)) (now (part .entry)) k counts (now (symbols .entry)) (now (rows .entry)) (now (nodes .entry)) ⌝ }
+    ensures { λ e. ⌜ Indexed (now (nodes .exit)) (rowsAfter counts e) (now (heads .exit)) (now (links .exit)) ⌝ }
+{
+    if !application_in_range(part) {
+        return Entered::Refused(4);
+    }
+    if !application_there(file, part, counts, symbols) {
+        return Entered::Refused(5);
+    }
+    let code = 2 + (count(part) as u16);
+    let written = fields(part);
+    let numbers = taken_arguments(nodes, &written);
+    enter_row(&numbers, k, code, counts, rows, nodes, heads, links)
+}
+
+// Kind 4. An input clause has maximum index 1 and no bindings. The clause reader's seven numbers go to the table of origins, each row taken as the
+// earliest equal one.
+pub fn input_record(
+    file: &[u8],
+    k: u16,
+    counts: Counts,
+    clauses: &mut [u16],
+    nodes: &Nodes,
+    origins: &mut Origins,
+) -> Entered
+    requires { ⌜ kindOf (recordPart (now file) k) ≡ 4 ⌝ }
+    requires { ⌜ counts .clauses < 4096 ⌝ }
+    requires { ⌜ RowsReady (now nodes) × (length (now origins) ≡ 32768) ⌝ }
+    ensures { λ e. ⌜ inputLeft e (now (clauses .exit)) (now (origins .exit)) ≡ inputEntered (recordPart (now (file .entry)) k) k counts (now (clauses .entry)) (now (nodes .entry)) (now (origins .entry)) ⌝ }
+    ensures { λ _. ⌜ length (now (origins .exit)) ≡ 32768 ⌝ }
+{
+    let part = record_part(file, k as usize);
+    if !input_in_range(part) {
+        return Entered::Refused(4);
+    }
+    if !literal_rows_below(part, counts.rows) {
+        return Entered::Refused(5);
+    }
+    if !no_variable(nodes, part) {
+        return Entered::Refused(7);
+    }
+    let n = counts.clauses;
+    let read = clause_literals(file, k as usize);
+    let written = read.numbers;
+    let numbers = taken_literals(nodes, &written);
+    put_cells(origins, n, 1, &numbers);
+    put_clause(clauses, n, k, read.count as u16, 1, counts.bindings, 0);
+    Entered::Stands(Counts {
+        symbols: counts.symbols,
+        rows: counts.rows,
+        clauses: n + 1,
+        bindings: counts.bindings,
+    })
+}
