@@ -1,19 +1,21 @@
-// Runs every stored vector through the check and prints, for each file, the answer, a hash of each table, and the length and
-// the hash of its readout. The packs are in data/, the last one with a day before each file, and stdout has what the second implementation gives for the same files (`rust/vectors/README.md`).
+// Runs every stored vector through the check and prints, for each file, the answer, a hash of each table, and the length and the hash of
+// its readout. The packs are in data/, the last one with a day before each file, and stdout has what the second implementation gives for
+// the same files (`rust/vectors/README.md`).
 mod print;
 
-use dated::day_of;
 use outcomes::outcome::Outcome;
 use outcomes::outcome::outcome_of;
 use pack::Counted;
 use pack::Entry;
 use pack::count_files;
 use pack::entry_at;
+use program_input::day_of;
 ghost use Prim.Native.Nat.{_≤_};
 ghost use lib.ListN.{length};
 ghost use Rattle.io.specs.Counts.{Counts};
 
-// What the check and the readout give for an entry of a pack: a file, on day 0; or, in a pack with days, what the program proofread reads.
+// What the check and the readout give for an entry of a pack: a file, on day 0; or, in a pack with days, two bytes of day and then the file. No
+// stored entry is shorter than a day; one that were would be taken as a file.
 fn entry_outcome(entry: &[u8], has_days: bool) -> Outcome {
     if !has_days {
         return outcome_of(0, entry);

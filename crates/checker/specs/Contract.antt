@@ -40,10 +40,10 @@ pub record Checked (day : ℕ) (file : List ℕ) (before : Tables) (a : Answer) 
   pub several : SeveralLiterals file
   -- Document 02, Q-4.
   pub held : BindingsHeld day file before
-  -- Document 02, Q-7.
-  pub lifting : NothingLost file
   -- Document 02, Q-6.
   pub days : DaysOnlyChoose file (lengthsOf before)
+  -- Document 02, Q-7.
+  pub lifting : NothingLost file
 
 -- A node table, a table of origins and an array of values that the caller lends, whatever they hold.
 pub record Workspace : Type 0 where

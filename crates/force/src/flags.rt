@@ -32,7 +32,7 @@ fn put_window(day: u16, part: &[u8], flags: &mut [u16])
 }
 
 // The flags of input clauses, by the windows of a file: the last one for a clause stays.
-fn dated(day: u16, file: &[u8], flags: &mut [u16])
+fn put_windows(day: u16, file: &[u8], flags: &mut [u16])
     ensures { λ _. ⌜ now (flags .exit) ≡ flagsAfter day (now (file .entry)) (recordCount (now (file .entry))) (now (flags .entry)) ⌝ }
 {
     let mut k: usize = 0;
@@ -80,6 +80,6 @@ pub fn in_force(day: u16, file: &[u8], origins: &Origins, count: u16, flags: &mu
     requires { ⌜ length (now origins) ≡ 32768 ⌝ }
     ensures { λ _. ⌜ now (flags .exit) ≡ flagsInForce day (now (file .entry)) (now (origins .entry)) count (now (flags .entry)) ⌝ }
 {
-    dated(day, file, flags);
+    put_windows(day, file, flags);
     derived(origins, count, flags);
 }

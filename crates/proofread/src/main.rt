@@ -1,23 +1,27 @@
 // Reads two bytes of day, low byte first, and then a proof file from standard input, and prints the file's readout on that day on standard
-// output, and nothing else. It reads one byte more than a day and a file may have, so that a longer input is refused and an endless one ends. Where the input cannot be read it prints nothing, where the output
-// cannot be written it stops, and standard error says which. It takes no arguments.
+// output, and nothing else. It reads one byte more than a day and a file may have, so that a longer input is refused and an endless one
+// ends. Where the input cannot be read it prints nothing, where the output cannot be written it stops, and standard error says which. It
+// takes no arguments.
 mod input;
 mod output;
 mod report;
 
 use answer::Answer;
 use checker::check_with;
-use dated::day_of;
-use dated::file_part;
 use following::nodes::Nodes;
 use following::nodes::Origins;
 use following::values::ValueCells;
 use input::Input;
 use input::read_input;
 use libc::STDIN_FILENO;
+use program_input::day_of;
+use program_input::file_part;
 use readout::unit::unit_count;
 use readout::unit::write_unit;
+ghost use Rattle.checker.specs.Contract.{workspaceWith};
+ghost use Rattle.entry.specs.Progress.{tablesWith};
 ghost use Rattle.readout.specs.Units.{AfterCheck};
+ghost use Rattle.proofread.specs.Checking.{Holds, InputChecked};
 
 // Prints line after line, the first one with that of clause 0.
 fn print_lines(
@@ -42,10 +46,10 @@ fn print_lines(
     }
 }
 
-// Checks a file once, on a day, and prints its readout by what the check left.
-fn print_with(
-    day: u16,
-    file: &[u8],
+// Checks the file that the first n bytes of a space hold, on the day that stands before it.
+fn check_input(
+    space: &[u8],
+    n: usize,
     symbols: &mut [u16],
     rows: &mut [u16],
     clauses: &mut [u16],
@@ -53,10 +57,44 @@ fn print_with(
     nodes: &mut Nodes,
     origins: &mut Origins,
     values: &mut ValueCells,
-) {
-    let a = check_with(
+) -> Answer
+    requires { ⌜ Holds (now space) n ⌝ }
+    ensures { λ a. ⌜ InputChecked (now (space .entry)) n (tablesWith (now (symbols .entry)) (now (rows .entry)) (now (clauses .entry)) (now (bindings .entry))) (workspaceWith (now (nodes .entry)) (now (origins .entry)) (now (values .entry))) a (tablesWith (now (symbols .exit)) (now (rows .exit)) (now (clauses .exit)) (now (bindings .exit))) (workspaceWith (now (nodes .exit)) (now (origins .exit)) (now (values .exit))) ⌝ }
+{
+    let day = day_of(&space[..n]);
+    let part = file_part(n);
+    let first = part.first;
+    let end = part.end;
+    check_with(
         day,
-        file,
+        &space[first..end],
+        symbols,
+        rows,
+        clauses,
+        bindings,
+        nodes,
+        origins,
+        values,
+    )
+}
+
+// Checks the file of an input once, on its day, and prints its readout by what the check left.
+fn print_with(
+    space: &[u8],
+    n: usize,
+    symbols: &mut [u16],
+    rows: &mut [u16],
+    clauses: &mut [u16],
+    bindings: &mut [u16],
+    nodes: &mut Nodes,
+    origins: &mut Origins,
+    values: &mut ValueCells,
+)
+    requires { ⌜ Holds (now space) n ⌝ }
+{
+    let a = check_input(
+        space,
+        n,
         symbols,
         rows,
         clauses,
@@ -69,7 +107,9 @@ fn print_with(
 }
 
 // The same with tables that are just long enough.
-fn print_readout(day: u16, file: &[u8]) {
+fn print_readout(space: &[u8], n: usize)
+    requires { ⌜ Holds (now space) n ⌝ }
+{
     let mut symbols = [0u16; 4096];
     let mut rows = [0u16; 4096];
     let mut clauses = [0u16; 20480];
@@ -78,8 +118,8 @@ fn print_readout(day: u16, file: &[u8]) {
     let mut origins = [0u16; 32768];
     let mut values = [0u16; 524416];
     print_with(
-        day,
-        file,
+        space,
+        n,
         &mut symbols,
         &mut rows,
         &mut clauses,
@@ -97,11 +137,7 @@ fn run() {
         report::unread();
         return;
     };
-    let day = day_of(&space[..n]);
-    let part = file_part(n);
-    let first = part.first;
-    let end = part.end;
-    print_readout(day, &space[first..end]);
+    print_readout(&space, n);
 }
 
 fn main() {

@@ -2,22 +2,26 @@
 use mathlib.Core.Path.{_≡_, refl, sym, ap, _∙_, fun-ext}
 use mathlib.Core.Bool.{Bool, true, false}
 use mathlib.Core.List.{List, [], _∷_}
-use Prim.Native.Nat.{ℕ}
+use Prim.Native.Nat.{ℕ, suc, _+_}
 use native.Mathlib.Omega.{arith}
-use lib.ListN.{length, drop}
-use Rattle.record.specs.Record.{Record, records}
+use lib.Dec.{eqb}
+use lib.ListN.{length, take, drop, length-append, length-map}
+use Rattle.record.specs.Record.{pick, Record, records, Kind, kindNumbered}
 use Rattle.derivation.specs.Derivation.{Derivation, Use, uses}
-use Rattle.verdict.specs.Days.{everyClause, verdictWithoutDay, checkWithoutDay, DaysOnlyChoose}
-use Rattle.verdict.specs.Demands.{RecordAt}
+use Rattle.verdict.specs.Days.{stepWithoutWindows, readWithoutWindows, readingWithoutWindows, everyClause, verdictWithoutDay, DaysOnlyChoose}
+use Rattle.verdict.specs.Demands.{Reached}
 use Rattle.verdict.specs.Force.{allInForce, usesInForce}
-use Rattle.verdict.specs.Readout.{readoutLines}
-use Rattle.verdict.specs.Refusal.{Reason}
-use Rattle.verdict.specs.State.{State, Window, derivations}
-use Rattle.verdict.specs.Step.{Ending, allStand, refusedAt}
-use Rattle.verdict.specs.Verdict.{Verdict, refusal, accepted, open′, check, answerNumbers, answerOf, firstEmpty, standing, Lengths, fittingLength, longEnough, Stands, Reading, untouched, readTo, reading, verdictGiven, stateGiven}
+use Rattle.verdict.specs.Readout.{clauseLine, clauseLines, readoutLines}
+use Rattle.verdict.specs.Refusal.{Reason, badKind, badLength, shortTable}
+use Rattle.verdict.specs.State.{State, Window, emptyState, withWindow, derivations}
+use Rattle.verdict.specs.Step.{stands, refused, Result, windowIn, enter, step, read, Ending, allStand, refusedAt}
+use Rattle.verdict.specs.Tables.{Tables, filledTables}
+use Rattle.verdict.specs.Verdict.{Verdict, refusal, accepted, open′, check, answerNumbers, answerOf, firstEmpty, standing, Lengths, fittingLength, longEnough, ending, Stands, Reading, untouched, readTo, reading, verdictGiven, stateGiven}
 use Rattle.verdict.proofs.Demanded.{never-refusal}
-use Rattle.verdict.proofs.Reading.{reading-length, reading-tables, reading-records}
-use Rattle.verdict.proofs.InForceShown.{stands-windows, undated-windows}
+use Rattle.verdict.proofs.InForceShown.{not-dated, step-windows}
+use Rattle.verdict.proofs.Inversions.{stands-same, step-stands}
+use Rattle.verdict.proofs.RangeTests.{not-true, equal}
+use Rattle.verdict.proofs.Reading.{ending-stands, reading-length, reading-tables, reading-records}
 
 -- A refusal is one on every day.
 refused-alike : (day other : ℕ) (R : Reading) (q : Reason) (k : ℕ) → verdictGiven day R ≡ refusal q k → verdictGiven other R ≡ refusal q k
@@ -57,21 +61,91 @@ always-in-force day (u ∷ us) = always-in-force day us
 every-clause : (day : ℕ) (S : State) → S .windows ≡ [] → firstEmpty (usesInForce S day) (derivations S) ≡ firstEmpty everyClause (derivations S)
 every-clause day S e = ap (λ (test : Derivation → Bool). firstEmpty test (derivations S)) (fun-ext (λ c. ap (λ (ws : List Window). allInForce ws day (uses c)) e ∙ always-in-force day (uses c)))
 
+-- A window leaves everything but the windows.
+window-step : (S T : State) (k : ℕ) (r : Record) → r .kind ≡ 8 → step S k r ≡ stands T → T ≡ withWindow S (windowIn r)
+window-step S T k r e q = sym (stands-same (sym (ap (λ (kind : Kind). enter S k kind r) (ap kindNumbered e)) ∙ step-stands S k r T q .1))
+
+lines-length : (S : State) (cs : List Derivation) → length (clauseLines S cs) ≡ length cs
+lines-length S [] = refl
+lines-length S (c ∷ cs) = length-append (clauseLines S cs) (clauseLine S (length cs) c ∷ []) ∙ omega (arith, lines-length S cs)
+
+-- Where reading comes to no window, it is as it was, and leaves no window.
+abbrev NoWindow : State → ℕ → List Record → Type 0
+NoWindow S k rs = (j : ℕ) (T : State) (r : Record) (after : List Record) → read S k (take j rs) ≡ allStand T → drop j rs ≡ r ∷ after → ¬ (r .kind ≡ 8)
+
+module _ (S : State) (k : ℕ) (r : Record) (rs : List Record) (h : NoWindow S k (r ∷ rs)) where
+  no-window : ¬ (r .kind ≡ 8)
+  no-window = h 0 S r rs refl refl
+
+  later-windows : (U : State) → step S k r ≡ stands U → NoWindow U (suc k) rs
+  later-windows U e j T q after p d = h (suc j) T q after (ap (λ (o : Result). elim o [ stands W ↦ read W (suc k) (take j rs) | refused x ↦ refusedAt S x k ]) e ∙ p) d
+
+  same-step : step S k r ≡ stepWithoutWindows S k r
+  same-step = sym (ap (λ (b : Bool). pick b (refused badKind) (step S k r)) (not-true (eqb (r .kind) 8) (λ t. no-window (equal (r .kind) 8 t))))
+
+read-alike : (S : State) (k : ℕ) (rs : List Record) → NoWindow S k rs → read S k rs ≡ readWithoutWindows S k rs
+read-alike S k [] h = refl
+read-alike S k (r ∷ rs) h =
+    try (step S k r) refl (λ U e. read-alike U (suc k) rs (later-windows S k r rs h U e))
+    ∙ ap (λ (o : Result). elim o [ stands U ↦ readWithoutWindows U (suc k) rs | refused reason ↦ refusedAt S reason k ]) (same-step S k r rs h)
+  where
+    try : (o : Result) → step S k r ≡ o → ((U : State) → step S k r ≡ stands U → read U (suc k) rs ≡ readWithoutWindows U (suc k) rs)
+        → _≡_ {A = Ending} (elim o [ stands U ↦ read U (suc k) rs | refused reason ↦ refusedAt S reason k ]) (elim o [ stands U ↦ readWithoutWindows U (suc k) rs | refused reason ↦ refusedAt S reason k ])
+    try (stands U) e ih = ih U e
+    try (refused reason) e ih = refl
+
+windows-stay : (S : State) (k : ℕ) (rs : List Record) (T : State) → NoWindow S k rs → read S k rs ≡ allStand T → T .windows ≡ S .windows
+windows-stay S k [] T h q = ap (λ (X : State). X .windows) (sym (ending-stands q))
+windows-stay S k (r ∷ rs) T h q = try (step S k r) refl q (λ U e p. windows-stay U (suc k) rs T (later-windows S k r rs h U e) p)
+  where
+    not-refused : {p : Reason} → refusedAt S p k ≡ allStand T → ⊥
+    not-refused e = let z : _≡_ {A = ℕ} 0 1 = cc in omega arith
+
+    try : (o : Result) → step S k r ≡ o → elim o [ stands U ↦ read U (suc k) rs | refused p ↦ refusedAt S p k ] ≡ allStand T
+        → ((U : State) → step S k r ≡ stands U → read U (suc k) rs ≡ allStand T → T .windows ≡ U .windows) → T .windows ≡ S .windows
+    try (stands U) e p ih = ih U e p ∙ step-windows S k r U e ∙ not-dated (S .windows) r (no-window S k r rs h)
+    try (refused p) e z ih = absurd (not-refused z)
+
 module _ (file : List ℕ) (lengths : Lengths) where
-  undated : ((k : ℕ) (r : Record) → RecordAt file k r → ¬ (r .kind ≡ 8)) → (day : ℕ) → check day file lengths ≡ checkWithoutDay file lengths
-  unfolding check
-  undated h day = ap (λ (v : Verdict). answerOf v (stateGiven (reading file lengths))) (by (reading file lengths) refl)
+  -- Of a file whose length fits, the records that reading comes to.
+  reached-none : fittingLength (length file) ≡ true → ((k : ℕ) (S : State) (r : Record) → Reached file k S r → ¬ (r .kind ≡ 8)) → NoWindow emptyState 0 (records file)
+  reached-none f h j T r after p d = h j T r (record { fits = f; before = p; after = after; here = d })
+
+  reading-alike : ((k : ℕ) (S : State) (r : Record) → Reached file k S r → ¬ (r .kind ≡ 8)) → reading file lengths ≡ readingWithoutWindows file lengths
+  unfolding ending
+  reading-alike h = try (fittingLength (length file)) refl
+    where
+      try : (b : Bool) → fittingLength (length file) ≡ b → pick b (pick (longEnough lengths) (readTo (ending file)) (untouched shortTable)) (untouched badLength) ≡ pick b (pick (longEnough lengths) (readTo (readWithoutWindows emptyState 0 (records file))) (untouched shortTable)) (untouched badLength)
+      try true f = ap (λ (e : Ending). pick (longEnough lengths) (readTo e) (untouched shortTable)) (read-alike emptyState 0 (records file) (reached-none f h))
+      try false f = refl
+
+  same-verdict : ((k : ℕ) (S : State) (r : Record) → Reached file k S r → ¬ (r .kind ≡ 8)) → (day : ℕ) → verdictGiven day (reading file lengths) ≡ verdictWithoutDay (reading file lengths)
+  unfolding ending
+  same-verdict h day = by (reading file lengths) refl
     where
       by : (R : Reading) → reading file lengths ≡ R → verdictGiven day R ≡ verdictWithoutDay R
       by (untouched q) e = refl
       by (readTo (refusedAt S q k)) e = refl
-      by (readTo (allStand S)) e = ap standing (every-clause day S (stands-windows file S (read-whole file lengths S e) ∙ undated-windows [] (records file) (λ k r after p. h k r (record { after = after; here = p }))))
+      by (readTo (allStand S)) e =
+          let st = read-whole file lengths S e in
+          ap standing (every-clause day S (windows-stay emptyState 0 (records file) S (reached-none (st .fits) h) (st .reads)))
+
+  all-listed : (day : ℕ) → length (readoutLines day file lengths) ≡ 1 + check day file lengths .clauses
+  unfolding check readoutLines
+  all-listed day =
+      let S = stateGiven (reading file lengths) in
+      omega (arith, lines-length S (derivations S), length-map (S .clauses) (λ (c : ℕ × Derivation). c .1))
 
   pub days-only-choose : DaysOnlyChoose file lengths
   unfolding check readoutLines
   days-only-choose = record {
+    noClause = λ S T k r e q.
+        let w = window-step S T k r e q in
+        (ap (λ (X : State). X .symbols) w, ap (λ (X : State). X .rows) w, ap (λ (X : State). X .clauses) w, ap (λ (X : State). X .total) w, λ t. ap (λ (X : State). filledTables X t) w);
     refusals = λ day other q k z. refused-alike day other (reading file lengths) q k z;
     counts = λ day other. counts-after (verdictGiven day (reading file lengths)) (verdictGiven other (reading file lengths)) (stateGiven (reading file lengths));
     clauseLines = λ day other. refl;
-    undated = undated;
+    allListed = all-listed;
+    readAlike = reading-alike;
+    sameVerdict = same-verdict;
   }

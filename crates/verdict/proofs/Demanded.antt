@@ -362,7 +362,7 @@ module _ (day : ℕ) (file : List ℕ) (tables : Tables) where
       record {
         clause = L .clause;
         isClause = L .isClause;
-        counts = uses-in-force file S st day (L .clause) (L .passes);
+        admitted = uses-in-force file S st day (L .clause) (L .passes);
         empty = L .empty;
         lowest = λ i c l e u. L .lowest i c l e (of-uses-in-force file S st day c u);
       }
@@ -378,7 +378,7 @@ module _ (day : ℕ) (file : List ℕ) (tables : Tables) where
     where
       try : (o : Option ℕ) → firstEmpty (usesInForce S day) (derivations S) ≡ o → o ≡ none
       try none p = refl
-      try (some n) p = let L = lowest-empty S st n p in absurd (e n (L .clause) (L .isClause) (L .counts) (L .empty))
+      try (some n) p = let L = lowest-empty S st n p in absurd (e n (L .clause) (L .isClause) (L .admitted) (L .empty))
 
   pub demand2 : (Y : Type 0) → Demand2 Y day file tables
   demand2 Y = record {
@@ -433,5 +433,5 @@ module _ (day : ℕ) (file : List ℕ) (tables : Tables) where
         let e : a .0 ≡ S = ending-stands (sym (a .1 .reads) ∙ st .reads) in
         let L = lowest-empty (a .0) (a .1) n (a .2) in
         let d : L .clause ≡ c = some-injective (sym (L .isClause) ∙ ap (λ (T : State). clauseOf T n) e ∙ p) in
-        L .counts u (subst (λ (x : Derivation). OneOf u (uses x)) (sym d) o);
+        L .admitted u (subst (λ (x : Derivation). OneOf u (uses x)) (sym d) o);
   }

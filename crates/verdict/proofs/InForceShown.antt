@@ -32,7 +32,7 @@ abbrev pub windowsAfter : List Window → List Record → List Window
 windowsAfter ws [] = ws
 windowsAfter ws (r ∷ rs) = windowsAfter (withWindowOf ws r) rs
 
-not-dated : (ws : List Window) (r : Record) → ¬ (r .kind ≡ 8) → withWindowOf ws r ≡ ws
+pub not-dated : (ws : List Window) (r : Record) → ¬ (r .kind ≡ 8) → withWindowOf ws r ≡ ws
 not-dated ws r n = ap (λ (b : Bool). pick b (windowIn r ∷ ws) ws) (not-true (eqb (r .kind) 8) (λ t. n (equal (r .kind) 8 t)))
 
 is-dated : (ws : List Window) (r : Record) → r .kind ≡ 8 → withWindowOf ws r ≡ windowIn r ∷ ws
@@ -66,7 +66,7 @@ module _ (S : State) (k : ℕ) (r : Record) (T : State) where
   entered-windows windowKind e q = ap (λ (X : State). X .windows) (sym (stands-same q)) ∙ sym (is-dated (S .windows) r (of-kind r windowKind e))
   entered-windows otherKind e q = absurd (never-both (enter S k otherKind r) q refl)
 
-  step-windows : step S k r ≡ stands T → Left
+  pub step-windows : step S k r ≡ stands T → T .windows ≡ withWindowOf (S .windows) r
   step-windows q = entered-windows (kindOfRecord r) refl (step-stands S k r T q .1)
 
 pub read-windows : (S : State) (k : ℕ) (rs : List Record) (T : State) → read S k rs ≡ allStand T → T .windows ≡ windowsAfter (S .windows) rs
@@ -84,10 +84,6 @@ read-windows S k (r ∷ rs) T q = try (step S k r) refl q (λ U p. read-windows 
 pub stands-windows : (file : List ℕ) (S : State) → Stands file S → S .windows ≡ windowsAfter [] (records file)
 unfolding ending
 stands-windows file S st = read-windows emptyState 0 (records file) S (st .reads)
-
-pub undated-windows : (ws : List Window) (rs : List Record) → ((k : ℕ) (r : Record) (after : List Record) → drop k rs ≡ r ∷ after → ¬ (r .kind ≡ 8)) → windowsAfter ws rs ≡ ws
-undated-windows ws [] h = refl
-undated-windows ws (r ∷ rs) h = ap (λ (us : List Window). windowsAfter us rs) (not-dated ws r (h 0 r rs refl)) ∙ undated-windows ws rs (λ k q after e. h (suc k) q after e)
 
 -- ── The record that has the days of a clause ──
 

@@ -61,8 +61,8 @@ pub data RightLiterals (r : Record) : List ℕ → Type 0 where
   ofOne : r .kind ≡ 5 → RightLiterals r (fieldD r ∷ [])
   ofSome : r .kind ≡ 7 → RightLiterals r (take (r .count) (drop 3 (r .fields)))
 
--- The clauses that a step names: in a resolve a and c, in a factor a; and the one that a window is for. And a step's literals in them: in a resolve those of a, b and of c with each
--- right literal; in a factor those of a, b and of a, c.
+-- The clauses that a step names: in a resolve a and c, in a factor a; and the one that a window is for. And a step's literals in them: in a resolve
+-- those of a, b and of c with each right literal; in a factor those of a, b and of a, c.
 pub data NamesClause (r : Record) : ℕ → Type 0 where
   leftClause : {ns : List ℕ} → RightLiterals r ns → NamesClause r (fieldA r)
   rightClause : {ns : List ℕ} → RightLiterals r ns → NamesClause r (fieldC r)

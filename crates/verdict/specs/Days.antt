@@ -2,21 +2,38 @@
 -- demands 2 (e) and 3.
 use mathlib.Core.Path.{_≡_}
 use mathlib.Core.Bool.{Bool, true}
-use mathlib.Core.List.{List}
-use Prim.Native.Nat.{ℕ}
-use lib.ListN.{drop}
-use Rattle.record.specs.Record.{Record}
+use mathlib.Core.List.{List, [], _∷_}
+use Prim.Native.Nat.{ℕ, suc, _+_}
+use lib.Dec.{eqb}
+use lib.ListN.{length, drop}
+use Rattle.record.specs.Record.{pick, Record, records}
 use Rattle.derivation.specs.Derivation.{Derivation}
-use Rattle.verdict.specs.Demands.{RecordAt}
+use Rattle.verdict.specs.Demands.{Reached}
 use Rattle.verdict.specs.Readout.{readoutLines}
-use Rattle.verdict.specs.Refusal.{Reason}
-use Rattle.verdict.specs.State.{derivations}
-use Rattle.verdict.specs.Step.{Ending, allStand, refusedAt}
-use Rattle.verdict.specs.Verdict.{Verdict, refusal, check, answerNumbers, firstEmpty, standing, Answer, answerOf, Lengths, Reading, untouched, readTo, reading, stateGiven}
+use Rattle.verdict.specs.Refusal.{Reason, badKind, badLength, shortTable}
+use Rattle.verdict.specs.State.{State, emptyState, derivations}
+use Rattle.verdict.specs.Step.{stands, refused, Result, step, Ending, allStand, refusedAt}
+use Rattle.verdict.specs.Tables.{Tables, filledTables}
+use Rattle.verdict.specs.Verdict.{Verdict, refusal, check, answerNumbers, firstEmpty, standing, Lengths, fittingLength, longEnough, Reading, untouched, readTo, reading}
 
--- ── The answer as it was ──
+-- ── The check as it was ──
+-- No file is read or answered so any more; what stays is stated against it.
 
--- Accepted with the lowest empty clause, whatever its derivation uses. No file is answered so any more; what stays is stated against it.
+-- A record of kind 8 is of no kind that there is.
+abbrev pub stepWithoutWindows : State → ℕ → Record → Result
+stepWithoutWindows S k r = pick (eqb (r .kind) 8) (refused badKind) (step S k r)
+
+abbrev pub readWithoutWindows : State → ℕ → List Record → Ending
+readWithoutWindows S k [] = allStand S
+readWithoutWindows S k (r ∷ rs) = elim (stepWithoutWindows S k r) [ stands T ↦ readWithoutWindows T (suc k) rs | refused reason ↦ refusedAt S reason k ]
+
+abbrev pub readingWithoutWindows : List ℕ → Lengths → Reading
+readingWithoutWindows file lengths =
+    pick (fittingLength (length file))
+    (pick (longEnough lengths) (readTo (readWithoutWindows emptyState 0 (records file))) (untouched shortTable))
+    (untouched badLength)
+
+-- Accepted with the lowest empty clause, whatever its derivation uses.
 abbrev pub everyClause : Derivation → Bool
 everyClause c = true
 
@@ -25,16 +42,19 @@ verdictWithoutDay (untouched reason) = refusal reason 0
 verdictWithoutDay (readTo (allStand S)) = standing (firstEmpty everyClause (derivations S))
 verdictWithoutDay (readTo (refusedAt S reason k)) = refusal reason k
 
-abbrev pub checkWithoutDay : List ℕ → Lengths → Answer
-checkWithoutDay file lengths = answerOf (verdictWithoutDay (reading file lengths)) (stateGiven (reading file lengths))
-
 -- ── What is shown ──
--- The tables are `tablesAfter`, of which the day is no argument.
+-- The tables are `tablesAfter`, which goes by `reading` and of which the day is no argument.
 pub record DaysOnlyChoose (file : List ℕ) (lengths : Lengths) : Type 0 where
+  -- A record of kind 8 is no clause and takes no number: none of the four counts and tables knows it.
+  pub noClause : (S T : State) (k : ℕ) (r : Record) → r .kind ≡ 8 → step S k r ≡ stands T
+      → (T .symbols ≡ S .symbols) × (T .rows ≡ S .rows) × (T .clauses ≡ S .clauses) × (T .total ≡ S .total) × ((t : Tables) → filledTables T t ≡ filledTables S t)
   -- Refusals do not depend on the day,
   pub refusals : (day other : ℕ) (reason : Reason) (k : ℕ) → check day file lengths .verdict ≡ refusal reason k → check other file lengths .verdict ≡ refusal reason k
-  -- nor do the four counts, nor the lines of the readout after its first.
+  -- nor do the four counts, nor the lines of the readout after its first; and on every day all clauses are listed.
   pub counts : (day other : ℕ) → drop 3 (answerNumbers (check day file lengths)) ≡ drop 3 (answerNumbers (check other file lengths))
   pub clauseLines : (day other : ℕ) → drop 1 (readoutLines day file lengths) ≡ drop 1 (readoutLines other file lengths)
-  -- A file without windows gets on every day what it got.
-  pub undated : ((k : ℕ) (r : Record) → RecordAt file k r → ¬ (r .kind ≡ 8)) → (day : ℕ) → check day file lengths ≡ checkWithoutDay file lengths
+  pub allListed : (day : ℕ) → length (readoutLines day file lengths) ≡ 1 + check day file lengths .clauses
+  -- A file in which reading comes to no record of kind 8 is read as it was, and gets on every day the verdict that it got: and with these the answer,
+  -- the tables and the readout.
+  pub readAlike : ((k : ℕ) (S : State) (r : Record) → Reached file k S r → ¬ (r .kind ≡ 8)) → reading file lengths ≡ readingWithoutWindows file lengths
+  pub sameVerdict : ((k : ℕ) (S : State) (r : Record) → Reached file k S r → ¬ (r .kind ≡ 8)) → (day : ℕ) → check day file lengths .verdict ≡ verdictWithoutDay (reading file lengths)

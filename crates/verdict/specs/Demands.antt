@@ -162,17 +162,17 @@ pub data InForce (file : List ℕ) (day n : ℕ) : Type 0 where
 abbrev pub UsesInForce : List ℕ → ℕ → Derivation → Type 0
 UsesInForce file day c = (u : Use) → OneOf u (uses c) → InForce file day (u .0)
 
--- Clause n is empty, and no clause with a lower number is. Only clauses whose derivation counts are looked at.
-pub record LowestEmpty (Counts : Derivation → Type 0) (S : State) (n : ℕ) : Type 0 where
+-- Clause n is empty, and no clause with a lower number is. Only clauses whose derivation is admitted are looked at.
+pub record LowestEmpty (Admitted : Derivation → Type 0) (S : State) (n : ℕ) : Type 0 where
   pub clause : Derivation
   pub isClause : clauseOf S n ≡ some clause
-  pub counts : Counts clause
+  pub admitted : Admitted clause
   pub empty : literals clause ≡ []
-  pub lowest : (i : ℕ) (c : Derivation) → i < n → clauseOf S i ≡ some c → Counts c → ¬ (literals c ≡ [])
+  pub lowest : (i : ℕ) (c : Derivation) → i < n → clauseOf S i ≡ some c → Admitted c → ¬ (literals c ≡ [])
 
--- No clause whose derivation counts is empty.
+-- No clause whose derivation is admitted is empty.
 abbrev pub NoneEmpty : (Derivation → Type 0) → State → Type 0
-NoneEmpty Counts S = (n : ℕ) (c : Derivation) → clauseOf S n ≡ some c → Counts c → ¬ (literals c ≡ [])
+NoneEmpty Admitted S = (n : ℕ) (c : Derivation) → clauseOf S n ≡ some c → Admitted c → ¬ (literals c ≡ [])
 
 -- Unifiers have values that are terms over Y; the textbook's own are those with Y = Variable. It is proved for every Y.
 pub record Demand2 (Y : Type 0) (day : ℕ) (file : List ℕ) (tables : Tables) : Type 0 where
@@ -220,9 +220,9 @@ abbrev pub InputsOf : List Derivation → List Use → Type 0
 InputsOf cs [] = Unit {0}
 InputsOf cs (u ∷ us) = (entry cs (u .0) ≡ some (input (u .0) (u .1))) × InputsOf cs us
 
--- What holds of the first empty clause that counts, clause n, of a file that stands and leaves S; m is the number of its uses.
-pub record Refutation (Counts : Derivation → Type 0) (file : List ℕ) (tables : Tables) (S : State) (n : ℕ) : Type 0 where
-  pub first : LowestEmpty Counts S n
+-- What holds of the first empty clause that is admitted, clause n, of a file that stands and leaves S; m is the number of its uses.
+pub record Refutation (Admitted : Derivation → Type 0) (file : List ℕ) (tables : Tables) (S : State) (n : ℕ) : Type 0 where
+  pub first : LowestEmpty Admitted S n
   -- The uses are input clauses of the file, each counted as often as it is used.
   pub inputs : InputsOf (derivations S) (uses (first .clause))
   -- m equals the clause's maximum index, and the check leaves it in its table as such.

@@ -1,6 +1,6 @@
 -- Edges of document 01's limits ("The file", "Verdict, tables and refusals", "The readout"): what is at a limit stands, and what is one
--- past it is refused; and of document 02's outlines, steps on
--- several literals and windows. The limits of bindings and of outlines are in the crate unification.
+-- past it is refused; and of document 02's outlines, steps on several literals and windows. The limits of bindings and of outlines are in the crate
+-- unification.
 use mathlib.Core.Path.{_≡_}
 use mathlib.Core.Bool.{true}
 use mathlib.Core.List.{List, [], _∷_, _++_, map}
@@ -10,7 +10,7 @@ use Rattle.record.specs.Bytes.{fileBytes}
 use Rattle.record.specs.Record.{Record}
 use Rattle.unification.specs.Row.{variable, Row, Variable}
 use Rattle.unification.specs.Term.{Term, var, app, nil, cons}
-use Rattle.verdict.specs.Cases.{recordOf, symbolOf, variableRow, applicationRow, inputClause, resolveStep, numbersFrom, textBytes}
+use Rattle.verdict.specs.Cases.{recordOf, symbolOf, variableRow, applicationRow, inputClause, resolveStep, factorStep, numbersFrom, textBytes}
 use Rattle.verdict.specs.Tables.{Tables, lengthsOf, tablesAfter}
 use Rattle.verdict.specs.Text.{decimal, signText, termText, literalText}
 use Rattle.verdict.specs.Verdict.{check, answerNumbers, named}
@@ -134,34 +134,53 @@ edges = ranges ++ (unusedFields ++ (limits ++ (outlines ++ severalLiterals)))
 abbrev pub EdgesHold : Type 0
 EdgesHold = map (λ e. answerTo (e .0)) edges ≡ map (λ e. e .1) edges
 
--- Document 02, Q-6: clause 0 is +s0, clause 1 is -s0, and clause 2, their resolvent, is empty; then come windows. With days 10 to 20 for clause 0 the days
--- 9, 10, 20 and 21; one day alone; days 30 to 40 after these, which supersede them; a later record for clause 1 supersedes nothing of clause 0; two
--- empty clauses, of which the lower uses clause 0 and the other does not. Then what is refused: byte 1 and the first and last spare field (4), a clause
--- that does not exist and one that is derived (5, also with crossed days), crossed days (16), kind 9 (3).
-abbrev pub dated : List Record → List Record
-dated rs = symbolOf 0 ∷ applicationRow 0 [] ∷ inputClause (1 ∷ []) ∷ inputClause (0 ∷ []) ∷ resolveStep 0 1 1 1 ∷ rs
+-- Document 02, Q-6: clause 0 is +s0, clause 1 is -s0, and clause 2, their resolvent, is empty; then come other records. With days 10 to 20 for clause 0
+-- the days 9, 10, 20 and 21, and with them for clause 1, the right parent, 9 and 10; day 10 alone, and the days about it; days 30 to 40 after 10 to 20,
+-- and 10 to 20 after 30 to 40, which supersede; a later record for clause 1 supersedes nothing of clause 0; two empty clauses, of which the lower uses
+-- clause 0 and the other does not. Then what is refused: byte 1 and the first and last spare field (4), a clause that does not exist and one that is
+-- derived (5, also with crossed days), crossed days (16), kind 9 (3).
+abbrev pub twoClauses : List Record → List Record
+twoClauses rs = symbolOf 0 ∷ applicationRow 0 [] ∷ inputClause (1 ∷ []) ∷ inputClause (0 ∷ []) ∷ resolveStep 0 1 1 1 ∷ rs
 
 abbrev pub windowFor : ℕ → ℕ → ℕ → Record
 windowFor clause first last = recordOf 8 0 (clause ∷ first ∷ last ∷ [])
 
+-- The dated clause further back: clause 0 is +s0 +s0, clause 1 -s0, clause 2 the factor of clause 0, and clause 3 the resolvent of 2 and 1; or clause 2
+-- the resolvent of 1 and one literal of 0, and clause 3 that of 1 and the other; or clause 2 that of 1 and both, by kind 7.
+abbrev pub furtherBack : List Record → List Record
+furtherBack rs = symbolOf 0 ∷ applicationRow 0 [] ∷ inputClause (1 ∷ 1 ∷ []) ∷ inputClause (0 ∷ []) ∷ rs
+
 abbrev pub windows : List (ℕ × List Record × List ℕ)
 windows =
-    (9, dated (windowFor 0 10 20 ∷ []), 0 ∷ 0 ∷ 0 ∷ 1 ∷ 1 ∷ 3 ∷ 0 ∷ [])
-    ∷ (10, dated (windowFor 0 10 20 ∷ []), 1 ∷ 2 ∷ 0 ∷ 1 ∷ 1 ∷ 3 ∷ 0 ∷ [])
-    ∷ (20, dated (windowFor 0 10 20 ∷ []), 1 ∷ 2 ∷ 0 ∷ 1 ∷ 1 ∷ 3 ∷ 0 ∷ [])
-    ∷ (21, dated (windowFor 0 10 20 ∷ []), 0 ∷ 0 ∷ 0 ∷ 1 ∷ 1 ∷ 3 ∷ 0 ∷ [])
-    ∷ (10, dated (windowFor 0 10 10 ∷ []), 1 ∷ 2 ∷ 0 ∷ 1 ∷ 1 ∷ 3 ∷ 0 ∷ [])
-    ∷ (20, dated (windowFor 0 10 20 ∷ windowFor 0 30 40 ∷ []), 0 ∷ 0 ∷ 0 ∷ 1 ∷ 1 ∷ 3 ∷ 0 ∷ [])
-    ∷ (30, dated (windowFor 0 10 20 ∷ windowFor 0 30 40 ∷ []), 1 ∷ 2 ∷ 0 ∷ 1 ∷ 1 ∷ 3 ∷ 0 ∷ [])
-    ∷ (30, dated (windowFor 0 10 20 ∷ windowFor 1 30 40 ∷ []), 0 ∷ 0 ∷ 0 ∷ 1 ∷ 1 ∷ 3 ∷ 0 ∷ [])
-    ∷ (30, dated (windowFor 0 10 20 ∷ inputClause (1 ∷ []) ∷ resolveStep 3 1 1 1 ∷ []), 1 ∷ 4 ∷ 0 ∷ 1 ∷ 1 ∷ 5 ∷ 0 ∷ [])
-    ∷ (0, dated (recordOf 8 1 (0 ∷ 10 ∷ 20 ∷ []) ∷ []), 2 ∷ 4 ∷ 5 ∷ 1 ∷ 1 ∷ 3 ∷ 0 ∷ [])
-    ∷ (0, dated (recordOf 8 0 (0 ∷ 10 ∷ 20 ∷ 1 ∷ []) ∷ []), 2 ∷ 4 ∷ 5 ∷ 1 ∷ 1 ∷ 3 ∷ 0 ∷ [])
-    ∷ (0, dated (recordOf 8 0 (0 ∷ 10 ∷ 20 ∷ 0 ∷ 0 ∷ 0 ∷ 1 ∷ []) ∷ []), 2 ∷ 4 ∷ 5 ∷ 1 ∷ 1 ∷ 3 ∷ 0 ∷ [])
-    ∷ (0, dated (windowFor 3 10 20 ∷ []), 2 ∷ 5 ∷ 5 ∷ 1 ∷ 1 ∷ 3 ∷ 0 ∷ [])
-    ∷ (0, dated (windowFor 2 20 10 ∷ []), 2 ∷ 5 ∷ 5 ∷ 1 ∷ 1 ∷ 3 ∷ 0 ∷ [])
-    ∷ (0, dated (windowFor 1 20 10 ∷ []), 2 ∷ 16 ∷ 5 ∷ 1 ∷ 1 ∷ 3 ∷ 0 ∷ [])
-    ∷ (0, dated (recordOf 9 0 (0 ∷ 10 ∷ 20 ∷ []) ∷ []), 2 ∷ 3 ∷ 5 ∷ 1 ∷ 1 ∷ 3 ∷ 0 ∷ [])
+    (9, twoClauses (windowFor 0 10 20 ∷ []), 0 ∷ 0 ∷ 0 ∷ 1 ∷ 1 ∷ 3 ∷ 0 ∷ [])
+    ∷ (10, twoClauses (windowFor 0 10 20 ∷ []), 1 ∷ 2 ∷ 0 ∷ 1 ∷ 1 ∷ 3 ∷ 0 ∷ [])
+    ∷ (20, twoClauses (windowFor 0 10 20 ∷ []), 1 ∷ 2 ∷ 0 ∷ 1 ∷ 1 ∷ 3 ∷ 0 ∷ [])
+    ∷ (21, twoClauses (windowFor 0 10 20 ∷ []), 0 ∷ 0 ∷ 0 ∷ 1 ∷ 1 ∷ 3 ∷ 0 ∷ [])
+    ∷ (9, twoClauses (windowFor 1 10 20 ∷ []), 0 ∷ 0 ∷ 0 ∷ 1 ∷ 1 ∷ 3 ∷ 0 ∷ [])
+    ∷ (10, twoClauses (windowFor 1 10 20 ∷ []), 1 ∷ 2 ∷ 0 ∷ 1 ∷ 1 ∷ 3 ∷ 0 ∷ [])
+    ∷ (9, twoClauses (windowFor 0 10 10 ∷ []), 0 ∷ 0 ∷ 0 ∷ 1 ∷ 1 ∷ 3 ∷ 0 ∷ [])
+    ∷ (10, twoClauses (windowFor 0 10 10 ∷ []), 1 ∷ 2 ∷ 0 ∷ 1 ∷ 1 ∷ 3 ∷ 0 ∷ [])
+    ∷ (11, twoClauses (windowFor 0 10 10 ∷ []), 0 ∷ 0 ∷ 0 ∷ 1 ∷ 1 ∷ 3 ∷ 0 ∷ [])
+    ∷ (20, twoClauses (windowFor 0 10 20 ∷ windowFor 0 30 40 ∷ []), 0 ∷ 0 ∷ 0 ∷ 1 ∷ 1 ∷ 3 ∷ 0 ∷ [])
+    ∷ (30, twoClauses (windowFor 0 10 20 ∷ windowFor 0 30 40 ∷ []), 1 ∷ 2 ∷ 0 ∷ 1 ∷ 1 ∷ 3 ∷ 0 ∷ [])
+    ∷ (20, twoClauses (windowFor 0 30 40 ∷ windowFor 0 10 20 ∷ []), 1 ∷ 2 ∷ 0 ∷ 1 ∷ 1 ∷ 3 ∷ 0 ∷ [])
+    ∷ (30, twoClauses (windowFor 0 30 40 ∷ windowFor 0 10 20 ∷ []), 0 ∷ 0 ∷ 0 ∷ 1 ∷ 1 ∷ 3 ∷ 0 ∷ [])
+    ∷ (30, twoClauses (windowFor 0 10 20 ∷ windowFor 1 30 40 ∷ []), 0 ∷ 0 ∷ 0 ∷ 1 ∷ 1 ∷ 3 ∷ 0 ∷ [])
+    ∷ (30, twoClauses (windowFor 0 10 20 ∷ inputClause (1 ∷ []) ∷ resolveStep 3 1 1 1 ∷ []), 1 ∷ 4 ∷ 0 ∷ 1 ∷ 1 ∷ 5 ∷ 0 ∷ [])
+    ∷ (9, furtherBack (factorStep 0 1 2 ∷ resolveStep 2 1 1 1 ∷ windowFor 0 10 20 ∷ []), 0 ∷ 0 ∷ 0 ∷ 1 ∷ 1 ∷ 4 ∷ 0 ∷ [])
+    ∷ (10, furtherBack (factorStep 0 1 2 ∷ resolveStep 2 1 1 1 ∷ windowFor 0 10 20 ∷ []), 1 ∷ 3 ∷ 0 ∷ 1 ∷ 1 ∷ 4 ∷ 0 ∷ [])
+    ∷ (9, furtherBack (resolveStep 1 1 0 1 ∷ resolveStep 1 1 2 1 ∷ windowFor 0 10 20 ∷ []), 0 ∷ 0 ∷ 0 ∷ 1 ∷ 1 ∷ 4 ∷ 0 ∷ [])
+    ∷ (10, furtherBack (resolveStep 1 1 0 1 ∷ resolveStep 1 1 2 1 ∷ windowFor 0 10 20 ∷ []), 1 ∷ 3 ∷ 0 ∷ 1 ∷ 1 ∷ 4 ∷ 0 ∷ [])
+    ∷ (9, furtherBack (recordOf 7 2 (1 ∷ 1 ∷ 0 ∷ 1 ∷ 2 ∷ []) ∷ windowFor 0 10 20 ∷ []), 0 ∷ 0 ∷ 0 ∷ 1 ∷ 1 ∷ 3 ∷ 0 ∷ [])
+    ∷ (10, furtherBack (recordOf 7 2 (1 ∷ 1 ∷ 0 ∷ 1 ∷ 2 ∷ []) ∷ windowFor 0 10 20 ∷ []), 1 ∷ 2 ∷ 0 ∷ 1 ∷ 1 ∷ 3 ∷ 0 ∷ [])
+    ∷ (0, twoClauses (recordOf 8 1 (0 ∷ 10 ∷ 20 ∷ []) ∷ []), 2 ∷ 4 ∷ 5 ∷ 1 ∷ 1 ∷ 3 ∷ 0 ∷ [])
+    ∷ (0, twoClauses (recordOf 8 0 (0 ∷ 10 ∷ 20 ∷ 1 ∷ []) ∷ []), 2 ∷ 4 ∷ 5 ∷ 1 ∷ 1 ∷ 3 ∷ 0 ∷ [])
+    ∷ (0, twoClauses (recordOf 8 0 (0 ∷ 10 ∷ 20 ∷ 0 ∷ 0 ∷ 0 ∷ 1 ∷ []) ∷ []), 2 ∷ 4 ∷ 5 ∷ 1 ∷ 1 ∷ 3 ∷ 0 ∷ [])
+    ∷ (0, twoClauses (windowFor 3 10 20 ∷ []), 2 ∷ 5 ∷ 5 ∷ 1 ∷ 1 ∷ 3 ∷ 0 ∷ [])
+    ∷ (0, twoClauses (windowFor 2 10 20 ∷ []), 2 ∷ 5 ∷ 5 ∷ 1 ∷ 1 ∷ 3 ∷ 0 ∷ [])
+    ∷ (0, twoClauses (windowFor 2 20 10 ∷ []), 2 ∷ 5 ∷ 5 ∷ 1 ∷ 1 ∷ 3 ∷ 0 ∷ [])
+    ∷ (0, twoClauses (windowFor 1 20 10 ∷ []), 2 ∷ 16 ∷ 5 ∷ 1 ∷ 1 ∷ 3 ∷ 0 ∷ [])
+    ∷ (0, twoClauses (recordOf 9 0 (0 ∷ 10 ∷ 20 ∷ []) ∷ []), 2 ∷ 3 ∷ 5 ∷ 1 ∷ 1 ∷ 3 ∷ 0 ∷ [])
     ∷ []
 
 abbrev pub WindowsHold : Type 0

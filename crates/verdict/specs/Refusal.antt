@@ -1,6 +1,5 @@
 -- Document 01, "Verdict, tables and refusals": the reasons with their numbers, and the tests of a record that give 3 to 9; document 02, Q-1: the
--- outlines of a step; Q-3: reason 14, and several right literals; Q-6: reason 16,
--- and windows.
+-- outlines of a step; Q-3: reason 14, and several right literals; Q-6: reason 16, and windows.
 use mathlib.Core.Bool.{Bool, true, false, _&&_, not}
 use mathlib.Core.Option.{Option, none, some}
 use mathlib.Core.List.{List, [], _∷_, map}

@@ -103,7 +103,7 @@ abbrev pub replacedFile : List ℕ → List ℕ
 replacedFile file = fileBytes (replacedFrom emptyState 0 (records file))
 
 -- ── What is shown ──
--- The answer, the tables and the readout are each a function of what becomes of a file (`reading`).
+-- The tables are a function of what becomes of a file (`reading`), and the answer and the readout of that and the day.
 pub record RepeatedRows (file : List ℕ) : Type 0 where
   -- Two rows are the same expression exactly if their terms, as the file writes them, are equal: in every state that reading comes to.
   pub sameTerm : (k : ℕ) (S : State) → read emptyState 0 (take k (records file)) ≡ allStand S → (p q : ℕ) → p < length (rowsOf S) → q < length (rowsOf S)

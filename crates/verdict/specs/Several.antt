@@ -21,5 +21,5 @@ asBinary r = pick (eqb (r .kind) 7 && eqb (r .count) 1) (binary r) r
 pub record SeveralLiterals (file : List ℕ) : Type 0 where
   -- In every state such a record does what that of kind 5 does: it leaves the same state, or is refused for the same reason.
   pub oneLiteral : (S : State) (k : ℕ) (r : Record) → length (r .fields) ≡ 7 → r .kind ≡ 7 → r .count ≡ 1 → step S k r ≡ step S k (binary r)
-  -- A file in which every such record is written as one of kind 5 is read like this one: it gets the same answer, tables and readout.
+  -- A file in which every such record is written as one of kind 5 is read like this one: it gets the same tables, and on every day the same answer and readout.
   pub writtenBinary : (other : List ℕ) → length other ≡ length file → records other ≡ map asBinary (records file) → (lengths : Lengths) → reading other lengths ≡ reading file lengths

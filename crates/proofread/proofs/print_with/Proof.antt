@@ -4,15 +4,15 @@ use Rattle.proofread.proofs.print_with.Statement.{statement}
 use Rattle.proofread.proofs.print_with.Tie as tie
 use Rattle.proofread.proofs.print_with.Reads as reads
 use Rattle.proofread.proofs.print_with.Lts as lts
-use Rattle.checker.proofs.check_with.Reads as check-with-reads
+use Rattle.proofread.proofs.check_input.Reads as check-input-reads
 use Rattle.proofread.proofs.print_lines.Reads as print-lines-reads
 
-check-with-requires : tie.Need-check-with-requires
-check-with-requires c κs = search needs
+check-input-requires : tie.Need-check-input-requires
+check-input-requires c κs = search needs
 
 print-lines-requires : tie.Need-print-lines-requires
 print-lines-requires c κs =
-    record { day = _; file = _; before = _; lent = _; symbols = _; rows = _; checked = c .before .before .before .before .before .before .before .before .before .before .before .before .before .check-with .ensures }
+    record { day = _; file = _; before = _; lent = _; symbols = _; rows = _; checked = c .before .before .before .before .before .before .before .before .before .before .before .before .before .check-input .ensures .checked }
 
 same-length : tie.Need-same-length
 same-length c = search needs
@@ -33,7 +33,7 @@ pub print-with-spec : {M : Type 1} → statement M
 print-with-spec =
     tie.close
     (tie.spec
-    check-with-requires
+    check-input-requires
     print-lines-requires
     same-length
     same-length-2

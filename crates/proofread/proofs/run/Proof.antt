@@ -1,14 +1,11 @@
--- The bytes of the input lie at the start of the space, and the file among them or in its first byte.
+-- The bytes of the input lie at the start of the space.
 use native.Mathlib.Omega.{arith}
-use lib.ListN.{length}
-use Rattle.proofread.proofs.Answers.{inside, part-within}
+use Rattle.proofread.proofs.Answers.{inside}
 use borrow.Author.Needs.{needs}
 use Rattle.proofread.proofs.run.Statement.{statement}
 use Rattle.proofread.proofs.run.Tie as tie
 use Rattle.proofread.proofs.run.Reads as reads
 use Rattle.proofread.proofs.run.Lts as lts
-use Rattle.dated.proofs.day_of.Reads as day-of-reads
-use Rattle.dated.proofs.file_part.Reads as file-part-reads
 use Rattle.proofread.proofs.input.read_input.Reads as read-input-reads
 use Rattle.proofread.proofs.print_readout.Reads as print-readout-reads
 use Rattle.proofread.proofs.report.unread.Reads as unread-reads
@@ -31,34 +28,12 @@ unread-requires c κs = search needs
 returns : tie.Need-returns
 returns c = search needs
 
-array-share-prefix-space : tie.Need-array-share-prefix-space
-array-share-prefix-space c =
-    inside (c .before .before .before .before .read-input .last .1 .0) (c .before .before .before .before .read-input .ensures) (c .before .n .given .1) .0
-
-slice-aggregate-day-of : tie.Need-slice-aggregate-day-of
-slice-aggregate-day-of c =
-    inside (c .before .before .before .before .before .read-input .last .1 .0) (c .before .before .before .before .before .read-input .ensures) (c .before .before .n .given .1) .1
-
-day-of-requires : tie.Need-day-of-requires
-day-of-requires c κs = search needs
-
-file-part-requires : tie.Need-file-part-requires
-file-part-requires c κs = search needs
-
-sub-print-readout : tie.Need-sub-print-readout
-sub-print-readout c =
-    let i = inside (c .before .before .before .before .before .before .before .read-input .last .1 .0) (c .before .before .before .before .before .before .before .read-input .ensures) (c .before .before .before .before .n .given .1) .0 in part-within (c .before .before .before .before .n .given .0 .0) 65539 (c .file-part .ensures .0) (omega arith) (omega arith) .0
-
-part-print-readout-start : tie.Need-part-print-readout-start
-part-print-readout-start c =
-    let i = inside (c .before .before .before .before .before .before .before .before .read-input .last .1 .0) (c .before .before .before .before .before .before .before .before .read-input .ensures) (c .before .before .before .before .before .n .given .1) .0 in part-within (c .before .before .before .before .before .n .given .0 .0) 65539 (c .before .file-part .ensures .0) (omega arith) (omega arith) .0
-
-part-print-readout-end : tie.Need-part-print-readout-end
-part-print-readout-end c =
-    let i = inside (c .before .before .before .before .before .before .before .before .read-input .last .1 .0) (c .before .before .before .before .before .before .before .before .read-input .ensures) (c .before .before .before .before .before .n .given .1) .0 in part-within (c .before .before .before .before .before .n .given .0 .0) (length (c .before .before .before .before .before .before .before .before .read-input .last .1 .0)) (c .before .file-part .ensures .0) i (omega arith) .1
+slice-aggregate-print-readout : tie.Need-slice-aggregate-print-readout
+slice-aggregate-print-readout c = search needs
 
 print-readout-requires : tie.Need-print-readout-requires
-print-readout-requires c κs = search needs
+print-readout-requires c κs =
+    let i = inside (c .before .before .before .before .before .read-input .last .1 .0) (c .before .before .before .before .before .read-input .ensures) (c .before .before .n .given .1) .0 in record { inside = i; one = omega arith }
 
 returns-2 : tie.Need-returns-2
 returns-2 c = search needs
@@ -73,12 +48,6 @@ run-spec =
     enum-told
     unread-requires
     returns
-    array-share-prefix-space
-    slice-aggregate-day-of
-    day-of-requires
-    file-part-requires
-    sub-print-readout
-    part-print-readout-start
-    part-print-readout-end
+    slice-aggregate-print-readout
     print-readout-requires
     returns-2)

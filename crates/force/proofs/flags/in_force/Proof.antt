@@ -7,11 +7,11 @@ use Rattle.force.proofs.flags.in_force.Statement.{statement}
 use Rattle.force.proofs.flags.in_force.Tie as tie
 use Rattle.force.proofs.flags.in_force.Reads as reads
 use Rattle.force.proofs.flags.in_force.Lts as lts
-use Rattle.force.proofs.flags.dated.Reads as dated-reads
+use Rattle.force.proofs.flags.put_windows.Reads as put-windows-reads
 use Rattle.force.proofs.flags.derived.Reads as derived-reads
 
-dated-requires : tie.Need-dated-requires
-dated-requires c κs = search needs
+put-windows-requires : tie.Need-put-windows-requires
+put-windows-requires c κs = search needs
 
 derived-requires : tie.Need-derived-requires
 derived-requires c κs = search needs
@@ -22,7 +22,7 @@ same-length c = search needs
 returns : tie.Need-returns
 unfolding flagsInForce
 returns c =
-    c .before .before .derived .ensures ∙ ap (λ (L : List ℕ). derivedFlags (c .before .before .before .before .before .before .before .before .before .before .args .origins .now) (c .before .before .before .before .before .before .before .before .before .before .args .count) L) (c .before .before .before .before .before .before .dated .ensures)
+    c .before .before .derived .ensures ∙ ap (λ (L : List ℕ). derivedFlags (c .before .before .before .before .before .before .before .before .before .before .args .origins .now) (c .before .before .before .before .before .before .before .before .before .before .args .count) L) (c .before .before .before .before .before .before .put-windows .ensures)
 
 pub in-force-spec : {M : Type 1} → statement M
-in-force-spec = tie.close (tie.spec dated-requires derived-requires same-length returns)
+in-force-spec = tie.close (tie.spec put-windows-requires derived-requires same-length returns)

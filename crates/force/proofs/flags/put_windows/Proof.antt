@@ -6,10 +6,10 @@ use Rattle.record.specs.Record.{recordCount}
 use Rattle.force.specs.Flags.{flagsAfter}
 use Rattle.force.proofs.FlagSteps.{record-more}
 use borrow.Author.Needs.{needs}
-use Rattle.force.proofs.flags.dated.Statement.{statement}
-use Rattle.force.proofs.flags.dated.Tie as tie
-use Rattle.force.proofs.flags.dated.Reads as reads
-use Rattle.force.proofs.flags.dated.Lts as lts
+use Rattle.force.proofs.flags.put_windows.Statement.{statement}
+use Rattle.force.proofs.flags.put_windows.Tie as tie
+use Rattle.force.proofs.flags.put_windows.Reads as reads
+use Rattle.force.proofs.flags.put_windows.Lts as lts
 use Rattle.force.proofs.flags.put_window.Reads as put-window-reads
 use Rattle.record.proofs.record_part.Reads as record-part-reads
 
@@ -51,8 +51,8 @@ returns c =
     let z : l .k ≡ recordCount (s .file .now) = omega arith in
     l .inv .2 ∙ ap (λ (n : ℕ). flagsAfter (s .day) (s .file .now) n (s .flags .now)) z
 
-pub dated-spec : {M : Type 1} → statement M
-dated-spec =
+pub put-windows-spec : {M : Type 1} → statement M
+put-windows-spec =
     tie.close
     (tie.spec
     Inv-loop

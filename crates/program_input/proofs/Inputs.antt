@@ -10,8 +10,8 @@ use borrow.Author.Tests.{lt-ltb, le-ltb}
 use Rattle.record.specs.Record.{pick}
 use Rattle.verdict.specs.Refusal.{badLength}
 use Rattle.verdict.specs.Verdict.{refusal, check, Lengths}
-use Rattle.dated.specs.Dated.{dayOf, filePart, fileIn, InputsRead}
-use Rattle.dated.specs.declared.Part.{Part}
+use Rattle.program_input.specs.Input.{dayOf, filePart, fileIn, InputsRead}
+use Rattle.program_input.specs.declared.Part.{Part}
 
 pub short-day : (input : List ℕ) → length input < 2 → 0 ≡ dayOf input
 short-day input l = sym (ap (λ (b : Bool). pick b 0 (getD input 0 0 + 256 * getD input 1 0)) (lt-ltb (length input) 2 l))

@@ -1,7 +1,7 @@
-// What the programs read (document 02, Q-6): two bytes of day, low byte first, then the file. `Dated` in specs/ has the contracts.
+// What the programs read (document 02, Q-6): two bytes of day, low byte first, then the file. `Input` in specs/ has the contracts.
 ghost use mathlib.Core.Path.{_≡_};
 ghost use Prim.Native.Nat.{_≤_};
-ghost use Rattle.dated.specs.Dated.{dayOf, filePart, InputsRead};
+ghost use Rattle.program_input.specs.Input.{dayOf, filePart, InputsRead};
 
 // Where the file of an input stands: its first byte, and the place behind its last.
 pub struct Part {

@@ -7,7 +7,7 @@ use lib.ListN.{length, getD, take, drop}
 use Rattle.record.specs.Record.{pick}
 use Rattle.verdict.specs.Refusal.{badLength}
 use Rattle.verdict.specs.Verdict.{refusal, check, Lengths}
-use Rattle.dated.specs.declared.Part.{Part}
+use Rattle.program_input.specs.declared.Part.{Part}
 
 abbrev pub dayOf : List ℕ → ℕ
 dayOf input = pick (ltb (length input) 2) 0 (getD input 0 0 + 256 * getD input 1 0)

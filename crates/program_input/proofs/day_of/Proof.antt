@@ -1,10 +1,10 @@
-use Rattle.dated.proofs.Inputs.{short-day, whole-day}
+use Rattle.program_input.proofs.Inputs.{short-day, whole-day}
 use borrow.Author.Needs.{needs}
-use Rattle.dated.proofs.day_of.Statement.{statement}
-use Rattle.dated.proofs.day_of.Tie as tie
-use Rattle.dated.proofs.day_of.Reads as reads
-use Rattle.dated.proofs.day_of.Lts as lts
-use Rattle.dated.proofs.wide.Reads as wide-reads
+use Rattle.program_input.proofs.day_of.Statement.{statement}
+use Rattle.program_input.proofs.day_of.Tie as tie
+use Rattle.program_input.proofs.day_of.Reads as reads
+use Rattle.program_input.proofs.day_of.Lts as lts
+use Rattle.program_input.proofs.wide.Reads as wide-reads
 
 returns : tie.Need-returns
 returns c =
