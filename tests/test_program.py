@@ -150,20 +150,73 @@ class Output(unittest.TestCase):
 
 
 class Script(unittest.TestCase):
-    def test_what_a_script_should_look_at(self):
-        lines = (ROOT / "docs" / "READING.md").read_text().splitlines()
-        first = next(number for number, line in enumerate(lines) if line.startswith("    if proofread < FILE"))
-        given = "\n".join(lines[first : first + 5])
-        self.assertTrue(given.endswith("fi"))
-        for file, told in (
-            ("input", READOUT.splitlines(keepends=True)[0]),
-            (ROOT, b"proofread: standard input: Is a directory\n"),
-        ):
-            with tempfile.TemporaryDirectory() as folder:
-                Path(folder, "input").write_bytes(INPUT)
-                script = given.replace("proofread", str(PROGRAM)).replace("FILE", str(file))
-                run = subprocess.run(["bash", "-c", script], cwd=folder, capture_output=True)
-            self.assertEqual(run.stdout, told)
+    """The script of docs/READING.md, with its words in capitals replaced."""
+
+    def run_script(self, file, day="0", readout="READOUT"):
+        """What the script prints and what it leaves as the readout, where an earlier run has left an accepted one."""
+        guide = (ROOT / "docs" / "READING.md").read_text()
+        script = guide.split("\n    : > READOUT\n")[1].split("\n    fi\n")[0]
+        script = f"    : > READOUT\n{script}\n    fi\n"
+        for word, given in (("proofread", PROGRAM), ("FILE", file), ("READOUT", readout), ("DAY", day)):
+            self.assertIn(word, script)
+            script = script.replace(word, str(given))
+        with tempfile.TemporaryDirectory() as folder:
+            left = Path(folder, "READOUT")
+            left.write_bytes(READOUT)
+            Path(folder, "ERRORS").write_bytes(b"of an earlier run\n")
+            environment = {**os.environ, "LC_ALL": "C"}
+            run = subprocess.run(["bash", "-c", script], cwd=folder, env=environment, capture_output=True)
+            self.assertEqual(run.stderr, b"")
+            return run.stdout, left.read_bytes()
+
+    def has_no_verdict(self, why, *arguments):
+        """The script tells why on its output, and leaves no readout."""
+        told, readout = self.run_script(*arguments)
+        self.assertRegex(told, why)
+        self.assertEqual(readout, b"")
+
+    def test_files_have_their_verdicts_and_readouts(self):
+        for file in (FILE, ROOT / "examples" / "refused.proof", ROOT / "examples" / "season.proof"):
+            readout = file.with_suffix(".txt").read_bytes()
+            self.assertEqual(self.run_script(file), (readout.splitlines(keepends=True)[0], readout), file.name)
+
+    def test_days(self):
+        # A zero before a number does not make it an octal one. The bytes of some days are blanks, line feeds or signs of printf.
+        days = [f"{number}" for number in (0, 9, 10, 32, 37, 92, 255, 256, 2560, 9509, 23644, 65535)]
+        for day in [*days, "008", "010", "00037"]:
+            number = int(day).to_bytes(2, "little")
+            clause, window = bytes([4]) + bytes(15), bytes([8, 0, 0, 0]) + 2 * number + bytes(8)
+            with tempfile.NamedTemporaryFile() as file:
+                file.write(clause + window)
+                file.flush()
+                self.assertEqual(self.run_script(file.name, day)[0], b"accepted 0\n", day)
+
+    def test_an_empty_file_and_one_that_is_too_long(self):
+        for length, first in ((0, b"open\n"), (65536, b"refused 3 at 0\n"), (65552, b"refused 1 at 0\n")):
+            with tempfile.NamedTemporaryFile() as file:
+                file.write(bytes(length))
+                file.flush()
+                self.assertEqual(self.run_script(file.name), (first, first), length)
+        self.assertEqual(self.run_script("/dev/zero")[0], b"refused 1 at 0\n")
+
+    def test_a_missing_file(self):
+        self.has_no_verdict(rb"\Ahead: .*missing.proof.*No such file or directory\n\Z", "missing.proof")
+
+    def test_a_directory(self):
+        self.has_no_verdict(rb"\Ahead: .*Is a directory\n\Z", ROOT)
+
+    def test_a_read_that_fails(self):
+        # The file is there and may be read, but its first page is not.
+        self.assertTrue(os.access("/proc/self/mem", os.R_OK))
+        self.has_no_verdict(rb"\Ahead: .*Input/output error\n\Z", "/proc/self/mem")
+
+    def test_no_day(self):
+        for day in ("65536", "99999", "100000", "-1", "+1", "1.5", "0x10", "day"):
+            self.has_no_verdict(rb"\A\Z", FILE, day)
+
+    def test_a_readout_that_is_not_whole(self):
+        told, _ = self.run_script(FILE, readout="/dev/full")
+        self.assertEqual(told, b"proofread: standard output: No space left on device\n")
 
 
 class Guide(unittest.TestCase):
@@ -172,7 +225,7 @@ class Guide(unittest.TestCase):
         program = guide.split("```python\n")[1].split("```")[0]
         with tempfile.TemporaryDirectory() as folder:
             subprocess.run([sys.executable, "-c", program], cwd=folder, check=True)
-            file = Path(folder, "season.proof").read_bytes()
+            file = Path(folder, "closed.proof").read_bytes()
         for day, first in ((0, b"open"), (20938, b"open"), (20939, b"accepted 2"), (21122, b"accepted 2"), (21123, b"open")):
             self.assertEqual(proofread(given=on_day(day, file)).stdout.splitlines()[0], first, day)
 

@@ -40,6 +40,12 @@ class Try(unittest.TestCase):
     def test_a_missing_file(self):
         self.is_refused(attempt("missing.proof"), "there is no file 'missing.proof'")
 
+    def test_a_read_that_fails(self):
+        # The file is there and may be read, but its first page is not: a day alone would be open.
+        run = attempt(f"/proc/{os.getpid()}/mem")
+        self.assertEqual((run.returncode, run.stdout), (1, ""))
+        self.assertRegex(run.stderr, r"\Ahead: .*/mem.*\n\Z")
+
     def test_two_files(self):
         self.is_refused(attempt("README.md", "README.md"), "'README.md' is no day: days are numbered from 0 to 65535")
         self.is_refused(attempt("README.md", "0", "0"), "one file at a time, on one day: ./try [FILE [DAY]]")

@@ -1,13 +1,15 @@
 //! Rules in force: which clause is accepted on which day, what refuses a record of kind 8, and what no day alters.
 
-use yestrwyn_second::{check, covers, readout};
+use yestrwyn_second::{check, check_into, covers, readout};
 use yestrwyn_types::limits::RECORD_BYTES;
 use yestrwyn_types::record::{kind, Record};
-use yestrwyn_types::Verdict;
-use yestrwyn_vectors::examples::{cases, days, edges, published, refusals, Example};
+use yestrwyn_types::{Cells, Verdict};
+use yestrwyn_vectors::examples::{cases, days, Example};
 use yestrwyn_vectors::outcome::outcome_on;
+use yestrwyn_vectors::repeating::rows_twice;
 use yestrwyn_vectors::sketch::{app, neg, pos, Sketch};
-use yestrwyn_vectors::{dated_file, random_file, several_file};
+use yestrwyn_vectors::stored::groups;
+use yestrwyn_vectors::{dated_file, repeating_file, several_file, several_file_of};
 
 /// What a named file of the vectors gives on its day, as the first line of the readout.
 fn verdict_of(name: &str) -> String {
@@ -97,6 +99,27 @@ fn the_last_record_counts_wherever_it_stands() {
     assert_eq!(verdicts("window-in-every-record", &[4094, 4095]), [no, "accepted 0"]);
 }
 
+/// One file has a window between records of every two of the kinds 1 to 7. Days 10 to 20 are those of its empty input clause, 30
+/// to 40 those that the two parents of clause 6 have in common.
+#[test]
+fn windows_between_all_kinds() {
+    let on_days = |days: &[u16]| verdicts("window-between-all-kinds", days);
+    assert_eq!(on_days(&[0, 9, 21, 29, 41, 65_535]), ["open"; 6]);
+    assert_eq!(on_days(&[10, 15, 20]), ["accepted 0"; 3]);
+    assert_eq!(on_days(&[30, 40]), ["accepted 6"; 2]);
+    let all = days::examples();
+    let Example { file, .. } =
+        all.iter().find(|example| example.name == "window-between-all-kinds-on-30").expect("it");
+    let kinds: Vec<u8> = file.chunks_exact(RECORD_BYTES).map(|record| record[0]).collect();
+    for one in 1..=7 {
+        for other in 1..=7 {
+            let met = kinds.windows(3).any(|three| three == [one, kind::WINDOW, other]);
+            assert!(met, "no window between kinds {one} and {other}");
+        }
+    }
+    assert!(kinds.iter().skip(1).step_by(2).all(|&kind| kind == kind::WINDOW));
+}
+
 /// Each name begins with the reason, or with "stands"; a good record comes after the one that it is about.
 #[test]
 fn refused_records() {
@@ -165,15 +188,26 @@ fn a_window_is_no_clause_and_in_no_table() {
     assert!(compared > 700 && accepted > 200, "{accepted} of {compared} files are accepted");
 }
 
+/// Every file of the groups that have no days, deep and long ones among them, and more with steps on several literals and
+/// with repeated rows: verdict, counts and tables are those of day 0.
 #[test]
 fn old_files_give_the_same_on_every_day() {
-    let named = [cases::examples(), published(), refusals::examples(), edges::examples()].concat();
-    let mut files: Vec<Vec<u8>> = named.into_iter().map(|example| example.file).collect();
-    files.extend((0..300).flat_map(|seed| [random_file(seed), several_file(seed)]));
-    for file in files {
-        let first = check(0, &file);
-        for day in [1, 256, 21_000, 65_535] {
-            assert_eq!(check(day, &file), first);
+    let old = groups().into_iter().filter(|group| !group.dated);
+    let (names, named): (Vec<_>, Vec<_>) = old.map(|group| (group.name, group.examples)).unzip();
+    assert_eq!(names, ["cases", "published", "edges", "refused", "deep", "random", "long"]);
+    let mut files: Vec<Vec<u8>> = named.concat().into_iter().map(|example| example.file).collect();
+    files.extend((0..300).flat_map(|seed| [several_file(seed), repeating_file(seed)]));
+    files.extend((0..10).map(|seed| rows_twice(&several_file_of(seed, 300)).file));
+    // A damaged file may have a record of kind 8.
+    files.retain(|file| file.chunks_exact(RECORD_BYTES).all(|record| record[0] != kind::WINDOW));
+    assert!(files.len() > 2200, "{} files", files.len());
+    for (place, file) in files.iter().enumerate() {
+        let mut cells = [Cells::new(), Cells::new()];
+        let [ours, theirs] = &mut cells;
+        let first = check_into(0, file, &mut ours.lend());
+        for day in [[1, 255, 256, 21_000, 65_534][place % 5], 65_535] {
+            assert_eq!(check_into(day, file, &mut theirs.lend()), first, "file {place} on day {day}");
+            assert_eq!(ours, theirs, "tables of file {place} on day {day}");
         }
     }
 }

@@ -6,7 +6,7 @@ use yestrwyn_types::record::{kind, Record};
 use super::{on_days, opposites, refuted, window_bytes, Example};
 use crate::examples::cases::case_a;
 use crate::repeating::rows_twice;
-use crate::sketch::Sketch;
+use crate::sketch::{app, neg, pos, var, Sketch};
 
 /// All of them.
 pub fn examples() -> Vec<Example> {
@@ -66,8 +66,8 @@ fn between_steps() -> Vec<Example> {
     all.concat()
 }
 
-/// A window after each record of case A from its first clause on: numbers of symbols, rows and clauses are as before. And one
-/// that comes last of all, after a symbol and a row that nothing uses.
+/// A window after each record of case A from its first clause on: numbers of symbols, rows and clauses are as before. And a
+/// window between records of every two kinds.
 fn places() -> Vec<Example> {
     let mut everywhere = Vec::new();
     let mut clauses = 0;
@@ -78,27 +78,55 @@ fn places() -> Vec<Example> {
             everywhere.extend(window_bytes(0, 10 + clauses, 20));
         }
     }
-    // Rows, symbols and clauses after a window have the numbers that they would have without it.
-    let mut mixed = Sketch::new();
-    mixed.clause(&[]);
-    mixed.window(0, 10, 20);
-    for arity in [0, 1] {
-        mixed.symbol(arity);
-        mixed.window(0, 10, 20);
-    }
-    mixed.fields(kind::APPLICATION, 0, &[0]);
-    mixed.window(0, 10, 20);
-    mixed.fields(kind::INPUT, 1, &[1]);
-    mixed.window(1, 30, 40);
-    mixed.fields(kind::INPUT, 1, &[0]);
-    mixed.window(0, 10, 20);
-    mixed.fields(kind::RESOLVE, 0, &[1, 1, 2, 1]);
-    mixed.window(0, 10, 20);
     let all = [
         on_days("window-after-each-record", &everywhere, &[14, 15, 20, 21]),
-        on_days("window-between-all-kinds", &mixed.finish(), &[9, 10, 20, 25, 30, 40, 41]),
+        on_days("window-between-all-kinds", &all_kinds(), &[0, 9, 10, 15, 20, 21, 29, 30, 40, 41, 65_535]),
     ];
     all.concat()
+}
+
+/// A window between every two records, and after the last; each of kinds 1 to 7 comes after each, itself among them. Windows are
+/// of the empty clause 0, of +p(x) and of -p(x) -p(y) in turn: days 10 to 20, 15 to 40 and 30 to 60 by the last of each,
+/// and a day later for every one before it.
+fn all_kinds() -> Vec<u8> {
+    let mut plain = Sketch::new();
+    let _empty = plain.clause(&[]);
+    let p = plain.symbol(1);
+    let unit = plain.clause(&[pos(app(p, [var(0)]))]);
+    let rule = plain.clause(&[neg(app(p, [var(0)])), neg(app(p, [var(1)]))]);
+    for (place, kind) in (0..).zip(each_after_each()) {
+        match kind {
+            kind::SYMBOL => plain.symbol(0),
+            kind::VARIABLE => plain.fields(kind, 0, &[place]),
+            // Of the first four rows, also a row again and a row of a row.
+            kind::APPLICATION => plain.fields(kind, 1, &[p, place % 4]),
+            kind::INPUT => plain.clause(&[pos(app(p, [var(1)])), neg(app(p, [var(0)]))]),
+            kind::RESOLVE => plain.resolve(unit, 1, rule, 2),
+            kind::FACTOR => plain.factor(rule, 1, 2),
+            _ => plain.resolve_several(unit, 1, rule, &[1, 2]),
+        };
+    }
+    let (mut file, mut clauses) = (Vec::new(), 0);
+    for (place, record) in plain.bytes().chunks_exact(RECORD_BYTES).enumerate() {
+        file.extend_from_slice(record);
+        clauses += usize::from(record[0] == kind::INPUT);
+        let clause = (place % 3).min(clauses - 1);
+        let (first, last) = [(10, 20), (15, 40), (30, 60)][clause];
+        let later = (usize::from(plain.records()) - 1 - place) as u16 / 3;
+        file.extend(window_bytes(clause as u16, first + later, last + later));
+    }
+    file
+}
+
+/// Kinds 1 to 7 in an order in which each comes straight after each.
+fn each_after_each() -> Vec<u8> {
+    let mut kinds = Vec::new();
+    for one in kind::SYMBOL..=kind::RESOLVE_SEVERAL {
+        kinds.push(one);
+        kinds.extend((one + 1..=kind::RESOLVE_SEVERAL).flat_map(|other| [one, other]));
+    }
+    kinds.push(kind::SYMBOL);
+    kinds
 }
 
 /// Case A with every row twice, and a window before and after each clause that a step made.
