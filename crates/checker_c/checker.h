@@ -2,8 +2,9 @@
  * which input clause covers which.
  *
  * Link with libchecker_c.a. All functions are proved to meet their contracts,
- * for every file and whatever else they are lent (specs/Exported.antt,
- * specs/ExportedWith.antt, specs/ExportedReadout.antt, specs/ExportedCovers.antt).
+ * for every day, every file and whatever else they are lent (Exported.antt,
+ * ExportedWith.antt, ExportedReadout.antt and ExportedCovers.antt in specs/ of
+ * the crate exported).
  * They never fail, never block, ask for no memory and keep nothing between calls.
  *
  * That they come to an end asks for a stack of 8 MiB: call them on a thread

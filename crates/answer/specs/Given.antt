@@ -1,4 +1,4 @@
--- The answer as the program gives it, in the seven numbers of document 01, "Verdict, tables and refusals".
+-- The answer as the program gives it, in seven numbers: document 01's verdict ("Verdict, tables and refusals"), coded 0, 1 and 2, and its counts.
 use mathlib.Core.Bool.{Bool, _&&_}
 use mathlib.Core.Option.{Option, none, some}
 use mathlib.Core.List.{List, [], _∷_, _++_}

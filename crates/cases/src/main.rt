@@ -14,14 +14,14 @@ ghost use Prim.Native.Nat.{_≤_};
 ghost use lib.ListN.{length};
 ghost use Rattle.io.specs.Counts.{Counts};
 
-// What the check and the readout give for an entry of a pack: a file, on day 0; or, in a pack with days, two bytes of day and then the file. No
-// stored entry is shorter than a day; one that were would be taken as a file.
+// What the check and the readout give for an entry of a pack: a file, on day 0; or, in a pack with days, what the program proofread reads. An entry
+// shorter than a day is taken as a file of one byte, as there.
 fn entry_outcome(entry: &[u8], has_days: bool) -> Outcome {
     if !has_days {
         return outcome_of(0, entry);
     }
     if entry.len() < 2 {
-        return outcome_of(0, entry);
+        return outcome_of(0, b"?");
     }
     outcome_of(day_of(entry), &entry[2..])
 }

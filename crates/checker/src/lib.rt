@@ -1,6 +1,6 @@
 // The check of a proof file. The definitions are in the crate verdict: `Verdict` and `Tables` have what the check answers, `Demands`
 // what is demanded of it. In specs/, `Contract` has what `check` promises; `Reader` of the crate reading says how this program goes
-// about it. Single records are read by the crates record_entry, resolution and factoring.
+// about it. Single records are read by the crates record_entry, resolution, factoring and force.
 mod workspace;
 
 use answer::Answer;

@@ -1,4 +1,4 @@
--- The answer as the program gives it, in the ten numbers of document 02, Q-5.
+-- The answer as the program gives it, in ten numbers: document 02's answer (Q-5), coded 0, 1 and 2, and its seven numbers.
 use mathlib.Core.List.{List, [], _∷_, _++_}
 use Prim.Native.Nat.{ℕ}
 use Rattle.cover.specs.declared.covering.Covering.{Covering}

@@ -19,7 +19,7 @@ abbrev pub extraConstant : Ground
 extraConstant = var tt
 
 -- Values: an unbound variable has the extra constant; a bound one has what it is bound to, written out, with each variable in it
--- replaced by its own value. That there is one such γ in each clause that stands, and only one, is part of demand 3.
+-- replaced by its own value. That there is one such γ in the accepted clause, and only one, is part of demand 3.
 pub record Values (term : ℕ → Term ℕ) (ρ : Environment) (γ : Variable → Ground) : Type 0 where
   pub unbound : (x : Variable) → ρ x ≡ none → γ x ≡ extraConstant
   pub bound : Respects term γ ρ

@@ -24,7 +24,7 @@ abbrev pub joinedSubstitution : ℕ → (Variable → Term Variable) → (Variab
 joinedSubstitution m left right x = pick (leb (x .1) m) (left x) (apply (renamed m) (right (x .0, x .1 - m)))
 
 -- The substitution of a clause: the parents' with the clause's own bindings composed into it, oldest first. It gives every variable
--- the value that looking up gives, written out (`WritesOut` below says so, and that nothing else does).
+-- the value that looking up gives, written out (`WritesOut` below is what that means; that it is so, and of no other substitution, is `writtenByLookup` of demand 2).
 module _ (term : ℕ → Term ℕ) where
   abbrev pub substitution : Derivation → Variable → Term Variable
   substitution (input number ls) x = var x

@@ -37,7 +37,7 @@ fn take_image(images: &mut Images, x: usize, y: u32) -> bool
     before == y + 1
 }
 
-// A row's kind; and its part n.
+// A row's code; and its part n.
 fn code_at(nodes: &Nodes, r: u32) -> u16
     requires { ⌜ length (now nodes) ≡ 32768 ⌝ }
     ensures { λ a. ⌜ a ≡ getD (now (nodes .entry)) (8 * r) 0 ⌝ }
@@ -61,7 +61,7 @@ fn argument_count(nodes: &Nodes, r: u32) -> u16
     if a > 2 { a - 2 } else { 0 }
 }
 
-// Whether two rows have one kind and one symbol.
+// Whether two rows have one code and one symbol.
 fn same_head(nodes: &Nodes, r: u32, y: u32) -> bool
     requires { ⌜ length (now nodes) ≡ 32768 ⌝ }
     ensures { λ b. ⌜ b ≡ sameHead (now (nodes .entry)) r y ⌝ }

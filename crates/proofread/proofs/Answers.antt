@@ -72,7 +72,7 @@ pub counted : (xs : List ℕ) (n : ℕ) → n ≤ length xs → n ≡ length (ta
 counted xs n l = simp length-take (omega arith)
 
 pub within-space : (xs : List ℕ) (n : ℕ) → Holds xs n → {p : Part} → p ≡ filePart n → (p .first ≤ p .end) × (p .end ≤ length xs)
-within-space xs n H e = part-within n (length xs) e (H .inside) (H .one)
+within-space xs n H e = part-within n (length xs) e (H .inside) (omega (arith, H .room))
 
 -- What is checked is the file of the input, on its day.
 pub input-checked : (space : List ℕ) (n : ℕ) {day : ℕ} {p : Part} {before after : Tables} {lent left : Workspace} {a : Answer} → day ≡ dayOf (take n space) → p ≡ filePart n

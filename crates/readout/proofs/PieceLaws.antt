@@ -1,12 +1,12 @@
 -- The pieces of a readout put together, and that each moves on or says why not.
-use mathlib.Core.Path.{_≡_, refl, sym, ap, _∙_}
+use mathlib.Core.Path.{_≡_, refl, sym, ap, _∙_, subst}
 use mathlib.Core.Bool.{Bool, true, false}
 use mathlib.Core.List.{List, [], _∷_, _++_, append-assoc, append-nil}
 use Prim.Native.Nat.{ℕ, zero, suc, _+_, _-_, _<_, _≤_}
 use native.Mathlib.Omega.{arith}
 use lib.Dec.{eqb, leb}
-use lib.ListN.{length, drop, length-append}
-use borrow.Author.Tests.{eqb-true, eqb-false, leb-true, leb-false}
+use lib.ListN.{length, drop, length-append, drop-of-length-le}
+use borrow.Author.Tests.{eqb-true, eqb-false, leb-true, leb-false, le-leb}
 use Rattle.record.specs.Record.{pick}
 use Rattle.verdict.specs.Verdict.{Lengths}
 use Rattle.verdict.specs.Readout.{readoutLines, joinedLines, readout}
@@ -43,6 +43,12 @@ fitting-size room (u ∷ us) = try (leb (length u) room) refl (fitting-size (roo
     try : (b : Bool) → leb (length u) room ≡ b → length (joinedLines (fitting (room - length u) us)) ≤ room - length u → length (joinedLines (pick b (u ∷ fitting (room - length u) us) [])) ≤ room
     try true p h = omega (arith, leb-true (length u) room p, h, length-append u (joinedLines (fitting (room - length u) us)))
     try false p h = omega arith
+
+all-fit : (us : List (List ℕ)) (room : ℕ) → length (joinedLines us) ≤ room → fitting room us ≡ us
+all-fit [] room l = refl
+all-fit (u ∷ us) room l =
+    let e = length-append u (joinedLines us) in
+    ap (λ (b : Bool). pick b (u ∷ fitting (room - length u) us) []) (le-leb (length u) room (omega arith)) ∙ ap (λ (xs : List (List ℕ)). u ∷ xs) (all-fit us (room - length u) (omega arith))
 
 -- A piece is no longer than its room.
 pub piece-size : (day : ℕ) (file : List ℕ) (lengths : Lengths) (n room : ℕ) → length (pieceBytes day file lengths n room) ≤ room
@@ -134,10 +140,26 @@ module _ (day : ℕ) (file : List ℕ) (lengths : Lengths) where
   unfolding unitsFrom
   all-units = units-joined (readoutLines day file lengths)
 
+  -- With room for all of it, one piece is the readout.
+  abbrev roomForAll : ℕ
+  roomForAll = length (joinedLines (unitsFrom day file lengths 0))
+
+  all-taken : pieceLines day file lengths 0 roomForAll ≡ unitsFrom day file lengths 0
+  all-taken = all-fit (unitsFrom day file lengths 0) roomForAll (omega arith)
+
+  none-after : unitsFrom day file lengths (0 + length (unitsFrom day file lengths 0)) ≡ []
+  unfolding unitsFrom
+  none-after = drop-of-length-le (units (readoutLines day file lengths)) (let z : length (units (readoutLines day file lengths)) ≤ 0 + length (units (readoutLines day file lengths)) = omega arith in z)
+
+  whole : Pieces day file lengths 0 (readout day file lengths)
+  whole = subst (Pieces day file lengths 0) (ap joinedLines all-taken ∙ all-units) (lastPiece roomForAll
+      (ap (λ (us : List (List ℕ)). afterPiece us 0 (length (pieceLines day file lengths 0 roomForAll))) (ap (λ (ls : List (List ℕ)). unitsFrom day file lengths (0 + length ls)) all-taken ∙ none-after)))
+
   pub pieces-hold : AllWithin 131072 (units (readoutLines day file lengths)) → PiecesHold day file lengths
   unfolding unitsFrom tag
   pieces-hold within = record {
     together = λ text p. pieces-from 0 text p ∙ all-units;
+    whole = whole;
     moves = λ n room m q.
         let z = go-on-is (unitsFrom day file lengths (n + length (pieceLines day file lengths n room))) n (length (pieceLines day file lengths n room)) m q in
         let y = z .1 in

@@ -52,6 +52,7 @@ module _ (day : ℕ) (file : List ℕ) (lengths : Lengths) where
 -- nothing is written; and room for the longest line is never too short.
 pub record PiecesHold (day : ℕ) (file : List ℕ) (lengths : Lengths) : Type 0 where
   pub together : (text : List ℕ) → Pieces day file lengths 0 text → text ≡ readout day file lengths
+  pub whole : Pieces day file lengths 0 (readout day file lengths)
   pub moves : (n room m : ℕ) → progress day file lengths n room ≡ goOnWith m → n < m
   pub short : (n room m : ℕ) → progress day file lengths n room ≡ tooShortFor m → (m ≡ n) × (pieceBytes day file lengths n room ≡ [])
   pub enough : (n room m : ℕ) → 131072 ≤ room → ¬ (progress day file lengths n room ≡ tooShortFor m)

@@ -91,6 +91,17 @@ treeRows =
     application 2 (14 ∷ []) ∷ application 2 (13 ∷ []) ∷ doubled 12 ∷ doubled 11 ∷ doubled 10 ∷ doubled 9 ∷ doubled 8 ∷ doubled 7 ∷ doubled 6 ∷ doubled 5 ∷ doubled 4
     ∷ doubled 3 ∷ doubled 2 ∷ doubled 1 ∷ doubled 0 ∷ application 0 [] ∷ []
 
+-- Rows 6 to 0, newest first: s0(s1(v1),s2), s0(s1(v0),v0), s1(v1), s1(v0), s2, v1, v0.
+abbrev pub orderRows : List Row
+orderRows =
+    application 0 (4 ∷ 2 ∷ []) ∷ application 0 (3 ∷ 0 ∷ []) ∷ application 1 (1 ∷ []) ∷ application 1 (0 ∷ []) ∷ application 2 [] ∷ variable 1 ∷ variable 0 ∷ []
+
+-- Row 16 is s2(v0,t), where t, row 15, is a full tree of 32,767 symbols over a constant, row 1.
+abbrev pub deepRows : List Row
+deepRows =
+    application 2 (0 ∷ 15 ∷ []) ∷ doubled 14 ∷ doubled 13 ∷ doubled 12 ∷ doubled 11 ∷ doubled 10 ∷ doubled 9 ∷ doubled 8 ∷ doubled 7 ∷ doubled 6 ∷ doubled 5 ∷ doubled 4
+    ∷ doubled 3 ∷ doubled 2 ∷ doubled 1 ∷ application 0 [] ∷ variable 0 ∷ []
+
 -- Each with what unification gives: new bindings and the work that is left, or why it fails.
 pub record UnificationsHold : Type 0 where
   -- F: one binding, work 4; the right side is followed before the occurrence test. D: the variable occurs.
@@ -98,6 +109,12 @@ pub record UnificationsHold : Type 0 where
   pub caseD : unify (rowAt pairRows) 0 noBindings (((4, 1), (6, 2)) ∷ []) ≡ failed occurs
   -- One number at two indices is two variables: v0 at 1 is bound to v0 at 2.
   pub twoVariables : unify (rowAt pairRows) 0 noBindings (((0, 1), (0, 2)) ∷ []) ≡ unified (((0, 1), (0, 2)) ∷ []) (mostWork - 2)
+  -- The pairs that an application gives come before those that wait: v0 at 1 is bound to v1 at 2 before its other occurrence is met.
+  pub depthFirst : unify (rowAt orderRows) 0 noBindings (((5, 1), (6, 2)) ∷ []) ≡ unified (((1, 2), (2, 2)) ∷ ((0, 1), (1, 2)) ∷ []) (mostWork - 6)
+  -- Same row and same index: done, also for applications.
+  pub sameApplication : unify (rowAt pairRows) 0 noBindings (((2, 1), (2, 1)) ∷ []) ≡ unified [] (mostWork - 1)
+  -- The occurrence test goes through arguments in order: it ends at the first, before the work is used up on the second.
+  pub occurrenceInOrder : unify (rowAt deepRows) 0 noBindings (((0, 1), (16, 1)) ∷ []) ≡ failed occurs
   -- The last binding that there is room for, and the first that there is not.
   pub lastBinding : unify (rowAt pairRows) 8191 noBindings (((0, 1), (1, 1)) ∷ []) ≡ unified (((0, 1), (1, 1)) ∷ []) (mostWork - 2)
   pub noFurtherBinding : unify (rowAt pairRows) 8192 noBindings (((0, 1), (1, 1)) ∷ []) ≡ failed full

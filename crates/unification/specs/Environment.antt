@@ -47,7 +47,7 @@ onward next (applied s xs e) = applied s xs e
 onward next (link e) = next e
 
 -- Following an expression over at most n links. It ends on an unbound variable or an application; that n is never too small
--- in a file is shown (`followingEnds` of demand 2).
+-- in a file is shown (`followingEnds` of demand 2 for clauses that stand, `statedNumbers` for what a step does).
 module _ (row : ℕ → Row) where
   abbrev pub follow : ℕ → Environment → Expression → View
   follow zero ρ e = viewRow (row (e .0)) ρ e

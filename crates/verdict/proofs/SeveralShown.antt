@@ -11,6 +11,7 @@ use Rattle.record.proofs.Records.{Shaped, records-shaped}
 use Rattle.unification.specs.Unification.{clash}
 use Rattle.unification.proofs.Tests.{both-true}
 use Rattle.derivation.specs.Derivation.{resolve}
+use Rattle.derivation.proofs.Literals.{uses-length}
 use Rattle.verdict.specs.Refusal.{badLength, shortTable, outOfRange, notThere, notRising, wrongSigns, tooLarge, unification, zeros, literalsIn, leftOf, bothThere, rising, allOpposite, onBoth, resultFits, outlinesAgree}
 use Rattle.verdict.specs.Several.{binary, asBinary, SeveralLiterals}
 use Rattle.verdict.specs.State.{State, emptyState, clauseOf, nextClause, rowOf}
@@ -71,4 +72,4 @@ written-binary file other l e lengths =
     ap₂ (λ (n : ℕ) (x : Ending). pick (fittingLength n) (pick (longEnough lengths) (readTo x) (untouched shortTable)) (untouched badLength)) l same
 
 pub several-shown : (file : List ℕ) → SeveralLiterals file
-several-shown file = record { oneLiteral = λ S k r seven p q. one-literal S k r seven p q; writtenBinary = written-binary file }
+several-shown file = record { oneLiteral = λ S k r seven p q. one-literal S k r seven p q; usesCounted = uses-length; writtenBinary = written-binary file }

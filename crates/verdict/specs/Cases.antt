@@ -334,6 +334,19 @@ caseK = record {
       ∷ "7 128 -s0 +s0" ∷ "8 256 -s0 +s0" ∷ "9 512 -s0 +s0" ∷ "10 1024 -s0 +s0" ∷ "11 2048 -s0 +s0" ∷ "12 4096 -s0 +s0" ∷ []);
 }
 
+-- A resolve puts the left literal on the left: v0 of +s0(v0) +s1(v0) is bound to v1 of -s0(v1), and not the other way round. An input clause after it
+-- has one binding before its own.
+abbrev pub caseSides : Case
+caseSides = record {
+  day = 0;
+  file = fileBytes (symbolOf 1 ∷ symbolOf 1 ∷ variableRow 0 ∷ variableRow 1 ∷ applicationRow 0 (0 ∷ []) ∷ applicationRow 1 (0 ∷ []) ∷ applicationRow 0 (1 ∷ [])
+      ∷ inputClause (5 ∷ 7 ∷ []) ∷ inputClause (8 ∷ []) ∷ resolveStep 0 1 1 1 ∷ inputClause (9 ∷ []) ∷ []);
+  answer = 0 ∷ 0 ∷ 0 ∷ 2 ∷ 5 ∷ 4 ∷ 1 ∷ [];
+  tables = holding (0 ∷ 1 ∷ []) (2 ∷ 3 ∷ 4 ∷ 5 ∷ 6 ∷ []) (7 ∷ 2 ∷ 1 ∷ 0 ∷ 0 ∷ 8 ∷ 1 ∷ 1 ∷ 0 ∷ 0 ∷ 9 ∷ 1 ∷ 2 ∷ 0 ∷ 1 ∷ 10 ∷ 1 ∷ 1 ∷ 1 ∷ 0 ∷ []) (0 ∷ 1 ∷ 1 ∷ 2 ∷ []);
+  work = 3 ∷ [];
+  readout = lines ("open" ∷ "0 1 +s0(v0.1) +s1(v0.1)" ∷ "1 1 -s0(v1.1)" ∷ "2 2 +s1(v1.2)" ∷ "3 1 +s0(v1.1)" ∷ []);
+}
+
 -- Document 02, Q-6: a curfew, clause 0, and its breach, clause 1, resolved to the empty clause 2. The curfew is first dated 300 to 310, and after the
 -- step 100 to 200, which supersedes that. The windows are in no table. Accepted on day 200, and open on day 300.
 abbrev pub seasonOn : ℕ → List ℕ → List ℕ → Case
@@ -354,7 +367,7 @@ caseOutOfSeason = seasonOn 300 (0 ∷ 0 ∷ 0 ∷ 1 ∷ 1 ∷ 3 ∷ 0 ∷ []) (l
 
 abbrev pub cases : List Case
 cases =
-    caseA ∷ caseB ∷ caseC ∷ caseLongest ∷ caseTooLong ∷ caseD ∷ caseE ∷ caseF ∷ caseG ∷ caseGBad ∷ caseH ∷ caseI ∷ caseJ ∷ caseRepeats ∷ caseSeveral ∷ caseInSeason ∷ caseOutOfSeason ∷ caseK ∷ []
+    caseA ∷ caseB ∷ caseC ∷ caseLongest ∷ caseTooLong ∷ caseD ∷ caseE ∷ caseF ∷ caseG ∷ caseGBad ∷ caseH ∷ caseI ∷ caseJ ∷ caseRepeats ∷ caseSeveral ∷ caseSides ∷ caseInSeason ∷ caseOutOfSeason ∷ caseK ∷ []
 
 -- The definitions give what is written.
 abbrev pub CasesHold : Type 0

@@ -45,7 +45,7 @@ ranges =
     ∷ (recordOf 6 1 [] ∷ [], 2 ∷ 4 ∷ 0 ∷ 0 ∷ 0 ∷ 0 ∷ 0 ∷ [])
     ∷ []
 
--- Reason 4, "an unused field not zero": of each kind the first unused field and the last, which is g.
+-- Reason 4, "an unused field not zero": of each of the kinds 1 to 6 the first unused field and the last, which is g.
 abbrev pub unusedFields : List Answered
 unusedFields =
     (recordOf 1 6 (1 ∷ []) ∷ [], 2 ∷ 4 ∷ 0 ∷ 0 ∷ 0 ∷ 0 ∷ 0 ∷ [])

@@ -1,17 +1,19 @@
 -- Document 02, Q-2: what taking a repeated row as the earliest equal one means, and what it leaves as it was.
 use mathlib.Core.Path.{_≡_}
 use mathlib.Core.Bool.{true}
+use mathlib.Core.Option.{some}
 use mathlib.Core.List.{List, [], _∷_, _++_, map}
 use Prim.Native.Nat.{ℕ, suc, _+_, _*_, _/_, _%_, _<_}
 use lib.Dec.{eqb}
 use lib.ListN.{length, take, drop}
 use Rattle.record.specs.Bytes.{fileBytes}
 use Rattle.record.specs.Record.{pick, Record, records, otherKind, Kind, symbolKind, variableKind, applicationKind, inputKind, resolveKind, factorKind, severalKind, windowKind, fieldA}
-use Rattle.unification.specs.Row.{variable, Row, application, noSymbol, rowAt, argumentTerms}
+use Rattle.unification.specs.Repeated.{IsEarliest}
+use Rattle.unification.specs.Row.{variable, Expression, Variable, Row, application, noSymbol, rowAt, argumentTerms}
 use Rattle.unification.specs.Term.{Term, var, app, nil}
-use Rattle.derivation.specs.Derivation.{input, inputLiterals}
+use Rattle.derivation.specs.Derivation.{input, inputLiterals, Derivation, lookup}
 use Rattle.verdict.specs.Refusal.{tests, outlineTests, kindOfRecord, argumentRows}
-use Rattle.verdict.specs.State.{State, emptyState, withRow, withClause, rowsOf, earliestOf, nextClause}
+use Rattle.verdict.specs.State.{State, emptyState, withRow, withClause, rowsOf, earliestOf, nextClause, clauseOf}
 use Rattle.verdict.specs.Step.{stands, refused, Result, requireAll, enter, step, read, Ending, allStand, refusedAt}
 use Rattle.verdict.specs.Verdict.{Lengths, fittingLength, longEnough, ending, Reading, untouched, readTo, reading}
 use Rattle.verdict.specs.Refusal.{badLength, shortTable}
@@ -110,6 +112,9 @@ pub record RepeatedRows (file : List ℕ) : Type 0 where
       → earliestOf S p ≡ earliestOf S q → termByNumbers (writtenRows (take k (records file))) p ≡ termByNumbers (writtenRows (take k (records file))) q
   pub sameRow : (k : ℕ) (S : State) → read emptyState 0 (take k (records file)) ≡ allStand S → (p q : ℕ) → p < length (rowsOf S) → q < length (rowsOf S)
       → termByNumbers (writtenRows (take k (records file))) p ≡ termByNumbers (writtenRows (take k (records file))) q → earliestOf S p ≡ earliestOf S q
+  -- Bindings name earliest rows, in every clause of every such state.
+  pub bindingsEarliest : (k : ℕ) (S : State) → read emptyState 0 (take k (records file)) ≡ allStand S → (n : ℕ) (c : Derivation) → clauseOf S n ≡ some c
+      → (x : Variable) (e : Expression) → lookup c x ≡ some e → IsEarliest (rowsOf S) (x .0) × IsEarliest (rowsOf S) (e .0)
   -- A file without repeated rows gets what it had.
   pub unrepeated : NoRepeats (records file) → (lengths : Lengths) → reading file lengths ≡ readingAsWritten file lengths
   -- A file in which repeated rows are replaced wherever they are named gets the same.

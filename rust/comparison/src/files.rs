@@ -20,6 +20,7 @@ pub fn measured() -> Vec<Example> {
         Example::new("4,095 rows", edges::many_rows(4095).finish()),
         Example::new("one row written 4,093 times", repeats::one_row(4093)),
         Example::new("4,094 rows, of which 3,794 have one hash", one_hash()),
+        Example::new("1,364 rules with a window each, and 1,364 steps on them", dated_rules()),
     ]
 }
 
@@ -30,7 +31,7 @@ pub fn ordinary() -> Vec<Example> {
         let file = fs::read(folder.join(name)).unwrap_or_else(|error| panic!("{name}: {error}"));
         Example::new(&format!("`{name}`"), file)
     };
-    let mut files = ["curfew.proof", "duty.proof", "permit.proof"].map(stored).to_vec();
+    let mut files = ["curfew.proof", "duty.proof", "permit.proof", "season.proof"].map(stored).to_vec();
     files.push(Example::new("case A", cases::case_a()));
     files
 }
@@ -56,6 +57,19 @@ fn count_by_two() -> Vec<u8> {
     let rule = file.clause(&[x, y, pos(app(q, [app(f, [var(0)])]))]);
     for _ in 0..4000 {
         known = file.resolve_several(known, 1, rule, &[1, 2]);
+    }
+    file.finish()
+}
+
+/// The rule -q +q again and again, each time with a window on days 1 to 9 and resolved with the first of them.
+fn dated_rules() -> Vec<u8> {
+    let mut file = Sketch::new();
+    let q = file.symbol(0);
+    let first = file.clause(&[neg(app(q, [])), pos(app(q, []))]);
+    for _ in 0..1364 {
+        let rule = file.clause(&[neg(app(q, [])), pos(app(q, []))]);
+        file.window(rule, 1, 9);
+        file.resolve(first, 2, rule, 1);
     }
     file.finish()
 }

@@ -33,7 +33,7 @@ slice-aggregate-print-readout c = search needs
 
 print-readout-requires : tie.Need-print-readout-requires
 print-readout-requires c κs =
-    let i = inside (c .before .before .before .before .before .read-input .last .1 .0) (c .before .before .before .before .before .read-input .ensures) (c .before .before .n .given .1) .0 in record { inside = i; one = omega arith }
+    let i = inside (c .before .before .before .before .before .read-input .last .1 .0) (c .before .before .before .before .before .read-input .ensures) (c .before .before .n .given .1) .0 in record { inside = i; room = omega arith }
 
 returns-2 : tie.Need-returns-2
 returns-2 c = search needs
