@@ -1,5 +1,5 @@
-// A resolve, on one right literal or on several: the outlines of the left atom and each right one are compared, the bindings of both parents are
-// loaded once, the left atom is unified with each right one in turn, and the clause is entered.
+// Records of kind 5 and 7: a resolve, on one right literal or on several. Its literals are looked up and its tests made here; on the atoms that were
+// found the crate resolvents goes on.
 use clauses::literal::NamedLiteral;
 use entry::entry::Counts;
 use entry::entry::Entered;
