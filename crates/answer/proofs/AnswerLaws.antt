@@ -1,6 +1,6 @@
 -- The answer's numbers: the first clause without literals that is in force, and the counts.
 use mathlib.Core.Path.{_≡_, refl, sym, ap, _∙_}
-use mathlib.Core.Bool.{Bool, true, false, _&&_}
+use mathlib.Core.Bool.{Bool, true, false, _&&_, and-true, and-false}
 use mathlib.Core.Option.{Option, none, some}
 use mathlib.Core.List.{List}
 use Prim.Native.Nat.{ℕ, zero, suc, _+_, _≤_, _<_}
@@ -27,17 +27,9 @@ use Rattle.answer.specs.declared.Verdict.the-variants as verdict
 module _ (C L : List ℕ) (c : ℕ) {cell : ℕ} (isCell : cell ≡ literalsCell C c) where
   pub flag-decides : {f : ℕ} → f ≡ getD L c 0 → cell ≡ 0 → eqb f 1 ≡ accepts C L c
   flag-decides p z = ap (λ (x : ℕ). eqb x 1) p ∙ sym (and-true (eqb (getD L c 0) 1)) ∙ ap (λ (b : Bool). eqb (getD L c 0) 1 && b) (sym (eq-eqb (literalsCell C c) 0 (sym isCell ∙ z)))
-    where
-      and-true : (b : Bool) → (b && true) ≡ b
-      and-true true = refl
-      and-true false = refl
 
   pub not-empty : ¬ (cell ≡ 0) → false ≡ accepts C L c
   not-empty z = sym (ap (λ (b : Bool). eqb (getD L c 0) 1 && b) (ne-eqb (literalsCell C c) 0 (λ q. z (isCell ∙ q))) ∙ and-false (eqb (getD L c 0) 1))
-    where
-      and-false : (b : Bool) → (b && false) ≡ false
-      and-false true = refl
-      and-false false = refl
 
 abbrev nextAccepted : List ℕ → List ℕ → ℕ → Option ℕ → Option ℕ
 nextAccepted C L n o = elim o [ some m ↦ some m | none ↦ pick (accepts C L n) (some n) none ]

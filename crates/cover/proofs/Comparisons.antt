@@ -40,7 +40,7 @@ use Rattle.cover.proofs.Earliest.{search-came}
 use Rattle.cover.proofs.PairLaws.{together, AllCame, pairs-came}
 use Rattle.cover.proofs.Solutions.{TermsOf}
 use Rattle.cover.proofs.StateTerms.{terms-of, row-formed, InputHere, input-here, input-found}
-use Rattle.cover.proofs.Taking.{only-zeros}
+use Rattle.entry.proofs.NodeTable.{zeros-read}
 use Rattle.cover.proofs.Truth.{Formed, covered-true}
 
 -- ── The seven numbers ──
@@ -102,7 +102,7 @@ module _ (N O : List ℕ) (term : ℕ → Term ℕ) (H : TermsOf N term) (c d le
 
   pub settled : Settled (comparison N O c d lefts rights)
   unfolding comparison
-  settled = settled-from (replicate 64 0) (replicate 4096 0) (replicate 4096 0) (replicate 8 0) (length-replicate {A = ℕ} 64 0) (length-replicate {A = ℕ} 4096 0) (only-zeros 4096) (length-replicate {A = ℕ} 4096 0) (length-replicate {A = ℕ} 8 0) (only-zeros 8)
+  settled = settled-from (replicate 64 0) (replicate 4096 0) (replicate 4096 0) (replicate 8 0) (length-replicate {A = ℕ} 64 0) (length-replicate {A = ℕ} 4096 0) (zeros-read 4096) (length-replicate {A = ℕ} 4096 0) (length-replicate {A = ℕ} 8 0) (zeros-read 8)
 
 -- ── After a check ──
 

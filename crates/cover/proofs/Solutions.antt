@@ -16,7 +16,8 @@ use Rattle.unification.specs.Term.{Term, Terms, var, app, nil, cons, apply, app
 use Rattle.unification.proofs.Tests.{from-T, both-true, true-not-false}
 use Rattle.cover.specs.Covering.{Substitution}
 use Rattle.images.specs.Matching.{andThen, imaged, sameHead, argumentsImaged, Images, withNotes, withRows, rowMatched, ifImaged, rowsMatched, notesOf, atomsMatched}
-use Rattle.cover.proofs.Taking.{same-or-not, only-zeros, Holds, Taken, taken}
+use Rattle.entry.proofs.NodeTable.{zeros-read}
+use Rattle.cover.proofs.Taking.{same-or-not, Holds, Taken, taken}
 
 -- The node table N has the rows whose terms, over variable numbers, `term` gives: rows name earlier rows, and equal terms are equal rows.
 pub record TermsOf (N : List ℕ) (term : ℕ → Term ℕ) : Type 0 where
@@ -366,4 +367,4 @@ module _ (N : List ℕ) (term : ℕ → Term ℕ) (H : TermsOf N term) (base : �
         }
 
     pub atoms-came : AtomsCame c d W (atomsMatched N base c d W)
-    atoms-came = from-none (replicate 4096 0) (length-replicate {A = ℕ} 4096 0) (only-zeros 4096)
+    atoms-came = from-none (replicate 4096 0) (length-replicate {A = ℕ} 4096 0) (zeros-read 4096)

@@ -21,12 +21,6 @@ same-or-not a b = try (eqb a b) refl
     try true q = inl (eqb-true a b q)
     try false q = inr (eqb-false a b q)
 
--- A list of zeros has none but zeros, and zeros past its end.
-pub only-zeros : (n i : ℕ) → _≡_ {A = ℕ} (getD (replicate n 0) i 0) 0
-only-zeros zero i = refl
-only-zeros (suc n) zero = refl
-only-zeros (suc n) (suc i) = only-zeros n i
-
 -- Every image in a table has the property E of its place and its row.
 abbrev pub Holds : (ℕ → ℕ → Type 0) → List ℕ → Type 0
 Holds E X = (x y : ℕ) → getD X x 0 ≡ suc y → E x y

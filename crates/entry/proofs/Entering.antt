@@ -1,6 +1,6 @@
 -- The tests and writes of the program on its tables are those of the state.
 use mathlib.Core.Path.{_≡_, refl, sym, ap, ap₂, _∙_}
-use mathlib.Core.Bool.{Bool, true, false, _&&_, not}
+use mathlib.Core.Bool.{Bool, true, false, _&&_, not, and-true, and-false}
 use mathlib.Core.Option.{Option, none, some}
 use mathlib.Core.List.{List, [], _∷_, _++_, append-assoc, map}
 use Prim.Native.Nat.{ℕ, zero, suc, _+_, _-_, _*_, _/_, _%_, _≤_, _<_}
@@ -33,14 +33,6 @@ use Rattle.verdict.proofs.Tabled.{origin-length}
 use Rattle.entry.proofs.NodeTable.{eight, NodeTable, node-length, node-cell, no-cell, no-node, fits-at, row-there-of, taken-as, few-repeats, variable-row, application-row}
 
 -- Equal rows have equal cells.
-and-true : (b : Bool) → (b && true) ≡ b
-and-true true = refl
-and-true false = refl
-
-pub and-false : (b : Bool) → (b && false) ≡ false
-and-false true = refl
-and-false false = refl
-
 lists-longer : (xs ys zs : List ℕ) → length xs ≡ length ys → equalLists (xs ++ zs) (ys ++ zs) ≡ equalLists xs ys
 lists-longer [] [] zs l = list-itself zs
 lists-longer [] (y ∷ ys) zs l = absurd (omega arith)

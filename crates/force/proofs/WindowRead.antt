@@ -3,7 +3,7 @@ use mathlib.Core.Path.{_≡_, refl, sym, ap, ap₂, _∙_, subst}
 use mathlib.Core.Bool.{Bool, true, false}
 use mathlib.Core.Option.{Option, none, some}
 use mathlib.Core.List.{List, [], _∷_}
-use Prim.Native.Nat.{ℕ, zero, suc, _+_, _-_, _*_, _≤_, _<_}
+use Prim.Native.Nat.{ℕ, _+_, _-_, _*_, _≤_, _<_}
 use native.Mathlib.Omega.{arith}
 use lib.Dec.{eqb, leb}
 use lib.ListN.{length, getD, replicate}
@@ -21,17 +21,12 @@ use Rattle.verdict.proofs.ExistenceTests.{entry-there}
 use Rattle.verdict.proofs.Resolution.{at-kind}
 use Rattle.verdict.proofs.Tabled.{origin-length}
 use Rattle.entry.proofs.Kept.{kept-next}
+use Rattle.entry.proofs.NodeTable.{zeros-read}
 use Rattle.inference.proofs.KeptClauses.{stand-of, stored-of}
 use Rattle.force.specs.Window.{windowEntered}
 use Rattle.entry.specs.declared.entry.Counts.{Counts}
 use Rattle.entry.specs.declared.entry.Entered.{Entered}
 use Rattle.entry.specs.declared.entry.Entered.the-variants.{Stands, Refused}
-
--- Zeros, wherever they are read.
-zeros-read : (m i : ℕ) → _≡_ {A = ℕ} (getD (replicate m 0) i 0) 0
-zeros-read zero i = refl
-zeros-read (suc m) zero = refl
-zeros-read (suc m) (suc i) = zeros-read m i
 
 -- The code of an origin says whether the clause is an input clause.
 stored-input : {O C B : List ℕ} {c : ℕ} {d : Derivation} → Stored O C B c d → eqb (originCode O c) 1 ≡ isInput (some d)

@@ -1,7 +1,7 @@
 -- A resolve or a factor on literals that exist and fit: its limits, unification, and its end.
 use mathlib.Core.Path.{_≡_, refl, sym, ap, ap₂, _∙_, subst}
 use mathlib.Core.Logic.{inl, inr}
-use mathlib.Core.Bool.{Bool, true, false, _&&_, not}
+use mathlib.Core.Bool.{Bool, true, false, _&&_, not, and-false}
 use mathlib.Core.Option.{Option, some}
 use mathlib.Core.List.{List, [], _∷_, _++_, map}
 use Prim.Native.Nat.{ℕ, zero, suc, _+_, _-_, _≤_, _<_}
@@ -26,7 +26,7 @@ use Rattle.verdict.specs.Refusal.{tooLarge, unification, kindOfRecord, inRange,
 use Rattle.verdict.specs.State.{State, clauseOf, rowOf, nextClause}
 use Rattle.verdict.specs.Step.{require, step, addClause, unifyResolve, unifyFactor, onNamed}
 use Rattle.inference.specs.Stepping.{atomNamed, rightsNamed, Resolving, Factoring, UnifiedTables, finished, stepFinished, ResolveKind, rightsAt, ResolveNamed, FactorNamed, StepRead}
-use Rattle.entry.proofs.Entering.{and-false, zero-list}
+use Rattle.entry.proofs.Entering.{zero-list}
 use Rattle.verdict.proofs.Inversions.{literal-named, strictly-rising}
 use Rattle.verdict.proofs.RangeTests.{several-fits, IsResolve, on-one, on-several}
 use Rattle.inference.proofs.StepEnds.{step-ended}

@@ -11,6 +11,7 @@ use lib.Seq.{getD-append-add}
 use borrow.Author.Tests.{eqb-true, ne-eqb}
 use Rattle.record.specs.Record.{pick}
 use Rattle.derivation.specs.Derivation.{Derivation}
+use Rattle.verdict.proofs.DaysShown.{clause-lines-length}
 use Rattle.verdict.specs.State.{State, derivations, entry, clauseOf}
 use Rattle.verdict.specs.Verdict.{check, Lengths}
 use Rattle.verdict.proofs.Inversions.{entry-below}
@@ -21,10 +22,6 @@ use Rattle.verdict.specs.Readout.{verdictLine, clauseLine, clauseLines, linesOf
 use Rattle.readout.specs.Units.{unitsWithin, unitAt}
 
 -- The lines of the clauses, by number.
-pub clause-lines-length : (S : State) (ds : List Derivation) → length (clauseLines S ds) ≡ length ds
-clause-lines-length S [] = refl
-clause-lines-length S (d ∷ ds) = let l = clause-lines-length S ds in omega (arith, length-append (clauseLines S ds) (clauseLine S (length ds) d ∷ []), l)
-
 pub clause-line-at : (S : State) (ds : List Derivation) (n : ℕ) (d : Derivation) → entry ds n ≡ some d → getD (clauseLines S ds) n [] ≡ clauseLine S n d
 clause-line-at S [] n d q = let z = entry-below [] n d q in absurd (omega arith)
 clause-line-at S (e ∷ ds) n d q = try (eqb n (length ds)) refl q (λ r. clause-line-at S ds n d r)

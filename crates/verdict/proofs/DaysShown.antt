@@ -21,7 +21,7 @@ use Rattle.verdict.proofs.Demanded.{never-refusal}
 use Rattle.verdict.proofs.InForceShown.{not-dated, step-windows}
 use Rattle.verdict.proofs.Inversions.{stands-same, step-stands}
 use Rattle.verdict.proofs.RangeTests.{not-true, equal}
-use Rattle.verdict.proofs.Reading.{ending-stands, reading-length, reading-tables, reading-records}
+use Rattle.verdict.proofs.Reading.{ending-stands, reading-length, reading-tables, reading-records, stands-not-refused}
 
 -- A refusal is one on every day.
 refused-alike : (day other : ℕ) (R : Reading) (q : Reason) (k : ℕ) → verdictGiven day R ≡ refusal q k → verdictGiven other R ≡ refusal q k
@@ -65,9 +65,9 @@ every-clause day S e = ap (λ (test : Derivation → Bool). firstEmpty test (der
 window-step : (S T : State) (k : ℕ) (r : Record) → r .kind ≡ 8 → step S k r ≡ stands T → T ≡ withWindow S (windowIn r)
 window-step S T k r e q = sym (stands-same (sym (ap (λ (kind : Kind). enter S k kind r) (ap kindNumbered e)) ∙ step-stands S k r T q .1))
 
-lines-length : (S : State) (cs : List Derivation) → length (clauseLines S cs) ≡ length cs
-lines-length S [] = refl
-lines-length S (c ∷ cs) = length-append (clauseLines S cs) (clauseLine S (length cs) c ∷ []) ∙ omega (arith, lines-length S cs)
+pub clause-lines-length : (S : State) (cs : List Derivation) → length (clauseLines S cs) ≡ length cs
+clause-lines-length S [] = refl
+clause-lines-length S (c ∷ cs) = length-append (clauseLines S cs) (clauseLine S (length cs) c ∷ []) ∙ omega (arith, clause-lines-length S cs)
 
 -- Where reading comes to no window, it is as it was, and leaves no window.
 abbrev NoWindow : State → ℕ → List Record → Type 0
@@ -98,13 +98,10 @@ windows-stay : (S : State) (k : ℕ) (rs : List Record) (T : State) → NoWindow
 windows-stay S k [] T h q = ap (λ (X : State). X .windows) (sym (ending-stands q))
 windows-stay S k (r ∷ rs) T h q = try (step S k r) refl q (λ U e p. windows-stay U (suc k) rs T (later-windows S k r rs h U e) p)
   where
-    not-refused : {p : Reason} → refusedAt S p k ≡ allStand T → ⊥
-    not-refused e = let z : _≡_ {A = ℕ} 0 1 = cc in omega arith
-
     try : (o : Result) → step S k r ≡ o → elim o [ stands U ↦ read U (suc k) rs | refused p ↦ refusedAt S p k ] ≡ allStand T
         → ((U : State) → step S k r ≡ stands U → read U (suc k) rs ≡ allStand T → T .windows ≡ U .windows) → T .windows ≡ S .windows
     try (stands U) e p ih = ih U e p ∙ step-windows S k r U e ∙ not-dated (S .windows) r (no-window S k r rs h)
-    try (refused p) e z ih = absurd (not-refused z)
+    try (refused p) e z ih = absurd (stands-not-refused (sym z))
 
 module _ (file : List ℕ) (lengths : Lengths) where
   -- Of a file whose length fits, the records that reading comes to.
@@ -134,7 +131,7 @@ module _ (file : List ℕ) (lengths : Lengths) where
   unfolding check readoutLines
   all-listed day =
       let S = stateGiven (reading file lengths) in
-      omega (arith, lines-length S (derivations S), length-map (S .clauses) (λ (c : ℕ × Derivation). c .1))
+      omega (arith, clause-lines-length S (derivations S), length-map (S .clauses) (λ (c : ℕ × Derivation). c .1))
 
   pub days-only-choose : DaysOnlyChoose file lengths
   unfolding check readoutLines

@@ -21,7 +21,7 @@ use Rattle.verdict.specs.Step.{stands, refused, Result, windowIn, unifyR
 use Rattle.verdict.specs.Verdict.{ending, Stands}
 use Rattle.verdict.proofs.Inversions.{stands-same, step-stands, named-stands, clause-added, never-both}
 use Rattle.verdict.proofs.RangeTests.{not-true, equal, unequal, at-most, not-under, of-kind}
-use Rattle.verdict.proofs.Reading.{ending-stands}
+use Rattle.verdict.proofs.Reading.{ending-stands, stands-not-refused}
 
 -- ── The windows that records leave ──
 
@@ -73,13 +73,10 @@ pub read-windows : (S : State) (k : ℕ) (rs : List Record) (T : State) → read
 read-windows S k [] T q = ap (λ (X : State). X .windows) (sym (ending-stands q))
 read-windows S k (r ∷ rs) T q = try (step S k r) refl q (λ U p. read-windows U (suc k) rs T p)
   where
-    not-refused : {p : Reason} → refusedAt S p k ≡ allStand T → ⊥
-    not-refused e = let z : _≡_ {A = ℕ} 0 1 = cc in omega arith
-
     try : (o : Result) → step S k r ≡ o → elim o [ stands U ↦ read U (suc k) rs | refused p ↦ refusedAt S p k ] ≡ allStand T
         → ((U : State) → read U (suc k) rs ≡ allStand T → T .windows ≡ windowsAfter (U .windows) rs) → T .windows ≡ windowsAfter (withWindowOf (S .windows) r) rs
     try (stands U) e p ih = ih U p ∙ ap (λ (ws : List Window). windowsAfter ws rs) (step-windows S k r U e)
-    try (refused p) e z ih = absurd (not-refused z)
+    try (refused p) e z ih = absurd (stands-not-refused (sym z))
 
 pub stands-windows : (file : List ℕ) (S : State) → Stands file S → S .windows ≡ windowsAfter [] (records file)
 unfolding ending

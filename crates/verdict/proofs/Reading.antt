@@ -34,7 +34,7 @@ reading-records file n f l = rw (f, l)
 pub ending-stands : {S T : State} → allStand S ≡ allStand T → S ≡ T
 ending-stands p = cc
 
-stands-not-refused : {S T : State} {q : Reason} {k : ℕ} → allStand S ≡ refusedAt T q k → ⊥
+pub stands-not-refused : {S T : State} {q : Reason} {k : ℕ} → allStand S ≡ refusedAt T q k → ⊥
 stands-not-refused p = let z : _≡_ {A = ℕ} 0 1 = cc in omega arith
 
 same-state : {S T : State} {p q : Reason} {j k : ℕ} → refusedAt S p j ≡ refusedAt T q k → (S ≡ T) × (p ≡ q) × (j ≡ k)
@@ -60,14 +60,11 @@ pub read-on : (S : State) (j : ℕ) (xs ys : List Record) (T : State) → read S
 read-on S j [] ys T q = ap₂ (λ (U : State) (i : ℕ). read U i ys) (ending-stands q) (sym (add-zero j))
 read-on S j (x ∷ xs) ys T q = try (step S j x) refl q (λ U p. read-on U (suc j) xs ys T p)
   where
-    no : {p : Reason} → refusedAt S p j ≡ allStand T → ⊥
-    no e = let z : _≡_ {A = ℕ} 0 1 = cc in omega arith
-
     try : (o : Result) → step S j x ≡ o → elim o [ stands U ↦ read U (suc j) xs | refused p ↦ refusedAt S p j ] ≡ allStand T
         → ((U : State) → read U (suc j) xs ≡ allStand T → read U (suc j) (xs ++ ys) ≡ read T (suc j + length xs) ys)
         → elim o [ stands U ↦ read U (suc j) (xs ++ ys) | refused p ↦ refusedAt S p j ] ≡ read T (j + suc (length xs)) ys
     try (stands U) e p ih = ih U p ∙ ap (λ (i : ℕ). read T i ys) (suc-add j (length xs) ∙ sym (add-suc j (length xs)))
-    try (refused p) e q ih = absurd (no q)
+    try (refused p) e q ih = absurd (stands-not-refused (sym q))
 
 -- Where reading is refused, the record and the state before it.
 pub record RefusedThere (S : State) (k : ℕ) (rs : List Record) (T : State) (q : Reason) (j : ℕ) : Type 0 where

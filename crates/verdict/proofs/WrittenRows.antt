@@ -20,7 +20,7 @@ use Rattle.verdict.specs.Repeats.{withWritten, writtenAfter, numberTerm,
 use Rattle.verdict.specs.State.{State, rowsOf, nextClause}
 use Rattle.verdict.specs.Step.{stands, refused, Result, step, unifyResolve, unifyFactor, newApplication, enterResolvent, enter, read, allStand, refusedAt}
 use Rattle.verdict.proofs.Inversions.{stands-same, step-stands, named-stands, clause-added, not-below, never-both}
-use Rattle.verdict.proofs.Reading.{ending-stands}
+use Rattle.verdict.proofs.Reading.{ending-stands, stands-not-refused}
 use Rattle.verdict.proofs.Shared.{ArgumentsEarliest, SharedRows, Shared, arguments-at, step-shared}
 
 -- ── The term of a row ──
@@ -171,11 +171,8 @@ pub read-same : (S : State) (k : ℕ) (rs : List Record) (us : List Row) (T : St
 read-same S k [] us T h q = subst (λ (U : State). ReadSame U us) (ending-stands q) h
 read-same S k (r ∷ rs) us T h q = try (step S k r) refl q (λ U g p. read-same U (suc k) rs (withWritten us (kindOfRecord r) r) T g p)
   where
-    not-refused : {p : Reason} → refusedAt S p k ≡ allStand T → ⊥
-    not-refused e = let z : _≡_ {A = ℕ} 0 1 = cc in omega arith
-
     try : (o : Result) → step S k r ≡ o → elim o [ stands U ↦ read U (suc k) rs | refused p ↦ refusedAt S p k ] ≡ allStand T
         → ((U : State) → ReadSame U (withWritten us (kindOfRecord r) r) → read U (suc k) rs ≡ allStand T → ReadSame T (writtenAfter (withWritten us (kindOfRecord r) r) rs))
         → ReadSame T (writtenAfter (withWritten us (kindOfRecord r) r) rs)
     try (stands U) e p ih = ih U (record { shared = step-shared S k r U (h .shared) e; same = step-same S us k r U (h .shared) (h .same) e }) p
-    try (refused p) e z ih = absurd (not-refused z)
+    try (refused p) e z ih = absurd (stands-not-refused (sym z))

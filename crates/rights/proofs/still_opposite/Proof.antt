@@ -1,7 +1,6 @@
 -- By the two signs.
 use mathlib.Core.Path.{_≡_, refl, sym, ap, _∙_}
-use mathlib.Core.Bool.{Bool, true, false, _&&_, not}
-use Rattle.entry.proofs.Entering.{and-false}
+use mathlib.Core.Bool.{Bool, true, false, _&&_, not, and-false}
 use borrow.Author.Needs.{needs}
 use Rattle.rights.proofs.still_opposite.Statement.{statement}
 use Rattle.rights.proofs.still_opposite.Tie as tie
