@@ -1,0 +1,5 @@
+pub mod Counting
+pub mod Shifts
+pub mod Beside
+pub mod Behind
+pub mod ClausesRead

@@ -164,7 +164,7 @@ module _ (file : List ℕ) (S : State) (st : Stands file S) (day : ℕ) where
           let e : k ≡ j = omega arith in
           same-head (sym (D .here .here) ∙ ap (λ (i : ℕ). drop i (records file)) e ∙ E .here .here)
 
-  of-in-force : (n : ℕ) → InForce file day n → inForce (S .windows) day n ≡ true
+  pub of-in-force : (n : ℕ) → InForce file day n → inForce (S .windows) day n ≡ true
   of-in-force n F = try (find (records file) [] n) F
     where
       within-days : (r : Record) → fieldB r ≤ day → day ≤ fieldC r → within day (some (windowIn r)) ≡ true

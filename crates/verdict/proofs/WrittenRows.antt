@@ -49,7 +49,7 @@ number-law (w ∷ ws) h r l = try (eqb r (length ws)) refl (λ m. number-law ws 
         ih m ∙ number-ext (termByNumbers ws) (termByNumbers (w ∷ ws)) ws (number-old w ws) (rowAt ws r) (arguments-at ws (h .1) r m)
 
 -- A row and the earliest equal one have one term.
-earliest-term : (ws : List Row) → SharedRows ws → (r : ℕ) → termByNumbers ws (earliestRow ws r) ≡ termByNumbers ws r
+pub earliest-term : (ws : List Row) → SharedRows ws → (r : ℕ) → termByNumbers ws (earliestRow ws r) ≡ termByNumbers ws r
 earliest-term ws h r = try (ltb r (length ws)) refl
   where
     try : (b : Bool) → ltb r (length ws) ≡ b → termByNumbers ws (earliestRow ws r) ≡ termByNumbers ws r
