@@ -49,7 +49,7 @@ pub record Beside (S T M : State) : Type 0 where
 
 -- ── Tests ──
 
-eqb-raised : (a b c : ℕ) → eqb (a + c) (b + c) ≡ eqb a b
+pub eqb-raised : (a b c : ℕ) → eqb (a + c) (b + c) ≡ eqb a b
 eqb-raised a b c = try (eqb a b) refl
   where
     try : (x : Bool) → eqb a b ≡ x → eqb (a + c) (b + c) ≡ x

@@ -18,7 +18,7 @@ use Rattle.unification.proofs.Rows.{eqb-below}
 use Rattle.unification.proofs.Tests.{true-not-false}
 use Rattle.derivation.specs.Derivation.{literals, input, Literal, RowLiteral, inputLiterals, Derivation}
 use Rattle.derivation.proofs.Known.{KnownLiteral, KnownRows, known-literals}
-use Rattle.verdict.specs.Refusal.{kindOfRecord, argumentRows}
+use Rattle.verdict.specs.Refusal.{kindOfRecord, isInput}
 use Rattle.verdict.specs.Repeats.{withWritten, writtenAfter, writtenRows, termByNumbers, numberTerm}
 use Rattle.verdict.specs.State.{State, emptyState, rowsOf, derivations, earliestOf, nextClause}
 use Rattle.verdict.specs.Step.{stands, refused, Result, newLiterals, enter, step, read, allStand, refusedAt}
@@ -66,7 +66,7 @@ written-later us (r ∷ rs) q l =
 
 -- ── One record ──
 module _ (S : State) (k : ℕ) (r : Record) (T : State) where
-  data Entered : Type 0 where
+  pub data Entered : Type 0 where
     noClause : derivations T ≡ derivations S → eqb (r .kind) 4 ≡ false → Entered
     oneClause : derivations T ≡ input (nextClause S) (newLiterals S r) ∷ derivations S → eqb (r .kind) 4 ≡ true → Each (λ (l : RowLiteral). l .1 < length (rowsOf S)) (inputLiterals r) → Entered
 
@@ -81,7 +81,7 @@ module _ (S : State) (k : ℕ) (r : Record) (T : State) where
   entered windowKind e n a q = noClause (ap derivations (sym (stands-same q))) (ap (λ (x : ℕ). eqb x 4) (of-kind r windowKind e))
   entered otherKind e n a q = absurd a
 
-  step-entered : step S k r ≡ stands T → isStep r ≡ false → Entered
+  pub step-entered : step S k r ≡ stands T → isStep r ≡ false → Entered
   step-entered q n =
       let a = step-stands S k r T q in
       entered (kindOfRecord r) refl n (tests-passed S (kindOfRecord r) r (a .0)) (a .1)
@@ -132,4 +132,19 @@ read-clauses S k i (r ∷ rs) us T h f q =
         → reverse (map (clauseBy (rowsOf T)) (derivations T)) ≡ reverse (map (clauseBy (rowsOf T)) (derivations U)) ++ inputClauses (termByNumbers (writtenAfter us (r ∷ rs))) rs)
         → reverse (map (clauseBy (rowsOf T)) (derivations T)) ≡ reverse (map (clauseBy (rowsOf T)) (derivations S)) ++ inputClauses (termByNumbers (writtenAfter us (r ∷ rs))) (r ∷ rs)
     try (stands U) e p ih = ih U (read-same S k (r ∷ []) us U h (one U e)) p ∙ clauses U (step-entered S k r U e (none-here isStep i r rs f .0))
+    try (refused p) e z ih = absurd (stands-not-refused (sym z))
+
+-- Every clause of a file without steps is an input clause.
+pub read-inputs : (S : State) (k i : ℕ) (rs : List Record) (T : State) → firstWhere isStep i rs ≡ none → read S k rs ≡ allStand T → Each (λ (d : Derivation). isInput (some d) ≡ true) (derivations S) → Each (λ (d : Derivation). isInput (some d) ≡ true) (derivations T)
+read-inputs S k i [] T f q h = subst (λ (X : State). Each (λ (d : Derivation). isInput (some d) ≡ true) (derivations X)) (ending-stands q) h
+read-inputs S k i (r ∷ rs) T f q h = try (step S k r) refl q (λ U p g. read-inputs U (suc k) (suc i) rs T (none-here isStep i r rs f .1) p g)
+  where
+    next : (U : State) → Entered S k r U → Each (λ (d : Derivation). isInput (some d) ≡ true) (derivations U)
+    next U (noClause d e) = subst (Each (λ (d : Derivation). isInput (some d) ≡ true)) (sym d) h
+    next U (oneClause d e l) = subst (Each (λ (d : Derivation). isInput (some d) ≡ true)) (sym d) (refl, h)
+
+    try : (o : Result) → step S k r ≡ o → elim o [ stands U ↦ read U (suc k) rs | refused p ↦ refusedAt S p k ] ≡ allStand T
+        → ((U : State) → read U (suc k) rs ≡ allStand T → Each (λ (d : Derivation). isInput (some d) ≡ true) (derivations U) → Each (λ (d : Derivation). isInput (some d) ≡ true) (derivations T))
+        → Each (λ (d : Derivation). isInput (some d) ≡ true) (derivations T)
+    try (stands U) e p ih = ih U p (next U (step-entered S k r U e (none-here isStep i r rs f .0)))
     try (refused p) e z ih = absurd (stands-not-refused (sym z))

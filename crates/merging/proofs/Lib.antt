@@ -1,5 +1,11 @@
 pub mod Counting
 pub mod Shifts
+pub mod ReadKeeps
 pub mod Beside
 pub mod Behind
 pub mod ClausesRead
+pub mod TermsShifted
+pub mod WindowsKept
+pub mod Searches
+pub mod MergedShown
+pub mod AnswerShown

@@ -1,7 +1,7 @@
 -- Document 02, Q-8: what is shown of the answer to a merge, and of the merged file.
 use mathlib.Core.Path.{_≡_}
 use mathlib.Core.Logic.{_↔_}
-use mathlib.Core.Bool.{Bool, true}
+use mathlib.Core.Bool.{Bool}
 use mathlib.Core.Option.{Option, none, some}
 use mathlib.Core.List.{List, [], _∷_, _++_, map, reverse}
 use Prim.Native.Nat.{ℕ, _+_, _*_, _≤_, _<_}
@@ -10,14 +10,14 @@ use lib.ListN.{length, getD, take}
 use Rattle.record.specs.Record.{pick, Record, records}
 use Rattle.unification.specs.Term.{Term}
 use Rattle.derivation.specs.Derivation.{literals, input, RowLiteral}
-use Rattle.verdict.specs.Conditions.{OneOf}
+use Rattle.verdict.specs.Conditions.{OneOf, TableShort}
 use Rattle.verdict.specs.Demands.{RecordAt, InForce}
 use Rattle.verdict.specs.Force.{windowOf}
 use Rattle.verdict.specs.Refusal.{Reason, reasonNumber}
 use Rattle.verdict.specs.Repeats.{termByNumbers}
 use Rattle.verdict.specs.State.{State, Window, rowsOf, derivations, clauseOf}
 use Rattle.verdict.specs.Tables.{Tables, lengthsOf, tablesAfter}
-use Rattle.verdict.specs.Verdict.{refusal, check, Lengths, longEnough, Stands}
+use Rattle.verdict.specs.Verdict.{refusal, check, Stands}
 use Rattle.merging.specs.Answer.{Merge, written, refusedWith, symbolList, mergeAnswer}
 use Rattle.merging.specs.Merging.{isSymbol, howMany, merged, mergedFile}
 
@@ -78,8 +78,8 @@ daysIn S n = windowDays (windowOf (S .windows) n)
 -- The merged file stands and leaves M, where the first leaves S and the second T.
 pub record Merged (first second : List ℕ) (S T M : State) : Type 0 where
   pub stands : Stands (mergedFile first second) M
-  -- Whatever the day, its check does not refuse it.
-  pub everyDay : (day : ℕ) (lengths : Lengths) → longEnough lengths ≡ true → (reason : Reason) (k : ℕ) → ¬ (check day (mergedFile first second) lengths .verdict ≡ refusal reason k)
+  -- Whatever the day, its check with tables long enough does not refuse it.
+  pub everyDay : (day : ℕ) (tables : Tables) → ¬ TableShort tables → (reason : Reason) (k : ℕ) → ¬ (check day (mergedFile first second) (lengthsOf tables) .verdict ≡ refusal reason k)
   -- Its clauses are input clauses, the first's and then the second's, term for term, in order and with their signs.
   pub inputs : (n : ℕ) → n < length (M .clauses) → (ls : List RowLiteral) × (clauseOf M n ≡ some (input n ls))
   pub clauses : clausesWritten M ≡ clausesWritten S ++ clausesWritten T

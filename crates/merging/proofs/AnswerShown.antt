@@ -1,0 +1,224 @@
+-- The answer to a merge is the one that its conditions ask for, and what is written is the merged file.
+use mathlib.Core.Path.{_≡_, refl, sym, ap, _∙_, subst}
+use mathlib.Core.Logic.{_⊎_, inl, inr}
+use mathlib.Core.Bool.{Bool, true, false}
+use mathlib.Core.Option.{Option, none, some}
+use mathlib.Core.List.{List, [], _∷_}
+use Prim.Native.Nat.{ℕ, suc, _*_, _≤_, _<_}
+use native.Mathlib.Omega.{arith}
+use lib.Dec.{ltb, ltb→lt, lt→ltb}
+use lib.ListN.{length, getD}
+use Rattle.record.specs.Record.{records}
+use Rattle.record.proofs.Bytes.{file-length}
+use Rattle.unification.proofs.Tests.{to-T, from-T}
+use Rattle.verdict.specs.Refusal.{reasonNumber}
+use Rattle.verdict.specs.State.{State}
+use Rattle.verdict.specs.Tables.{Tables, lengthsOf, tablesAfter}
+use Rattle.verdict.specs.Verdict.{Verdict, accepted, open′, refusal, check, Stands}
+use Rattle.verdict.proofs.Demanded.{not-refused}
+use Rattle.verdict.proofs.Inversions.{not-below}
+use Rattle.merging.specs.Answer.{Merge, written, refusedWith, firstWhere, symbolList, firstOther, roomFor, symbolsCompared, afterChecks, unlessRefused, mergeAnswer}
+use Rattle.merging.specs.Merging.{isStep, merged, mergedFile}
+use Rattle.merging.specs.Promised.{Condition, shortOutput, firstRefused, secondRefused, stepInFirst, stepInSecond, otherSymbols, tooManyRecords, Merged, MergePromised}
+use Rattle.merging.proofs.MergedShown.{merged-shown}
+use Rattle.merging.proofs.Searches.{step-found, step-searched, other-there, other-searched, neither-begins, some-other}
+
+same-refused : {a b c x y z : ℕ} → refusedWith a b c ≡ refusedWith x y z → (a ≡ x) × (b ≡ y) × (c ≡ z)
+same-refused e = (cc, cc, cc)
+
+written-not-refused : {n a b c : ℕ} → written n ≡ refusedWith a b c → ⊥
+written-not-refused e = let z : _≡_ {A = ℕ} 0 1 = cc in omega arith
+
+same-written : {n m : ℕ} → written n ≡ written m → n ≡ m
+same-written e = cc
+
+module _ (first second : List ℕ) (tables : Tables) (room : ℕ) where
+  -- The refusal that the condition at a place gives, or nothing of the kind.
+  abbrev nothing : Merge
+  nothing = written 0
+
+  abbrev whereStep : ℕ → List ℕ → Merge
+  whereStep file bytes = elim (firstWhere isStep 0 (records bytes)) [ some k ↦ refusedWith 17 file k | none ↦ nothing ]
+
+  abbrev places : List Merge
+  places =
+      (elim (ltb room 65536) [ true ↦ refusedWith 2 0 0 | false ↦ nothing ])
+      ∷ unlessRefused 1 (check 0 first (lengthsOf tables) .verdict) nothing
+      ∷ unlessRefused 2 (check 0 second (lengthsOf (tablesAfter first tables)) .verdict) nothing
+      ∷ whereStep 1 first
+      ∷ whereStep 2 second
+      ∷ (elim (firstOther (symbolList (records first)) 0 (records second)) [ some k ↦ refusedWith 18 2 k | none ↦ nothing ])
+      ∷ (elim (ltb 4096 (length (merged (records first) (records second)))) [ true ↦ refusedWith 19 0 0 | false ↦ nothing ])
+      ∷ []
+
+  abbrev given : ℕ → Merge
+  given place = getD places place nothing
+
+  gives : {place number file k : ℕ} → Condition first second tables room place number file k → given place ≡ refusedWith number file k
+  gives (shortOutput l) = ap (λ (b : Bool). elim b [ true ↦ refusedWith 2 0 0 | false ↦ nothing ]) (from-T (ltb room 65536) (lt→ltb room 65536 l))
+  gives (firstRefused q) = ap (λ (v : Verdict). unlessRefused 1 v nothing) q
+  gives (secondRefused q) = ap (λ (v : Verdict). unlessRefused 2 v nothing) q
+  gives (stepInFirst {k} F) = ap (λ (o : Option ℕ). elim o [ some j ↦ refusedWith 17 1 j | none ↦ nothing ]) (step-searched first k F)
+  gives (stepInSecond {k} F) = ap (λ (o : Option ℕ). elim o [ some j ↦ refusedWith 17 2 j | none ↦ nothing ]) (step-searched second k F)
+  gives (otherSymbols {k} F) = ap (λ (o : Option ℕ). elim o [ some j ↦ refusedWith 18 2 j | none ↦ nothing ]) (other-searched first second k F)
+  gives (tooManyRecords l) = ap (λ (b : Bool). elim b [ true ↦ refusedWith 19 0 0 | false ↦ nothing ]) (from-T (ltb 4096 (length (merged (records first) (records second)))) (lt→ltb 4096 (length (merged (records first) (records second))) l))
+
+  seven-places : {place number file k : ℕ} → Condition first second tables room place number file k → place < 7
+  seven-places (shortOutput l) = omega arith
+  seven-places (firstRefused q) = omega arith
+  seven-places (secondRefused q) = omega arith
+  seven-places (stepInFirst F) = omega arith
+  seven-places (stepInSecond F) = omega arith
+  seven-places (otherSymbols F) = omega arith
+  seven-places (tooManyRecords l) = omega arith
+
+  -- No condition before a place holds.
+  abbrev From : ℕ → Type 0
+  From place = (p n f j : ℕ) → Condition first second tables room p n f j → place ≤ p
+
+  past : (place : ℕ) → From place → given place ≡ nothing → From (suc place)
+  past place h e p n f j c = try (ltb place p) refl
+    where
+      try : (b : Bool) → ltb place p ≡ b → suc place ≤ p
+      try true q = ltb→lt place p (to-T (ltb place p) q)
+      try false q =
+          let l = h p n f j c in
+          let m = not-below place p q in
+          let z : p ≡ place = omega arith in
+          absurd (written-not-refused (sym e ∙ ap given (sym z) ∙ gives c))
+
+  -- What the merge has come to: the first condition that holds, or none.
+  data Outcome : Merge → Type 0 where
+    refusedAt : {place number file k : ℕ} → Condition first second tables room place number file k → ((p n f j : ℕ) → Condition first second tables room p n f j → place ≤ p)
+        → Outcome (refusedWith number file k)
+    none-holds : ((p n f j : ℕ) → ¬ Condition first second tables room p n f j) → Outcome (written (16 * length (merged (records first) (records second))))
+
+  room-outcome : From 6 → Outcome (roomFor (merged (records first) (records second)))
+  room-outcome h = try (ltb 4096 (length (merged (records first) (records second)))) refl
+    where
+      try : (b : Bool) → ltb 4096 (length (merged (records first) (records second))) ≡ b → Outcome (elim b [ true ↦ refusedWith 19 0 0 | false ↦ written (16 * length (merged (records first) (records second))) ])
+      try true q = refusedAt (tooManyRecords (ltb→lt 4096 (length (merged (records first) (records second))) (to-T (ltb 4096 (length (merged (records first) (records second)))) q))) h
+      try false q = none-holds (λ p n f j c. let l = past 6 h (ap (λ (b : Bool). elim b [ true ↦ refusedWith 19 0 0 | false ↦ nothing ]) q) p n f j c in let m = seven-places c in omega arith)
+
+  symbols-outcome : From 5 → Outcome (symbolsCompared (records first) (records second))
+  symbols-outcome h = try (firstOther (symbolList (records first)) 0 (records second)) refl
+    where
+      try : (o : Option ℕ) → firstOther (symbolList (records first)) 0 (records second) ≡ o → Outcome (elim o [ some k ↦ refusedWith 18 2 k | none ↦ roomFor (merged (records first) (records second)) ])
+      try (some k) q = refusedAt (otherSymbols (other-there first second k q)) h
+      try none q = room-outcome (past 5 h (ap (λ (o : Option ℕ). elim o [ some k ↦ refusedWith 18 2 k | none ↦ nothing ]) q))
+
+  second-outcome : From 4 → Outcome (elim (firstWhere isStep 0 (records second)) [ some k ↦ refusedWith 17 2 k | none ↦ symbolsCompared (records first) (records second) ])
+  second-outcome h = try (firstWhere isStep 0 (records second)) refl
+    where
+      try : (o : Option ℕ) → firstWhere isStep 0 (records second) ≡ o → Outcome (elim o [ some k ↦ refusedWith 17 2 k | none ↦ symbolsCompared (records first) (records second) ])
+      try (some k) q = refusedAt (stepInSecond (step-found second k q)) h
+      try none q = symbols-outcome (past 4 h (ap (λ (o : Option ℕ). elim o [ some k ↦ refusedWith 17 2 k | none ↦ nothing ]) q))
+
+  checked-outcome : From 3 → Outcome (afterChecks (records first) (records second))
+  checked-outcome h = try (firstWhere isStep 0 (records first)) refl
+    where
+      try : (o : Option ℕ) → firstWhere isStep 0 (records first) ≡ o
+          → Outcome (elim o [ some k ↦ refusedWith 17 1 k | none ↦ elim (firstWhere isStep 0 (records second)) [ some k ↦ refusedWith 17 2 k | none ↦ symbolsCompared (records first) (records second) ] ])
+      try (some k) q = refusedAt (stepInFirst (step-found first k q)) h
+      try none q = second-outcome (past 3 h (ap (λ (o : Option ℕ). elim o [ some k ↦ refusedWith 17 1 k | none ↦ nothing ]) q))
+
+  verdict-outcome : From 2 → Outcome (unlessRefused 2 (check 0 second (lengthsOf (tablesAfter first tables)) .verdict) (afterChecks (records first) (records second)))
+  verdict-outcome h = try (check 0 second (lengthsOf (tablesAfter first tables)) .verdict) refl
+    where
+      try : (v : Verdict) → check 0 second (lengthsOf (tablesAfter first tables)) .verdict ≡ v → Outcome (unlessRefused 2 v (afterChecks (records first) (records second)))
+      try (refusal reason k) q = refusedAt (secondRefused q) h
+      try (accepted n) q = checked-outcome (past 2 h (ap (λ (v : Verdict). unlessRefused 2 v nothing) q))
+      try open′ q = checked-outcome (past 2 h (ap (λ (v : Verdict). unlessRefused 2 v nothing) q))
+
+  first-outcome : From 1 → Outcome (unlessRefused 1 (check 0 first (lengthsOf tables) .verdict) (unlessRefused 2 (check 0 second (lengthsOf (tablesAfter first tables)) .verdict) (afterChecks (records first) (records second))))
+  first-outcome h = try (check 0 first (lengthsOf tables) .verdict) refl
+    where
+      try : (v : Verdict) → check 0 first (lengthsOf tables) .verdict ≡ v → Outcome (unlessRefused 1 v (unlessRefused 2 (check 0 second (lengthsOf (tablesAfter first tables)) .verdict) (afterChecks (records first) (records second))))
+      try (refusal reason k) q = refusedAt (firstRefused q) h
+      try (accepted n) q = verdict-outcome (past 1 h (ap (λ (v : Verdict). unlessRefused 1 v nothing) q))
+      try open′ q = verdict-outcome (past 1 h (ap (λ (v : Verdict). unlessRefused 1 v nothing) q))
+
+  outcome : Outcome (mergeAnswer first second tables room)
+  unfolding mergeAnswer
+  outcome = try (ltb room 65536) refl
+    where
+      start : From 0
+      start p n f j c = omega arith
+
+      try : (b : Bool) → ltb room 65536 ≡ b
+          → Outcome (elim b [ true ↦ refusedWith 2 0 0 | false ↦ unlessRefused 1 (check 0 first (lengthsOf tables) .verdict) (unlessRefused 2 (check 0 second (lengthsOf (tablesAfter first tables)) .verdict) (afterChecks (records first) (records second))) ])
+      try true q = refusedAt (shortOutput (ltb→lt room 65536 (to-T (ltb room 65536) q))) start
+      try false q = first-outcome (past 0 start (ap (λ (b : Bool). elim b [ true ↦ refusedWith 2 0 0 | false ↦ nothing ]) q))
+
+  -- ── What is promised ──
+  refused-only : (number file k : ℕ) (m : Merge) → Outcome m → m ≡ refusedWith number file k → (place : ℕ) × Condition first second tables room place number file k × ((p n f j : ℕ) → Condition first second tables room p n f j → place ≤ p)
+  refused-only number file k m (refusedAt {place} {number = n} {file = f} {k = j} c least) e =
+      let s = same-refused e in
+      (place, subst (λ (x : ℕ). Condition first second tables room place x file k) (s .0) (subst (λ (x : ℕ). Condition first second tables room place n x k) (s .1) (subst (λ (x : ℕ). Condition first second tables room place n f x) (s .2) c)), least)
+  refused-only number file k m (none-holds h) e = absurd (written-not-refused e)
+
+  refused-if : (place number file k : ℕ) (m : Merge) → Outcome m → Condition first second tables room place number file k → ((p n f j : ℕ) → Condition first second tables room p n f j → place ≤ p) → m ≡ refusedWith number file k
+  refused-if place number file k m (refusedAt {place = q} {number = n} {file = f} {k = j} c least) d h =
+      let a = h q n f j c in
+      let b = least place number file k d in
+      let e : q ≡ place = omega arith in
+      sym (gives c) ∙ ap given e ∙ gives d
+  refused-if place number file k m (none-holds h) d l = absurd (h place number file k d)
+
+  written-only : (n : ℕ) (m : Merge) → Outcome m → m ≡ written n → (n ≡ length (mergedFile first second)) × ((p x f j : ℕ) → ¬ Condition first second tables room p x f j)
+  unfolding mergedFile
+  written-only n m (refusedAt c least) e = absurd (written-not-refused (sym e))
+  written-only n m (none-holds h) e = (sym (same-written e) ∙ sym (file-length (merged (records first) (records second))), h)
+
+  written-if : (m : Merge) → Outcome m → ((p n f j : ℕ) → ¬ Condition first second tables room p n f j) → m ≡ written (length (mergedFile first second))
+  unfolding mergedFile
+  written-if m (refusedAt {place} {number} {file} {k} c least) h = absurd (h place number file k c)
+  written-if m (none-holds g) h = ap written (sym (file-length (merged (records first) (records second))))
+
+  -- Where no condition holds, both files stand, without steps and with symbols that agree, and there is room.
+  module _ (h : (p n f j : ℕ) → ¬ Condition first second tables room p n f j) where
+    no-first : firstWhere isStep 0 (records first) ≡ none
+    no-first = try (firstWhere isStep 0 (records first)) refl
+      where
+        try : (o : Option ℕ) → firstWhere isStep 0 (records first) ≡ o → o ≡ none
+        try none q = refl
+        try (some k) q = absurd (h 3 17 1 k (stepInFirst (step-found first k q)))
+
+    no-second : firstWhere isStep 0 (records second) ≡ none
+    no-second = try (firstWhere isStep 0 (records second)) refl
+      where
+        try : (o : Option ℕ) → firstWhere isStep 0 (records second) ≡ o → o ≡ none
+        try none q = refl
+        try (some k) q = absurd (h 4 17 2 k (stepInSecond (step-found second k q)))
+
+    none-other : firstOther (symbolList (records first)) 0 (records second) ≡ none
+    none-other = try (firstOther (symbolList (records first)) 0 (records second)) refl
+      where
+        try : (o : Option ℕ) → firstOther (symbolList (records first)) 0 (records second) ≡ o → o ≡ none
+        try none q = refl
+        try (some k) q = absurd (h 5 18 2 k (otherSymbols (other-there first second k q)))
+
+    has-room : length (merged (records first) (records second)) ≤ 4096
+    has-room = try (ltb 4096 (length (merged (records first) (records second)))) refl
+      where
+        try : (b : Bool) → ltb 4096 (length (merged (records first) (records second))) ≡ b → length (merged (records first) (records second)) ≤ 4096
+        try true q = absurd (h 6 19 0 0 (tooManyRecords (ltb→lt 4096 (length (merged (records first) (records second))) (to-T (ltb 4096 (length (merged (records first) (records second)))) q))))
+        try false q = not-below 4096 (length (merged (records first) (records second))) q
+
+    pub all-merged : (S : State) × (T : State) × (M : State) × Stands first S × Stands second T × Merged first second S T M
+    all-merged =
+        let A = not-refused 0 first tables (λ q k e. h 1 (reasonNumber q) 1 k (firstRefused e)) .1 in
+        let B = not-refused 0 second (tablesAfter first tables) (λ q k e. h 2 (reasonNumber q) 2 k (secondRefused e)) .1 in
+        let G = merged-shown first second (A .0) (B .0) (A .1) (B .1) no-first no-second none-other has-room in
+        (A .0, B .0, G .0, A .1, B .1, G .1)
+
+  pub merge-promised : MergePromised first second tables room
+  merge-promised = record {
+    refusedOnly = λ number file k e. refused-only number file k (mergeAnswer first second tables room) outcome e;
+    refusedIf = λ place number file k c least. refused-if place number file k (mergeAnswer first second tables room) outcome c least;
+    writtenOnly = λ n e. written-only n (mergeAnswer first second tables room) outcome e;
+    writtenIf = λ h. written-if (mergeAnswer first second tables room) outcome h;
+    neitherBegins = λ k O. (λ b. neither-begins first second k O (inl b), λ b. neither-begins first second k O (inr b));
+    otherThere = λ a b. some-other first second a b;
+    written = λ n e. all-merged (written-only n (mergeAnswer first second tables room) outcome e .1);
+  }
