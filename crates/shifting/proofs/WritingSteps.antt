@@ -1,0 +1,1 @@
+-- The records of the second file, written step by step as the program does.
