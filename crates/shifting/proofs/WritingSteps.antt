@@ -1,16 +1,18 @@
 -- The records of the second file, written step by step as the program does: what is raised, one record's bytes, and a place in the output.
 use mathlib.Core.Path.{_≡_, refl, sym, ap, ap₂, _∙_, subst}
 use mathlib.Core.Bool.{Bool, true, false, _&&_}
-use mathlib.Core.List.{List, [], _∷_, _++_, map, map-append, append-assoc}
-use Prim.Native.Nat.{ℕ, zero, suc, _+_, _*_, _/_, _%_, _≤_, _<_}
+use mathlib.Core.List.{List, [], _∷_, _++_, map, map-append, append-assoc, append-nil}
+use Prim.Native.Nat.{ℕ, zero, suc, _+_, _-_, _*_, _/_, _%_, _≤_, _<_}
 use native.Mathlib.Numerals.{add-one}
 use native.Mathlib.Omega.{arith}
 use lib.Dec.{eqb, leb, ltb}
-use lib.ListN.{length, getD, take, drop, set, take-append-drop, length-append, length-take, length-drop}
-use lib.Seq.{length-take-le, take-suc, drop-drop, take-at, drop-at, take-append-le, drop-append-le}
+use lib.ListN.{length, take, drop, set, take-append-drop, length-append, length-drop, drop-of-length-le}
+use lib.Seq.{take-all, length-take-le, drop-drop, take-add, take-at, drop-at}
 use borrow.Author.Tests.{eq-eqb, ne-eqb, lt-ltb, le-ltb, le-leb, lt-leb}
+use borrow.Rule.Slice.PartMut.{midOf, putMid}
 use Rattle.record.specs.Bytes.{recordBytes, fileBytes}
 use Rattle.record.specs.Record.{pick, Record, decoded, kindOf, countOf, fieldOf}
+use Rattle.record.proofs.Bytes.{record-sixteen}
 use Rattle.merging.specs.Merging.{isSymbol, raisedBy, shifted, symbolsAfter}
 use Rattle.shifting.specs.Shifting.{wrapped, isDropped}
 
@@ -111,3 +113,74 @@ pub two-set : (l : List ℕ) (a b : ℕ) → 2 ≤ length l → set (set l 0 a) 
 two-set [] a b h = absurd (omega arith)
 two-set (x ∷ []) a b h = absurd (omega arith)
 two-set (x ∷ y ∷ l) a b h = refl
+
+-- A part that is lent from a place to the end, and the list with it given back.
+pub tail-lent : (a : ℕ) (l : List ℕ) → midOf a (length l - a) l ≡ drop a l
+tail-lent a l = take-all (length l - a) (drop a l) (omega (arith, length-drop a l))
+
+pub tail-back : (a : ℕ) (l m : List ℕ) → putMid a (length l - a) l m ≡ take a l ++ m
+tail-back a l m = ap (λ (z : List ℕ). take a l ++ z) (ap (λ (z : List ℕ). m ++ z) (drop-of-length-le (drop a l) {i = length l - a} (omega (arith, length-drop a l))) ∙ append-nil m)
+
+pub tail-room : (a n : ℕ) (l : List ℕ) → a + n ≤ length l → n ≤ length (midOf a (length l - a) l)
+tail-room a n l h = subst (λ (z : List ℕ). n ≤ length z) (sym (tail-lent a l)) (omega (arith, length-drop a l))
+
+still : (m : ℕ) (l : List ℕ) (a b : ℕ) → drop (suc (suc m)) (set (set l 0 a) 1 b) ≡ drop (suc (suc m)) l
+still m [] a b = refl
+still m (x ∷ []) a b = refl
+still m (x ∷ y ∷ l) a b = refl
+
+low-wrapped : (n : ℕ) → n % 65536 % 256 ≡ n % 256
+low-wrapped n = omega arith
+
+high-wrapped : (n : ℕ) → n % 65536 / 256 ≡ n / 256 % 256
+high-wrapped n = omega arith
+
+module _ (rest : List ℕ) (rows clauses : ℕ) where
+  -- The record's bytes, and field i as it is written.
+  abbrev pub sixteen : List ℕ
+  sixteen = recordBytes (wrapped (shifted rows clauses (decoded rest)))
+
+  abbrev pub fieldRaised : ℕ → ℕ
+  fieldRaised i = fieldOf rest i + raisedBy rows clauses (decoded rest) i
+
+  two : (n : ℕ) → (n % 65536 % 256) ∷ (n % 65536 / 256) ∷ [] ≡ (n % 256) ∷ (n / 256 % 256) ∷ []
+  two n = λ t. low-wrapped n t ∷ high-wrapped n t ∷ []
+
+  field-bytes : (i : ℕ) → i < 7 → take 2 (drop (2 + 2 * i) sixteen) ≡ (fieldRaised i % 256) ∷ (fieldRaised i / 256 % 256) ∷ []
+  unfolding recordBytes
+  field-bytes zero h = two (fieldRaised 0)
+  field-bytes (suc zero) h = two (fieldRaised 1)
+  field-bytes (suc (suc zero)) h = two (fieldRaised 2)
+  field-bytes (suc (suc (suc zero))) h = two (fieldRaised 3)
+  field-bytes (suc (suc (suc (suc zero)))) h = two (fieldRaised 4)
+  field-bytes (suc (suc (suc (suc (suc zero))))) h = two (fieldRaised 5)
+  field-bytes (suc (suc (suc (suc (suc (suc zero)))))) h = two (fieldRaised 6)
+  field-bytes (suc (suc (suc (suc (suc (suc (suc i))))))) h = absurd (omega arith)
+
+  -- The first two bytes; a field more; and all.
+  pub begun : (output : List ℕ) {k n : ℕ} → 16 ≤ length output → k ≡ kindOf rest → n ≡ countOf rest
+      → set (set output 0 k) 1 n ≡ take 2 sixteen ++ drop 2 (set (set output 0 k) 1 n)
+  unfolding recordBytes
+  begun output {k} {n} h p q =
+      let same : drop 2 output ≡ drop 2 (set (set output 0 k) 1 n) = sym (still 0 output k n) in
+      two-set output k n (omega arith) ∙ (λ t. p t ∷ q t ∷ same t)
+
+  pub field-written : (before output : List ℕ) (i : ℕ) {n : ℕ} {part : List ℕ} → i < 7 → 16 ≤ length output → output ≡ take (2 + 2 * i) sixteen ++ drop (2 + 2 * i) before
+      → n ≡ fieldRaised i → part ≡ (n % 256) ∷ (n / 256 % 256) ∷ drop 2 (midOf (2 + 2 * i) (length output - (2 + 2 * i)) output)
+      → putMid (2 + 2 * i) (length output - (2 + 2 * i)) output part ≡ take (2 + 2 * (i + 1)) sixteen ++ drop (2 + 2 * (i + 1)) before
+  field-written before output i {n} {part} h l o f p =
+      let at : ℕ = 2 + 2 * i in
+      let long : length (take at sixteen) ≡ at = length-take-le at sixteen (omega (arith, record-sixteen (wrapped (shifted rows clauses (decoded rest))))) in
+      let front : take at output ≡ take at sixteen = ap (take at) o ∙ take-at (take at sixteen) (drop at before) at long in
+      let back : drop at output ≡ drop at before = ap (drop at) o ∙ drop-at (take at sixteen) (drop at before) at long in
+      let on : at + 2 ≡ 2 + 2 * (i + 1) = omega arith in
+      let same : part ≡ (take 2 (drop at sixteen)) ++ drop (at + 2) before =
+      p ∙ (λ t. (f t % 256) ∷ (f t / 256 % 256) ∷ drop 2 (tail-lent at output t)) ∙ ap₂ (λ (a b : List ℕ). a ++ drop 2 b) (sym (field-bytes i h)) back ∙ ap (λ (z : List ℕ). take 2 (drop at sixteen) ++ z) (drop-drop 2 at before) in
+      tail-back at output part ∙ ap₂ _++_ front same ∙ sym (append-assoc (take at sixteen) (take 2 (drop at sixteen)) (drop (at + 2) before))
+      ∙ ap (λ (z : List ℕ). z ++ drop (at + 2) before) (sym (take-add at 2 sixteen)) ∙ ap (λ (m : ℕ). take m sixteen ++ drop m before) on
+
+  pub all-written : (output left : List ℕ) (k n i : ℕ) → i ≤ 7 → 7 ≤ i → left ≡ take (2 + 2 * i) sixteen ++ drop (2 + 2 * i) (set (set output 0 k) 1 n) → left ≡ sixteen ++ drop 16 output
+  unfolding recordBytes
+  all-written output left k n i a b e =
+      let z : i ≡ 7 = omega arith in
+      e ∙ ap (λ (m : ℕ). take (2 + 2 * m) sixteen ++ drop (2 + 2 * m) (set (set output 0 k) 1 n)) z ∙ ap (λ (l : List ℕ). sixteen ++ l) (still 14 output k n)
