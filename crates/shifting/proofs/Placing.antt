@@ -1,5 +1,5 @@
 -- The second file's records placed in the output one after another: what is left of the file comes to the same as the whole.
-use mathlib.Core.Path.{_≡_, refl, sym, ap, ap₂, _∙_, subst}
+use mathlib.Core.Path.{_≡_, refl, sym, ap, ap₂, _∙_}
 use mathlib.Core.Bool.{Bool, true, false}
 use mathlib.Core.List.{List, [], _∷_, _++_, map, map-append, append-assoc, append-nil}
 use Prim.Native.Nat.{ℕ, suc, _+_, _-_, _*_, _/_, _%_, _≤_, _<_}
@@ -92,8 +92,8 @@ module _ (rest : List ℕ) (s symbols rows clauses : ℕ) (output : List ℕ) (a
         in
         record {
           bytes =
-            tail-back at output part ∙ ap (λ (l : List ℕ). take at output ++ l) (p ∙ ap (λ (l : List ℕ). R ++ l) behind)
-            ∙ sym (ap (λ (l : List ℕ). placedAt at l output) (append-nil R)) ∙ sym (ap (λ (rs : List Record). placedAt at (shiftedBytes rows clauses rs) output) one);
+              tail-back at output part ∙ ap (λ (l : List ℕ). take at output ++ l) (p ∙ ap (λ (l : List ℕ). R ++ l) behind)
+              ∙ sym (ap (λ (l : List ℕ). placedAt at l output) (append-nil R)) ∙ sym (ap (λ (rs : List Record). placedAt at (shiftedBytes rows clauses rs) output) one);
           ends = omega (arith, ap (λ (rs : List Record). length rs) one);
         }
 

@@ -17,7 +17,7 @@ use Rattle.shifting.specs.Shifting.{othersFrom, Moved}
 use Rattle.shifting.specs.declared.search.Move.{Move}
 use Rattle.shifting.specs.declared.search.Move.the-variants as move
 
--- A record that is no step for its kind is below 5, and one of another kind.
+-- Whether a record is a step, by its kind: below 5, and from 5 on.
 module _ (part : List ℕ) {k : ℕ} (isKind : k ≡ kindOf part) where
   pub kind-under : k < 5 → false ≡ isStep (decoded part)
   kind-under l = sym (ap (λ (x : Bool). x && leb (kindOf part) 7) (lt-leb 5 (kindOf part) (subst (λ (n : ℕ). n < 5) isKind l)))

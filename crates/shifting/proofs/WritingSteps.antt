@@ -1,16 +1,16 @@
 -- The records of the second file, written step by step as the program does: what is raised, one record's bytes, and a place in the output.
 use mathlib.Core.Path.{_≡_, refl, sym, ap, ap₂, _∙_, subst}
 use mathlib.Core.Bool.{Bool, true, false, _&&_}
-use mathlib.Core.List.{List, [], _∷_, _++_, map, map-append, append-assoc, append-nil}
+use mathlib.Core.List.{List, [], _∷_, _++_, append-assoc, append-nil}
 use Prim.Native.Nat.{ℕ, zero, suc, _+_, _-_, _*_, _/_, _%_, _≤_, _<_}
 use native.Mathlib.Numerals.{add-one}
 use native.Mathlib.Omega.{arith}
 use lib.Dec.{eqb, leb, ltb}
-use lib.ListN.{length, take, drop, set, take-append-drop, length-append, length-drop, drop-of-length-le}
+use lib.ListN.{length, take, drop, set, length-drop, drop-of-length-le}
 use lib.Seq.{take-all, length-take-le, drop-drop, take-add, take-at, drop-at}
 use borrow.Author.Tests.{eq-eqb, ne-eqb, lt-ltb, le-ltb, le-leb, lt-leb}
 use borrow.Rule.Slice.PartMut.{midOf, putMid}
-use Rattle.record.specs.Bytes.{recordBytes, fileBytes}
+use Rattle.record.specs.Bytes.{recordBytes}
 use Rattle.record.specs.Record.{pick, Record, decoded, kindOf, countOf, fieldOf}
 use Rattle.record.proofs.Bytes.{record-sixteen}
 use Rattle.merging.specs.Merging.{isSymbol, raisedBy, shifted, symbolsAfter}
@@ -82,9 +82,6 @@ module _ (part : List ℕ) (i rows clauses : ℕ) {k n : ℕ} (isKind : k ≡ ki
 
       pub other-stays : ¬ (k ≡ 8) → 0 ≡ raisedBy rows clauses (decoded part) i
       other-stays e = last-case false (eqb i 0) (other-kind e) refl
-
-pub raised-fits : {rows clauses field raised : ℕ} (r : Record) (i : ℕ) → rows < 65536 → clauses < 65536 → field < 65536 → raised ≡ raisedBy rows clauses r i → field + raised < 4294967296
-raised-fits {rows} {clauses} r i a b d e = omega (arith, raised-bound rows clauses r i)
 
 -- ── Which symbol records are left out ──
 

@@ -1,5 +1,5 @@
 -- What is left of the file has the same first step as the whole.
-use mathlib.Core.Path.{_≡_, refl}
+use mathlib.Core.Path.{refl}
 use Prim.Native.Nat.{_-_, _≤_}
 use native.Mathlib.Omega.{arith}
 use Rattle.record.specs.Record.{recordCount}

@@ -1,5 +1,4 @@
 -- What is left of the second file, placed in what is written, comes to the same as the whole placed in the output.
-use mathlib.Core.Path.{_≡_, refl}
 use Prim.Native.Nat.{_-_}
 use native.Mathlib.Omega.{arith}
 use lib.ListN.{length}
