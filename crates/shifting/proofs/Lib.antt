@@ -1,1 +1,3 @@
-
+pub mod SearchSteps
+pub mod WritingSteps
+pub mod Placing

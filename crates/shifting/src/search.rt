@@ -51,7 +51,7 @@ pub fn first_step(file: &[u8]) -> Found
 
 // One move of the comparison of symbols: past a record that is no symbol, in the first file and then in the second; or two symbols are compared.
 fn compare_at(first: &[u8], second: &[u8], i: usize, j: u16) -> Move
-    requires { ⌜ (i < recordCount (now first)) × (length (now second) ≤ 65536) ⌝ }
+    requires { ⌜ (i < recordCount (now first)) × (length (now second) ≤ 65536) × (j ≤ 4096) ⌝ }
     ensures { λ m. ⌜ Moved (now (first .entry)) (now (second .entry)) i j m ⌝ }
 {
     let mine = record_part(first, i);
