@@ -210,8 +210,10 @@ module _ (S T M : State) (B : Beside S T M) (k j : ℕ) (r : Record) (T′ : Sta
         next = withClause M j (input (nextClause M) (newLiterals M r′));
         steps = all-passed (tests M inputKind r′) (enter M j inputKind r′) (
           ap (λ (fs : List ℕ). leb (r .count) 7 && zeros fs) rest ∙ a .ranged,
-          (ap₂ (λ (x : ℕ) (l : List RowLiteral). allBelow x (map (λ (y : RowLiteral). y .1) l)) (B .rowsMany) ls ∙ rows-raised (length (rowsOf T)) (length (rowsOf S)) (length (derivations S)) r (inputLiterals r) (rows-below (length (rowsOf T)) (inputLiterals r) (a .there)),
-          (ap (allApplications (rowOf M)) ls ∙ shapes-raised (rowOf T) (rowOf M) (length (rowsOf S)) (length (derivations S)) r (B .shapes) (inputLiterals r) ∙ a .applications, tt)),
+          (
+            ap₂ (λ (x : ℕ) (l : List RowLiteral). allBelow x (map (λ (y : RowLiteral). y .1) l)) (B .rowsMany) ls ∙ rows-raised (length (rowsOf T)) (length (rowsOf S)) (length (derivations S)) r (inputLiterals r) (rows-below (length (rowsOf T)) (inputLiterals r) (a .there)),
+            (ap (allApplications (rowOf M)) ls ∙ shapes-raised (rowOf T) (rowOf M) (length (rowsOf S)) (length (derivations S)) r (B .shapes) (inputLiterals r) ∙ a .applications, tt),
+          ),
         );
         beside = clause-beside (nextClause T) (nextClause M) (newLiterals T r) (newLiterals M r′) (stands-same q);
       }

@@ -314,14 +314,17 @@ module _ (first second : List ℕ) (S T : State) (st₁ : Stands first S) (st₂
       ∙ joined-longer (symbolList (records first)) (symbolList (records second)) (none-alike (symbolList (records first)) 0 (records second) agree)
 
   pub merged-shown : (M : State) × Merged first second S T M
-  merged-shown = (left, record {
-    stands = stands-merged;
-    everyDay = every-day;
-    inputs = inputs-there;
-    clauses = clauses-joined;
-    daysOfFirst = days-of-first;
-    daysOfSecond = days-of-second;
-    forceOfFirst = λ day n l. same-force first S st₁ day n n (days-of-first n l);
-    forceOfSecond = λ day n. same-force second T st₂ day (length (S .clauses) + n) n (days-of-second n);
-    symbols = symbols-longer;
-  })
+  merged-shown = (
+    left,
+    record {
+      stands = stands-merged;
+      everyDay = every-day;
+      inputs = inputs-there;
+      clauses = clauses-joined;
+      daysOfFirst = days-of-first;
+      daysOfSecond = days-of-second;
+      forceOfFirst = λ day n l. same-force first S st₁ day n n (days-of-first n l);
+      forceOfSecond = λ day n. same-force second T st₂ day (length (S .clauses) + n) n (days-of-second n);
+      symbols = symbols-longer;
+    },
+  )

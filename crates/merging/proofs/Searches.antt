@@ -147,14 +147,18 @@ module _ (a : ℕ) (A : List ℕ) (r : Record) (rs : List Record) where
 
   back-other : isSymbol r ≡ false → (p : ℕ) → Differs (a ∷ A) (r ∷ rs) p → (j : ℕ) × (p ≡ suc j) × Differs (a ∷ A) rs j
   back-other z zero D = absurd (true-not-false (ap (λ (x : Record). eqb (x .kind) 1) (same-head (D .here)) ∙ ap (λ (n : ℕ). eqb n 1) (D .isKind)) z)
-  back-other z (suc j) D = (j, refl, record {
-    symbol = D .symbol;
-    rest = D .rest;
-    here = D .here;
-    isKind = D .isKind;
-    inFirst = subst (λ (n : ℕ). n < suc (length A)) (kept-number z j) (D .inFirst);
-    differs = λ e. D .differs (ap (λ (n : ℕ). getD (a ∷ A) n 0) (kept-number z j) ∙ e);
-  })
+  back-other z (suc j) D = (
+    j,
+    refl,
+    record {
+      symbol = D .symbol;
+      rest = D .rest;
+      here = D .here;
+      isKind = D .isKind;
+      inFirst = subst (λ (n : ℕ). n < suc (length A)) (kept-number z j) (D .inFirst);
+      differs = λ e. D .differs (ap (λ (n : ℕ). getD (a ∷ A) n 0) (kept-number z j) ∙ e);
+    },
+  )
 
   over-symbol : isSymbol r ≡ true → (p : ℕ) → Differs A rs p → Differs (a ∷ A) (r ∷ rs) (suc p)
   over-symbol z p D = record {
@@ -168,14 +172,18 @@ module _ (a : ℕ) (A : List ℕ) (r : Record) (rs : List Record) where
 
   back-symbol : isSymbol r ≡ true → a ≡ r .count → (p : ℕ) → Differs (a ∷ A) (r ∷ rs) p → (j : ℕ) × (p ≡ suc j) × Differs A rs j
   back-symbol z e zero D = absurd (D .differs (e ∙ ap (λ (x : Record). x .count) (same-head (D .here))))
-  back-symbol z e (suc j) D = (j, refl, record {
-    symbol = D .symbol;
-    rest = D .rest;
-    here = D .here;
-    isKind = D .isKind;
-    inFirst = let n = next-number z j in let l = D .inFirst in omega arith;
-    differs = λ w. D .differs (ap (λ (n : ℕ). getD (a ∷ A) n 0) (next-number z j) ∙ w);
-  })
+  back-symbol z e (suc j) D = (
+    j,
+    refl,
+    record {
+      symbol = D .symbol;
+      rest = D .rest;
+      here = D .here;
+      isKind = D .isKind;
+      inFirst = let n = next-number z j in let l = D .inFirst in omega arith;
+      differs = λ w. D .differs (ap (λ (n : ℕ). getD (a ∷ A) n 0) (next-number z j) ∙ w);
+    },
+  )
 
 other-none : (A : List ℕ) (k : ℕ) (rs : List Record) → firstOther A k rs ≡ none → (p : ℕ) → ¬ Differs A rs p
 other-none [] k rs q p D = let l = D .inFirst in omega arith

@@ -60,8 +60,8 @@ unlessRefused file open′ next = next
 unfoldable pub mergeAnswer : List ℕ → List ℕ → Tables → ℕ → Merge
 mergeAnswer first second tables room =
     elim (ltb room 65536) [
-      true ↦ refusedWith 2 0 0
-    | false ↦ unlessRefused 1 (check 0 first (lengthsOf tables) .verdict) (unlessRefused 2 (check 0 second (lengthsOf (tablesAfter first tables)) .verdict) (afterChecks (records first) (records second)))
+      | true ↦ refusedWith 2 0 0
+      | false ↦ unlessRefused 1 (check 0 first (lengthsOf tables) .verdict) (unlessRefused 2 (check 0 second (lengthsOf (tablesAfter first tables)) .verdict) (afterChecks (records first) (records second)))
     ]
 
 -- The tables: untouched with a short output, else as the last check left them.
