@@ -1,11 +1,16 @@
 -- The numbers of an answer, taken apart: the verdict's three, and how many clauses the check has left.
 use mathlib.Core.Path.{_≡_, refl, sym, ap, _∙_}
+use mathlib.Core.Bool.{true, false}
+use mathlib.Core.Option.{Option, none, some}
 use mathlib.Core.List.{List, [], _∷_, _++_}
 use Prim.Native.Nat.{ℕ}
+use native.Mathlib.Omega.{arith}
 use lib.ListN.{length, getD, drop}
+use Rattle.unification.proofs.Tests.{true-not-false}
+use Rattle.verdict.specs.Refusal.{Reason, reasonNumber}
 use Rattle.verdict.specs.State.{State}
-use Rattle.verdict.specs.Verdict.{Verdict, accepted, open′, refusal, verdictNumbers, answerNumbers, check, Lengths, reading, stateGiven}
-use Rattle.answer.specs.Given.{verdictGiven, answerGiven}
+use Rattle.verdict.specs.Verdict.{Verdict, accepted, open′, refusal, verdictNumbers, standing, answerNumbers, check, Lengths, reading, stateGiven}
+use Rattle.answer.specs.Given.{verdictGiven, verdictStands, answerGiven}
 use Rattle.answer.specs.declared.Answer.{Answer}
 use Rattle.answer.specs.declared.Verdict as given
 use Rattle.answer.specs.declared.Verdict.the-variants as given-variants
@@ -13,10 +18,6 @@ use Rattle.answer.specs.declared.Verdict.the-variants as given-variants
 -- The state that a check leaves.
 abbrev pub stateLeft : List ℕ → Lengths → State
 stateLeft file lengths = stateGiven (reading file lengths)
-
-counts-left : (day : ℕ) (F : List ℕ) (lengths : Lengths) → check day F lengths .clauses ≡ length (stateLeft F lengths .clauses)
-unfolding check
-counts-left day F lengths = refl
 
 -- The verdict's numbers and the counts, taken apart.
 rest-given : (v : given.Verdict) (xs : List ℕ) → drop 3 (verdictGiven v ++ xs) ≡ xs
@@ -49,10 +50,39 @@ module _ (day : ℕ) (F : List ℕ) (lengths : Lengths) (a : Answer) (isAnswer :
       ∙ ap three isAnswer
       ∙ three-numbers (check day F lengths .verdict) (check day F lengths .symbols ∷ check day F lengths .rows ∷ check day F lengths .clauses ∷ check day F lengths .bindings ∷ [])
 
-  pub clauses-given : a .clauses ≡ length (stateLeft F lengths .clauses)
-  clauses-given =
-      ap (λ (l : List ℕ). getD l 2 0)
-      (sym (rest-given (a .verdict) (a .symbols ∷ a .rows ∷ a .clauses ∷ a .bindings ∷ []))
+  -- The four counts.
+  counts-given : a .symbols ∷ a .rows ∷ a .clauses ∷ a .bindings ∷ [] ≡ check day F lengths .symbols ∷ check day F lengths .rows ∷ check day F lengths .clauses ∷ check day F lengths .bindings ∷ []
+  counts-given =
+      sym (rest-given (a .verdict) (a .symbols ∷ a .rows ∷ a .clauses ∷ a .bindings ∷ []))
       ∙ ap (drop 3) isAnswer
-      ∙ rest-numbers (check day F lengths .verdict) (check day F lengths .symbols ∷ check day F lengths .rows ∷ check day F lengths .clauses ∷ check day F lengths .bindings ∷ []))
-      ∙ counts-left day F lengths
+      ∙ rest-numbers (check day F lengths .verdict) (check day F lengths .symbols ∷ check day F lengths .rows ∷ check day F lengths .clauses ∷ check day F lengths .bindings ∷ [])
+
+  pub symbols-given : a .symbols ≡ length (stateLeft F lengths .symbols)
+  unfolding check
+  symbols-given = ap (λ (l : List ℕ). getD l 0 0) counts-given
+
+  pub rows-given : a .rows ≡ length (stateLeft F lengths .rows)
+  unfolding check
+  rows-given = ap (λ (l : List ℕ). getD l 1 0) counts-given
+
+  pub clauses-given : a .clauses ≡ length (stateLeft F lengths .clauses)
+  unfolding check
+  clauses-given = ap (λ (l : List ℕ). getD l 2 0) counts-given
+
+-- The verdict of a file that is not refused, and of one that is.
+pub stands-not-refused : (v : given.Verdict) (w : Verdict) → verdictGiven v ≡ verdictNumbers w → verdictStands v ≡ true → (q : Reason) (k : ℕ) → ¬ (w ≡ refusal q k)
+stands-not-refused given-variants.Open w e t q k f = let z : _≡_ {A = ℕ} 0 2 = ap (λ (l : List ℕ). getD l 0 0) (e ∙ ap verdictNumbers f) in omega arith
+stands-not-refused (given-variants.Accepted n) w e t q k f = let z : _≡_ {A = ℕ} 1 2 = ap (λ (l : List ℕ). getD l 0 0) (e ∙ ap verdictNumbers f) in omega arith
+stands-not-refused (given-variants.Refused r j) w e t q k f = true-not-false t refl
+
+pub refused-not-standing : (v : given.Verdict) (o : Option ℕ) → verdictGiven v ≡ verdictNumbers (standing o) → verdictStands v ≡ false → ⊥
+refused-not-standing given-variants.Open o e t = true-not-false refl t
+refused-not-standing (given-variants.Accepted n) o e t = true-not-false refl t
+refused-not-standing (given-variants.Refused r j) none e t = let z : _≡_ {A = ℕ} 2 0 = ap (λ (l : List ℕ). getD l 0 0) e in omega arith
+refused-not-standing (given-variants.Refused r j) (some n) e t = let z : _≡_ {A = ℕ} 2 1 = ap (λ (l : List ℕ). getD l 0 0) e in omega arith
+
+-- A refusal that is given is the verdict's: its number and its record.
+pub refused-given : (number k : ℕ) (w : Verdict) → verdictGiven (given-variants.Refused number k) ≡ verdictNumbers w → (reason : Reason) × (w ≡ refusal reason k) × (reasonNumber reason ≡ number)
+refused-given number k (accepted n) e = let z : _≡_ {A = ℕ} 2 1 = ap (λ (l : List ℕ). getD l 0 0) e in absurd (omega arith)
+refused-given number k open′ e = let z : _≡_ {A = ℕ} 2 0 = ap (λ (l : List ℕ). getD l 0 0) e in absurd (omega arith)
+refused-given number k (refusal reason j) e = (reason, ap (refusal reason) (ap (λ (l : List ℕ). getD l 2 0) (sym e)), ap (λ (l : List ℕ). getD l 1 0) (sym e))

@@ -1,5 +1,5 @@
 -- The answer as the program gives it, in seven numbers: document 01's verdict ("Verdict, tables and refusals"), coded 0, 1 and 2, and its counts.
-use mathlib.Core.Bool.{Bool, _&&_}
+use mathlib.Core.Bool.{Bool, true, false, _&&_}
 use mathlib.Core.Option.{Option, none, some}
 use mathlib.Core.List.{List, [], _∷_, _++_}
 use Prim.Native.Nat.{ℕ, zero, suc}
@@ -21,6 +21,12 @@ abbrev pub verdictGiven : Verdict → List ℕ
 verdictGiven verdict.Open = 0 ∷ 0 ∷ 0 ∷ []
 verdictGiven (verdict.Accepted n) = 1 ∷ n ∷ 0 ∷ []
 verdictGiven (verdict.Refused q k) = 2 ∷ q ∷ k ∷ []
+
+-- Whether all records stand: the verdict is no refusal.
+abbrev pub verdictStands : Verdict → Bool
+verdictStands verdict.Open = true
+verdictStands (verdict.Accepted n) = true
+verdictStands (verdict.Refused number k) = false
 
 abbrev pub answerGiven : Answer → List ℕ
 answerGiven a = verdictGiven (a .verdict) ++ (a .symbols ∷ a .rows ∷ a .clauses ∷ a .bindings ∷ [])

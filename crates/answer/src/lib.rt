@@ -11,7 +11,7 @@ use tables::cell;
 ghost use mathlib.Core.Path.{_≡_};
 ghost use lib.ListN.{length};
 ghost use Rattle.force.specs.Flags.{flagsInForce};
-ghost use Rattle.answer.specs.Given.{verdictGiven, answerGiven, untouchedNumbers, endedNumbers, standingNumbers, accepts, allSet};
+ghost use Rattle.answer.specs.Given.{verdictGiven, verdictStands, answerGiven, untouchedNumbers, endedNumbers, standingNumbers, accepts, allSet};
 
 // All records stand, with the counts after the last; or one is refused: its reason's number, its own, and the counts before it.
 pub enum Ended {
@@ -33,6 +33,17 @@ pub struct Answer {
     pub rows: u16,
     pub clauses: u16,
     pub bindings: u16,
+}
+
+// Whether all records of the file stand.
+pub fn stands(verdict: Verdict) -> bool
+    ensures { λ b. ⌜ b ≡ verdictStands verdict ⌝ }
+{
+    match verdict {
+        Verdict::Open => true,
+        Verdict::Accepted(n) => true,
+        Verdict::Refused(q, k) => false,
+    }
 }
 
 // Whether clause c has no literals and is in force.

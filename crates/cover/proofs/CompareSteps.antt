@@ -10,8 +10,9 @@ use Rattle.unification.proofs.Tests.{to-T, from-T}
 use Rattle.derivation.specs.Stored.{originCode, literalsCell}
 use Rattle.entry.specs.Progress.{tablesWith}
 use Rattle.checker.specs.Contract.{workspaceWith, CheckedWith}
+use Rattle.answer.specs.Given.{verdictStands}
 use Rattle.answer.specs.declared.Answer as answer
-use Rattle.cover.specs.Comparing.{numbersFrom, comparisonNumbers, comparisonFrom, comparison, verdictStands, isInput, AfterCheck, Compared}
+use Rattle.cover.specs.Comparing.{numbersFrom, comparisonNumbers, comparisonFrom, comparison, isInput, AfterCheck, Compared}
 use Rattle.cover.specs.Given.{coveringGiven}
 use Rattle.cover.specs.Contract.{CoversAnswered}
 use Rattle.matching.specs.Pairs.{Pairs, pairsMatched, tableFilled}

@@ -22,14 +22,12 @@ use Rattle.verdict.specs.Verdict.{Verdict, refusal, verdictNumbers, check, Answ
 use Rattle.verdict.proofs.Demanded.{not-refused, stands-check, tables-fail, long-enough}
 use Rattle.verdict.proofs.Inversions.{entry-some}
 use Rattle.verdict.proofs.Reading.{ending-stands, reading-records}
-use Rattle.answer.specs.Given.{verdictGiven}
+use Rattle.answer.specs.Given.{verdictGiven, verdictStands}
 use Rattle.answer.specs.declared.Answer as answer
-use Rattle.answer.specs.declared.Verdict as verdict
-use Rattle.answer.specs.declared.Verdict.the-variants as verdicts
-use Rattle.answer.proofs.GivenNumbers.{verdict-given, clauses-given}
+use Rattle.answer.proofs.GivenNumbers.{verdict-given, clauses-given, stands-not-refused, refused-not-standing}
 use Rattle.entry.specs.Progress.{ReadTo, tablesWith}
 use Rattle.cover.specs.Answering.{Answer, covers, coversNot, refusedWith, tenNumbers, Comparable, termIn, AnswerPromised}
-use Rattle.cover.specs.Comparing.{numbersFrom, comparisonNumbers, comparisonFrom, comparison, verdictStands, isInput, AfterCheck, CoveringOf}
+use Rattle.cover.specs.Comparing.{numbersFrom, comparisonNumbers, comparisonFrom, comparison, isInput, AfterCheck, CoveringOf}
 use Rattle.cover.specs.Given.{coveringGiven}
 use Rattle.cover.specs.Covering.{Substitution, Works, NotAfter}
 use Rattle.matching.specs.Pairs.{Pairs, pairsMatched, tableFilled}
@@ -105,18 +103,6 @@ module _ (N O : List ℕ) (term : ℕ → Term ℕ) (H : TermsOf N term) (c d le
   settled = settled-from (replicate 64 0) (replicate 4096 0) (replicate 4096 0) (replicate 8 0) (length-replicate {A = ℕ} 64 0) (length-replicate {A = ℕ} 4096 0) (zeros-read 4096) (length-replicate {A = ℕ} 4096 0) (length-replicate {A = ℕ} 8 0) (zeros-read 8)
 
 -- ── After a check ──
-
--- The verdict of a file that is not refused, and of one that is.
-stands-not-refused : (v : verdict.Verdict) (w : Verdict) → verdictGiven v ≡ verdictNumbers w → verdictStands v ≡ true → (q : Reason) (k : ℕ) → ¬ (w ≡ refusal q k)
-stands-not-refused verdicts.Open w e t q k f = let z : _≡_ {A = ℕ} 0 2 = ap (λ (l : List ℕ). getD l 0 0) (e ∙ ap verdictNumbers f) in omega arith
-stands-not-refused (verdicts.Accepted n) w e t q k f = let z : _≡_ {A = ℕ} 1 2 = ap (λ (l : List ℕ). getD l 0 0) (e ∙ ap verdictNumbers f) in omega arith
-stands-not-refused (verdicts.Refused r j) w e t q k f = true-not-false t refl
-
-refused-not-standing : (v : verdict.Verdict) (o : Option ℕ) → verdictGiven v ≡ verdictNumbers (standing o) → verdictStands v ≡ false → ⊥
-refused-not-standing verdicts.Open o e t = true-not-false refl t
-refused-not-standing (verdicts.Accepted n) o e t = true-not-false refl t
-refused-not-standing (verdicts.Refused r j) none e t = let z : _≡_ {A = ℕ} 2 0 = ap (λ (l : List ℕ). getD l 0 0) e in omega arith
-refused-not-standing (verdicts.Refused r j) (some n) e t = let z : _≡_ {A = ℕ} 2 1 = ap (λ (l : List ℕ). getD l 0 0) e in omega arith
 
 -- Nothing to compare: the answer is the refusal.
 nothing-due : (file : List ℕ) (before : Tables) (c d : ℕ) → ((S : State) (C D : List RowLiteral) → ¬ Comparable file before c d S C D) → AnswerPromised file before c d (refusedWith 15 0)

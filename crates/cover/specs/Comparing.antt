@@ -10,8 +10,6 @@ use Rattle.verdict.specs.Tables.{Tables}
 use Rattle.entry.specs.Progress.{tablesWith}
 use Rattle.checker.specs.Contract.{Workspace, workspaceWith, CheckedWith}
 use Rattle.answer.specs.declared.Answer as answer
-use Rattle.answer.specs.declared.Verdict as verdict
-use Rattle.answer.specs.declared.Verdict.the-variants as verdicts
 use Rattle.cover.specs.Answering.{Answer, tenNumbers, AnswerPromised}
 use Rattle.cover.specs.Given.{coveringGiven}
 use Rattle.matching.specs.Pairs.{pairsMatched, tableFilled}
@@ -38,11 +36,6 @@ unfoldable pub comparison : List ℕ → List ℕ → ℕ → ℕ → ℕ → �
 comparison N O c d lefts rights = comparisonFrom N O c d lefts rights (replicate 64 0) (replicate 4096 0) (replicate 4096 0) (replicate 8 0)
 
 -- The tests before it.
-abbrev pub verdictStands : verdict.Verdict → Bool
-verdictStands verdicts.Open = true
-verdictStands (verdicts.Accepted n) = true
-verdictStands (verdicts.Refused number k) = false
-
 abbrev pub isInput : List ℕ → ℕ → ℕ → Bool
 isInput O count c = ltb c count && eqb (originCode O c) 1
 

@@ -4,7 +4,7 @@ use super::answers::without_choice;
 use super::covering::Covering;
 use super::covering::Outcome;
 use answer::Answer;
-use answer::Verdict;
+use answer::stands;
 use clauses::literals_cell;
 use clauses::origin_code;
 use following::nodes::Nodes;
@@ -19,7 +19,7 @@ use matching::search::search;
 ghost use mathlib.Core.Path.{_≡_};
 ghost use Prim.Native.Nat.{_≤_};
 ghost use lib.ListN.{length};
-ghost use Rattle.cover.specs.Comparing.{comparisonNumbers, comparisonFrom, comparison, isInput, verdictStands, AfterCheck, Compared};
+ghost use Rattle.cover.specs.Comparing.{comparisonNumbers, comparisonFrom, comparison, isInput, AfterCheck, Compared};
 ghost use Rattle.cover.specs.Given.{coveringGiven};
 
 // The literals of c against those of d, so many on the left and on the right, in tables that are lent.
@@ -67,17 +67,6 @@ fn choose(nodes: &Nodes, origins: &Origins, c: u16, d: u16, lefts: u16, rights: 
         lefts,
         rights,
     )
-}
-
-// Whether all records of the file stand.
-fn stands(verdict: Verdict) -> bool
-    ensures { λ b. ⌜ b ≡ verdictStands verdict ⌝ }
-{
-    match verdict {
-        Verdict::Open => true,
-        Verdict::Accepted(n) => true,
-        Verdict::Refused(q, k) => false,
-    }
 }
 
 // Whether clause c is one of so many, and an input clause.

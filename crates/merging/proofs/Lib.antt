@@ -9,3 +9,4 @@ pub mod WindowsKept
 pub mod Searches
 pub mod MergedShown
 pub mod AnswerShown
+pub mod ShiftedFits

@@ -44,6 +44,11 @@ module _ (by : ℕ → ℕ) where
   raised-at i zero (x ∷ xs) l = ap (λ (a : ℕ). x + by a) (sym (add-zero i))
   raised-at i (suc j) (x ∷ xs) l = raised-at (suc i) j xs (omega arith) ∙ ap (λ (a : ℕ). getD xs j 0 + by a) (suc-add i j ∙ sym (add-suc i j))
 
+  pub raised-most : (i j : ℕ) (xs : List ℕ) → getD (raisedFrom by i xs) j 0 ≤ getD xs j 0 + by (i + j)
+  raised-most i j [] = omega arith
+  raised-most i zero (x ∷ xs) = let e : x + by i ≡ x + by (i + 0) = ap (λ (a : ℕ). x + by a) (sym (add-zero i)) in omega arith
+  raised-most i (suc j) (x ∷ xs) = let e : getD xs j 0 + by (suc i + j) ≡ getD xs j 0 + by (i + suc j) = ap (λ (a : ℕ). getD xs j 0 + by a) (suc-add i j ∙ sym (add-suc i j)) in let l = raised-most (suc i) j xs in omega arith
+
   pub raised-length : (i : ℕ) (xs : List ℕ) → length (raisedFrom by i xs) ≡ length xs
   raised-length i [] = refl
   raised-length i (x ∷ xs) = ap suc (raised-length (suc i) xs)
@@ -51,11 +56,14 @@ module _ (by : ℕ → ℕ) where
 -- ── A record, by its kind's number ──
 module _ (rows clauses : ℕ) (r : Record) where
   -- What a kind of number n raises.
-  abbrev raisedOf : ℕ → ℕ → ℕ
+  abbrev pub raisedOf : ℕ → ℕ → ℕ
   raisedOf n i =
       pick (eqb n 3) (pick (leb 1 i && leb i (r .count)) rows 0)
       (pick (eqb n 4) (pick (ltb i (r .count)) (2 * rows) 0)
       (pick (eqb n 8) (pick (eqb i 0) clauses 0) 0))
+
+  pub raised-by : (n : ℕ) → r .kind ≡ n → (i : ℕ) → raisedBy rows clauses r i ≡ raisedOf n i
+  raised-by n e i = ap (λ (m : ℕ). raisedOf m i) e
 
   fields-of : (n : ℕ) → r .kind ≡ n → shifted rows clauses r .fields ≡ raisedFrom (raisedOf n) 0 (r .fields)
   fields-of n e = ap (λ (m : ℕ). raisedFrom (raisedOf m) 0 (r .fields)) e

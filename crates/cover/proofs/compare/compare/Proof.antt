@@ -8,7 +8,7 @@ use Rattle.cover.proofs.compare.compare.Lts as lts
 use Rattle.clauses.proofs.literals_cell.Reads as literals-cell-reads
 use Rattle.cover.proofs.compare.choose.Reads as choose-reads
 use Rattle.cover.proofs.compare.is_input.Reads as is-input-reads
-use Rattle.cover.proofs.compare.stands.Reads as stands-reads
+use Rattle.answer.proofs.stands.Reads as stands-reads
 use Rattle.cover.proofs.answers.without_choice.Reads as without-choice-reads
 
 stands-requires : tie.Need-stands-requires

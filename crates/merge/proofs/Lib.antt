@@ -1,0 +1,2 @@
+pub mod FileJoined
+pub mod Answered

@@ -1,0 +1,147 @@
+// Two proof files merged into one: an operator's rulebook and a trip's facts. What that is, and what is shown of it, the crate merging has. In specs/,
+// `Given` and `Contract` have what this crate promises; `Going` says how the parts of this program go about it.
+mod answers;
+mod joining;
+
+use answer::Answer;
+use answer::stands;
+use answers::refusal;
+use checker::check_with;
+use following::nodes::Nodes;
+use following::nodes::Origins;
+use following::values::ValueCells;
+use joining::join;
+ghost use Prim.Native.Nat.{_≤_};
+ghost use lib.ListN.{length};
+ghost use Rattle.entry.specs.Progress.{tablesWith};
+ghost use Rattle.merge.specs.Contract.{MergeAnswered};
+ghost use Rattle.merge.specs.Going.{FirstStands, SecondAnswered};
+
+// Written, with the length of the file; or refused: a number, the file that it is about, 0 for neither, and a record.
+pub enum MergeOutcome {
+    Written(u32),
+    Refused(u8, u8, u16),
+}
+
+// What comes after the first file's check: the second's, and where that stands too, the merged file.
+fn merge_second(
+    first: &[u8],
+    second: &[u8],
+    mine: Answer,
+    symbols: &mut [u16],
+    rows: &mut [u16],
+    clauses: &mut [u16],
+    bindings: &mut [u16],
+    nodes: &mut Nodes,
+    origins: &mut Origins,
+    values: &mut ValueCells,
+    output: &mut [u8],
+) -> MergeOutcome
+    requires { ⌜ FirstStands (now first) mine (now output) ⌝ }
+    ensures { λ m. ⌜ SecondAnswered (now (first .entry)) (now (second .entry)) (tablesWith (now (symbols .entry)) (now (rows .entry)) (now (clauses .entry)) (now (bindings .entry))) (now (output .entry)) m (tablesWith (now (symbols .exit)) (now (rows .exit)) (now (clauses .exit)) (now (bindings .exit))) (now (output .exit)) ⌝ }
+{
+    let theirs = check_with(
+        0,
+        second,
+        symbols,
+        rows,
+        clauses,
+        bindings,
+        nodes,
+        origins,
+        values,
+    );
+    let v = theirs.verdict;
+    if !stands(v) {
+        return refusal(v, 2);
+    }
+    join(
+        first,
+        second,
+        mine.symbols,
+        mine.rows,
+        mine.clauses,
+        theirs.symbols,
+        output,
+    )
+}
+
+// The merge with a workspace for both checks.
+fn merge_with(
+    first: &[u8],
+    second: &[u8],
+    symbols: &mut [u16],
+    rows: &mut [u16],
+    clauses: &mut [u16],
+    bindings: &mut [u16],
+    nodes: &mut Nodes,
+    origins: &mut Origins,
+    values: &mut ValueCells,
+    output: &mut [u8],
+) -> MergeOutcome
+    requires { ⌜ 65536 ≤ length (now output) ⌝ }
+    ensures { λ m. ⌜ MergeAnswered (now (first .entry)) (now (second .entry)) (tablesWith (now (symbols .entry)) (now (rows .entry)) (now (clauses .entry)) (now (bindings .entry))) (now (output .entry)) m (tablesWith (now (symbols .exit)) (now (rows .exit)) (now (clauses .exit)) (now (bindings .exit))) (now (output .exit)) ⌝ }
+{
+    let mine = check_with(
+        0,
+        first,
+        symbols,
+        rows,
+        clauses,
+        bindings,
+        nodes,
+        origins,
+        values,
+    );
+    let v = mine.verdict;
+    if !stands(v) {
+        return refusal(v, 1);
+    }
+    merge_second(
+        first,
+        second,
+        mine,
+        symbols,
+        rows,
+        clauses,
+        bindings,
+        nodes,
+        origins,
+        values,
+        output,
+    )
+}
+
+// Merges two files: all records of the first, then those of the second with numbers shifted. The output is written only if the merge goes through, and not
+// past the merged file's end. Each file is checked first, and the tables are left as the last check leaves them; whether a file stands does not depend on a
+// day, so any day does.
+pub fn merge(
+    first: &[u8],
+    second: &[u8],
+    symbols: &mut [u16],
+    rows: &mut [u16],
+    clauses: &mut [u16],
+    bindings: &mut [u16],
+    output: &mut [u8],
+) -> MergeOutcome
+    ensures { λ m. ⌜ MergeAnswered (now (first .entry)) (now (second .entry)) (tablesWith (now (symbols .entry)) (now (rows .entry)) (now (clauses .entry)) (now (bindings .entry))) (now (output .entry)) m (tablesWith (now (symbols .exit)) (now (rows .exit)) (now (clauses .exit)) (now (bindings .exit))) (now (output .exit)) ⌝ }
+{
+    if output.len() < 65536 {
+        return MergeOutcome::Refused(2, 0, 0);
+    }
+    let mut nodes = [0u16; 32768];
+    let mut origins = [0u16; 32768];
+    let mut values = [0u16; 524416];
+    merge_with(
+        first,
+        second,
+        symbols,
+        rows,
+        clauses,
+        bindings,
+        &mut nodes,
+        &mut origins,
+        &mut values,
+        output,
+    )
+}
