@@ -11,8 +11,8 @@ use yestrwyn::{
     check_here, merge, merge_here, merge_into, Cells, Merged, Tables, Verdict, LENGTHS, MERGED_CELLS,
 };
 use yestrwyn_comparison::merges::{pair_of, MergeLengths, Merges};
+use yestrwyn_vectors::examples::deep;
 use yestrwyn_vectors::examples::merges::{examples, Merge};
-use yestrwyn_vectors::examples::{deep, heavy};
 use yestrwyn_vectors::merges::{damaged_pair, pairs, random_pair};
 use yestrwyn_vectors::stored::groups;
 
@@ -97,13 +97,13 @@ fn stored_vectors() {
     });
 }
 
-/// Files whose check takes long or much stack, on either side.
+/// Files whose check takes much stack, on either side.
 #[test]
-fn deep_and_heavy_files() {
+fn deep_files() {
     with_stack(|| {
         let mut both = Both::default();
         let trip = random_pair(3).second;
-        for example in deep::examples().into_iter().chain(heavy::examples().into_iter().take(3)) {
+        for example in deep::examples() {
             let name = &example.name;
             both.same(&Merge::new(name, example.file.clone(), trip.clone()), MergeLengths::longer(0));
             both.same(&Merge::new(name, trip.clone(), example.file), MergeLengths::longer(2));
