@@ -13,6 +13,10 @@ use yestrwyn::{Covering, MergeRefusal, Outcome};
 mod check;
 
 #[allow(dead_code)]
+#[path = "../../yestrwyn/examples/merge.rs"]
+mod merge;
+
+#[allow(dead_code)]
 #[path = "../../yestrwyn/examples/service.rs"]
 mod service;
 
@@ -231,9 +235,12 @@ fn failed_reads_and_writes_of_the_merge() {
 
 #[test]
 fn merge_from_rust() {
-    let [rulebook, trip, stored] = ["rulebook", "trip", "merged"]
-        .map(|name| fs::read(path(&format!("examples/{name}.proof"))).expect("stored"));
-    assert_eq!(yestrwyn::merge(&rulebook, &trip).expect("a thread"), Ok(stored));
+    let names = ["rulebook", "trip", "merged", "declined"];
+    let [rulebook, trip, stored, declined] =
+        names.map(|name| fs::read(path(&format!("examples/{name}.proof"))).expect("a stored example"));
+    assert_eq!(merge::merged(&rulebook, &trip).expect("a merged file"), stored);
+    let refusal = merge::merged(&rulebook, &declined).expect_err("a refusal");
+    assert_eq!(refusal.to_string(), "file 2: refused 17 at 30");
 }
 
 /// Words that are no day, none, and more than one.
@@ -335,6 +342,7 @@ fn the_guide_quotes_the_programs() {
         ("rust", "yestrwyn/examples/service.rs"),
         ("c", "comparison/snippets/readout.c"),
         ("c", "comparison/snippets/merge.c"),
+        ("rust", "yestrwyn/examples/merge.rs"),
     ];
     for (language, program) in quoted {
         let block = format!("```{language}\n{}```\n", text(&format!("rust/{program}")));
