@@ -1,6 +1,6 @@
 #!/usr/bin/env bash
-# The proved check, which clause covers which, and the program proofread against the second implementation in one run, and the deepest files
-# under a stack of 4 MiB.
+# The proved check, which clause covers which, the merge and the program proofread against the second implementation in one run, and the
+# deepest files under a stack of 4 MiB.
 set -eu
 cd "$(dirname "$0")/.."
 rt staticlib checker_c

@@ -1,10 +1,13 @@
-"""What the Python writer writes is, byte for byte, a stored example, and the readouts stored beside them say accepted."""
+"""What the Python writer writes is, byte for byte, a stored example, and the readouts stored beside them say accepted; and files
+merged in Python, by the words of the guide, are the stored ones."""
 
+import struct
 import sys
 import unittest
 from pathlib import Path
 
-EXAMPLES = Path(__file__).resolve().parent.parent / "examples"
+ROOT = Path(__file__).resolve().parent.parent
+EXAMPLES = ROOT / "examples"
 sys.path.insert(0, str(EXAMPLES))
 
 from writer import ProofFile, day, neg, permit, pos  # noqa: E402
@@ -62,6 +65,70 @@ def season():
     return file.bytes
 
 
+def rulebook():
+    """The rulebook, whose curfew has days."""
+    file = ProofFile()
+    arrives, closed, night, lakeside, slot = map(file.symbol, (2, 2, 1, 0, 2))
+    app, x, y = file.app, file.var(0), file.var(1)
+    file.clause(neg(app(arrives, x, y)), neg(app(closed, x, y)))
+    lakeside = app(lakeside)
+    curfew = file.clause(neg(app(night, x)), pos(app(closed, lakeside, x)))
+    file.in_force(curfew, day(2027, 5, 1), day(2027, 10, 31))
+    file.clause(neg(app(arrives, x, y)), pos(app(slot, x, y)))
+    return file.bytes
+
+
+def records(file):
+    return [file[start : start + 16] for start in range(0, len(file), 16)]
+
+
+def merge(first, second):
+    """Two files without steps in one, as docs/FORMAT.md says it. Nothing is checked."""
+
+    def count(*kinds):
+        return sum(record[0] in kinds for record in records(first))
+
+    symbols, rows, clauses = count(1), count(2, 3), count(4)
+    merged = first
+    for record in records(second):
+        kind, size, *fields = struct.unpack("<BB7H", record)
+        if kind == 1:
+            symbols -= 1
+            if symbols >= 0:
+                continue
+        elif kind == 3:
+            fields[1 : 1 + size] = [row + rows for row in fields[1 : 1 + size]]
+        elif kind == 4:
+            fields[:size] = [literal + 2 * rows for literal in fields[:size]]
+        elif kind == 8:
+            fields[0] += clauses
+        merged += struct.pack("<BB7H", kind, size, *fields)
+    return merged
+
+
+def fnv(data):
+    value = 0xCBF29CE484222325
+    for byte in data:
+        value = (value ^ byte) * 0x100000001B3 % 2**64
+    return f"{value:016x}"
+
+
+def stored_merges():
+    """Each pair of files that is stored in full: its name, the two files, the answer, and length and hash of the merged file."""
+    for part in (ROOT / "rust" / "vectors" / "merges.txt").read_text().split("merge ")[1:]:
+        name, *lines = part.splitlines()
+        found, files = {}, {}
+        for line in lines:
+            word, *rest = line.split()
+            if word == "|":
+                files[last] += bytes.fromhex(rest[0])
+            else:
+                found[word], files[word], last = rest, b"", word
+        if all(len(files[which]) == int(found[which][0]) for which in ("first", "second")):
+            answer = [int(number) for number in found["answer"]]
+            yield name, files["first"], files["second"], answer, found.get("merged")
+
+
 class Writer(unittest.TestCase):
     def is_stored(self, name, written, readout=None):
         self.assertEqual(written, (EXAMPLES / f"{name}.proof").read_bytes())
@@ -81,6 +148,9 @@ class Writer(unittest.TestCase):
         self.is_stored("season", season(), "season-21000")
         self.assertTrue((EXAMPLES / "season.txt").read_text().startswith("open\n"))
 
+    def test_rulebook(self):
+        self.assertEqual(rulebook(), (EXAMPLES / "rulebook.proof").read_bytes())
+
     def test_days_take_no_number(self):
         file = ProofFile()
         first = file.clause()
@@ -92,6 +162,28 @@ class Writer(unittest.TestCase):
         file = ProofFile()
         self.assertEqual([file.var(0), file.var(1), file.var(0)], [0, 1, 0])
         self.assertEqual(len(file.bytes), 32)
+
+
+class Merging(unittest.TestCase):
+    def test_rulebook_and_trip(self):
+        first, second, merged, declined = (
+            (EXAMPLES / f"{name}.proof").read_bytes() for name in ("rulebook", "trip", "merged", "declined")
+        )
+        self.assertEqual(merge(first, second), merged)
+        # The planner's steps come after it, and nothing else does.
+        self.assertTrue(declined.startswith(merged))
+        self.assertEqual({record[0] for record in records(declined[len(merged) :])}, {5})
+        self.assertTrue((EXAMPLES / "declined-21000.txt").read_text().startswith("accepted "))
+
+    def test_stored_merges(self):
+        written = 0
+        for name, first, second, answer, merged in stored_merges():
+            if answer[0] == 0:
+                file = merge(first, second)
+                self.assertEqual([str(len(file)), fnv(file)], merged, name)
+                self.assertEqual(answer, [0, len(file), 0, 0], name)
+                written += 1
+        self.assertGreater(written, 40)
 
 
 if __name__ == "__main__":

@@ -1,9 +1,11 @@
-//! Why a record is not written.
+//! Why a record is not written, or a file not read.
 
 use std::error::Error;
 use std::fmt;
 
-use yestrwyn_types::limits::{ARITY, INPUT_LITERALS, RECORDS, RIGHT_LITERALS, VARIABLES};
+use yestrwyn_types::limits::{
+    ARITY, FILE_BYTES, INPUT_LITERALS, RECORDS, RECORD_BYTES, RIGHT_LITERALS, VARIABLES,
+};
 use yestrwyn_types::Reason;
 
 /// Why a record is not written. The file stays as it was.
@@ -29,6 +31,27 @@ pub enum BuildError {
     VariableLiteral,
     /// A symbol, row or clause that this builder has not made.
     Foreign,
+    /// The file has no symbol of this number.
+    NoSymbol {
+        /// The number that was asked for; the first symbol has number 0.
+        number: u16,
+        /// How many symbols the file has.
+        symbols: usize,
+    },
+    /// The file has no row of this number.
+    NoRow {
+        /// The number that was asked for; the first row has number 0.
+        number: u16,
+        /// How many rows the file has.
+        rows: usize,
+    },
+    /// The file has no clause of this number.
+    NoClause {
+        /// The number that was asked for; the first clause has number 0.
+        number: u16,
+        /// How many clauses the file has.
+        clauses: usize,
+    },
     /// The clause has no literal of this number.
     NoLiteral {
         /// The number that was asked for; the first literal has number 1.
@@ -65,6 +88,15 @@ impl fmt::Display for BuildError {
             BuildError::Literals(count) => write!(out, "{count} literals, over {INPUT_LITERALS}"),
             BuildError::VariableLiteral => write!(out, "the atom of a literal is a variable"),
             BuildError::Foreign => write!(out, "a symbol, row or clause of another file"),
+            BuildError::NoSymbol { number, symbols } => {
+                write!(out, "symbol {number} of a file that has {symbols}, numbered from 0")
+            }
+            BuildError::NoRow { number, rows } => {
+                write!(out, "row {number} of a file that has {rows}, numbered from 0")
+            }
+            BuildError::NoClause { number, clauses } => {
+                write!(out, "clause {number} of a file that has {clauses}, numbered from 0")
+            }
             BuildError::NoLiteral { number, literals } => {
                 write!(out, "literal {number} of a clause that has {literals}, numbered from 1")
             }
@@ -88,6 +120,43 @@ impl Error for BuildError {
         match self {
             BuildError::Refused(reason) => Some(reason),
             _ => None,
+        }
+    }
+}
+
+/// Why a file is not read.
+#[non_exhaustive]
+#[derive(Clone, Copy, PartialEq, Eq, Debug)]
+pub enum ReadError {
+    /// So many bytes: over 65,536, or not a multiple of 16.
+    Length(usize),
+    /// A record that the check would refuse.
+    Record {
+        /// Its number in the file; the first record has number 0.
+        record: u16,
+        /// The reason that the check would give.
+        reason: Reason,
+    },
+}
+
+impl fmt::Display for ReadError {
+    fn fmt(&self, out: &mut fmt::Formatter<'_>) -> fmt::Result {
+        match self {
+            ReadError::Length(bytes) => {
+                write!(out, "a file of {bytes} bytes, over {FILE_BYTES} or not a multiple of {RECORD_BYTES}")
+            }
+            ReadError::Record { record, reason } => {
+                write!(out, "record {record} is refused with {}: {reason}", reason.number())
+            }
+        }
+    }
+}
+
+impl Error for ReadError {
+    fn source(&self) -> Option<&(dyn Error + 'static)> {
+        match self {
+            ReadError::Length(_) => None,
+            ReadError::Record { reason, .. } => Some(reason),
         }
     }
 }

@@ -1,5 +1,7 @@
 //! A file, written record by record.
 
+mod existing;
+
 use std::collections::HashMap;
 use std::ops::RangeInclusive;
 
@@ -9,13 +11,18 @@ use yestrwyn_types::record::{kind, Record};
 use crate::error::BuildError;
 use crate::handles::{Clause, Literal, Row, Signed, Symbol};
 
+pub(crate) use existing::{each_record, reason, well_formed, Step};
+
 /// A file under construction. What it tests of each record are ranges, arities, and that everything
 /// named is there; whether a step stands it does not test.
 #[derive(Clone, Default, Debug)]
 pub struct FileBuilder {
     bytes: Vec<u8>,
     arities: Vec<u8>,
+    /// The records of all rows, each with the earliest equal rows for its arguments.
     rows: Vec<Record>,
+    /// For each row the earliest that equals it. Only a file that was read has rows that equal earlier ones.
+    earliest: Vec<Row>,
     shared: HashMap<Record, Row>,
     clauses: Vec<Written>,
 }
@@ -213,9 +220,15 @@ impl FileBuilder {
             return Ok(row);
         }
         self.write(record)?;
+        Ok(self.written_row(record))
+    }
+
+    /// The row of a record that was written: itself, or the earliest that equals it. Its arguments are earliest rows.
+    fn written_row(&mut self, record: Record) -> Row {
         let row = Row(next(&mut self.rows, record));
-        self.shared.insert(record, row);
-        Ok(row)
+        let earliest = *self.shared.entry(record).or_insert(row);
+        self.earliest.push(earliest);
+        earliest
     }
 
     /// Writes a record, if there is room for it.

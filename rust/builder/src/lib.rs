@@ -37,6 +37,9 @@
 //! [`RunningBuilder`] does the same and runs each step as it is added: it returns the literals of the
 //! new clause, or why the step is refused.
 //!
+//! Both can go on from a file that is there already ([`FileBuilder::from_bytes`], [`RunningBuilder::from_bytes`]): a planner
+//! that is handed a rulebook and a trip merged into one file appends its steps to that.
+//!
 //! Neither is proved, and neither need be trusted: whether a file is a proof is the check's to say.
 
 #![forbid(unsafe_code)]
@@ -54,7 +57,7 @@ mod running;
 mod standing;
 mod unification;
 
-pub use error::BuildError;
+pub use error::{BuildError, ReadError};
 pub use file::FileBuilder;
 pub use handles::{neg, pos, Clause, Literal, Row, Signed, Symbol};
 pub use running::RunningBuilder;

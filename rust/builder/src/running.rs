@@ -1,5 +1,7 @@
 //! A builder that runs each step as it is added.
 
+mod existing;
+
 use std::collections::HashMap;
 use std::ops::RangeInclusive;
 
@@ -86,9 +88,7 @@ impl RunningBuilder {
     /// An input clause of up to seven literals.
     pub fn clause(&mut self, literals: &[Signed]) -> Result<Clause, BuildError> {
         let clause = self.file.clause(literals)?;
-        let first = |row: Row| At { row: row.number(), index: 1 };
-        let occurrence = |signed: &Signed| Occurrence { positive: signed.positive, atom: first(signed.atom) };
-        self.clauses.push(Derivation::input(literals.iter().map(occurrence).collect()));
+        self.written_input(literals);
         Ok(clause)
     }
 
@@ -153,6 +153,13 @@ impl RunningBuilder {
         let Expression { clause, at } = standing.atom;
         let term = Reading::new(&self.file, self.environment(clause), clause).text(at);
         format!("{}{term}", if standing.positive { '+' } else { '-' })
+    }
+
+    /// Puts up the input clause of a record that was written.
+    fn written_input(&mut self, literals: &[Signed]) {
+        let first = |row: Row| At { row: row.number(), index: 1 };
+        let occurrence = |signed: &Signed| Occurrence { positive: signed.positive, atom: first(signed.atom) };
+        self.clauses.push(Derivation::input(literals.iter().map(occurrence).collect()));
     }
 
     /// The bindings in a clause.

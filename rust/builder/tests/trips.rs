@@ -9,21 +9,27 @@ use yestrwyn_types::record::{kind, read};
 mod covers;
 #[path = "../examples/trips/curfew.rs"]
 mod curfew;
+#[path = "../examples/trips/declined.rs"]
+mod declined;
 #[path = "../examples/trips/duty.rs"]
 mod duty;
 #[path = "../examples/trips/files.rs"]
 mod files;
 #[path = "../examples/trips/permit.rs"]
 mod permit;
+#[path = "../examples/trips/rulebook.rs"]
+mod rulebook;
 #[path = "../examples/trips/season.rs"]
 mod season;
 #[path = "../examples/trips/sheets.rs"]
 mod sheets;
+#[path = "../examples/trips/trip.rs"]
+mod trip;
 #[path = "../examples/trips/two_steps.rs"]
 mod two_steps;
 
 /// The stored files by name.
-fn files() -> Vec<(&'static str, Vec<u8>)> {
+fn files() -> Vec<files::Named> {
     files::files().expect("every file is built")
 }
 
@@ -41,20 +47,76 @@ fn stored_files_are_what_the_example_writes() {
     }
 }
 
-#[test]
-fn the_page_says_on_which_days_the_season_is() {
-    let file = season::file().expect("the file is built");
+/// The verdicts on some days that a section of the page tells are those of the check.
+fn the_page_tells_the_days(name: &str, file: &[u8], days: &[u16]) {
     let page = text("examples/README.md");
-    let told: Vec<(String, String)> = cells(section(&page, "season"))
+    let told: Vec<(String, String)> = cells(section(&page, name))
         .filter_map(|(day, verdict)| Some((day.replace(',', "").parse::<u16>().ok()?, verdict)))
         .map(|(day, verdict)| (day.to_string(), verdict.to_string()))
         .collect();
+    let verdict = |day: &u16| format!("`{}`", yestrwyn_second::check(*day, file).verdict);
+    let right: Vec<(String, String)> = days.iter().map(|day| (day.to_string(), verdict(day))).collect();
+    assert_eq!(told, right, "{name}");
+}
+
+#[test]
+fn the_page_says_on_which_days_the_season_is() {
+    let file = season::file().expect("the file is built");
     let days = [0, 20_938, 20_939, 20_969, 20_970, 21_000, 21_091, 21_092, 21_122, 21_123];
-    let right = days.map(|day: u16| {
-        let verdict = yestrwyn_second::check(day, &file).verdict;
-        (day.to_string(), format!("`{verdict}`"))
-    });
-    assert_eq!(told, right);
+    the_page_tells_the_days("season", &file, &days);
+}
+
+#[test]
+fn the_quote_is_declined_on_its_day() {
+    let (merged, file) = (declined::merged().expect("it is merged"), declined::file().expect("it is built"));
+    the_page_tells_the_days("declined", &file, &[0, 20_939, 20_999, 21_000, 21_001]);
+    // The merged file comes first, and what is added are steps alone.
+    let added = file.strip_prefix(merged.as_slice()).expect("it begins with the merged file");
+    assert!(added.chunks(16).all(|record| record[0] == kind::RESOLVE) && added.len() == 5 * 16);
+}
+
+#[test]
+fn the_page_says_what_merging_gives() {
+    let (page, files) = (text("examples/README.md"), files());
+    let file = |name: &str| &files.iter().find(|(other, _)| *other == name).expect(name).1;
+    let merged = section(&page, "merged");
+    let told: Vec<(&str, &str)> = cells(merged)
+        .filter_map(|(two, numbers)| Some((two.split_once(" and ")?, numbers)))
+        .filter(|((one, _), _)| files.iter().any(|(name, _)| name == one))
+        .map(|((one, other), numbers)| {
+            let mut output = vec![0; 65_536];
+            let mut cells = yestrwyn_types::Cells::new();
+            let answer = yestrwyn_second::merge_into(file(one), file(other), &mut cells.lend(), &mut output);
+            let right = answer.numbers().map(|number| number.to_string()).join(" ");
+            assert_eq!(numbers, format!("`{right}`"), "{one} and {other}");
+            (one, other)
+        })
+        .collect();
+    assert_eq!(told.len(), 7, "{told:?}");
+}
+
+#[test]
+fn the_page_shows_what_is_raised() {
+    let page = text("examples/README.md");
+    let [trip, merged] =
+        ["trip", "merged"].map(|name| hexadecimal(&stored(&format!("examples/{name}.proof"))));
+    let rows: Vec<Vec<&str>> = section(&page, "merged")
+        .lines()
+        .map(|line| line.trim_matches('|').split(" | ").map(str::trim).collect::<Vec<_>>())
+        .filter(|row| {
+            row.len() == 3 && row[1].starts_with("`0") && row[1].len() == hexadecimal(&[0; 16])[0].len()
+        })
+        .collect();
+    // Their records in the trip, and in the merged file where they are written there.
+    let places = [(4, None), (5, Some(17)), (7, Some(19)), (11, Some(23)), (12, Some(24)), (13, Some(25))];
+    assert_eq!(rows.len(), places.len());
+    for (row, (record, moved)) in rows.iter().zip(places) {
+        assert_eq!(row[1], trip[record]);
+        assert_eq!(
+            row[2],
+            moved.map_or("left out: the rulebook has it", |moved: usize| merged[moved].as_str())
+        );
+    }
 }
 
 #[test]
@@ -70,6 +132,10 @@ fn verdicts() {
             "accepted 15",
             "accepted 9",
             "accepted 3",
+            "open",
+            "open",
+            "open",
+            "open",
             "open",
             "open",
             "refused 8 at 22",

@@ -35,8 +35,8 @@ impl Lengths {
 pub struct Difference {
     pub part: &'static str,
     pub cell: usize,
-    pub proved: u16,
-    pub second: u16,
+    pub proved: u32,
+    pub second: u32,
 }
 
 impl fmt::Display for Difference {
@@ -53,7 +53,7 @@ pub struct Lent {
 }
 
 impl Lent {
-    /// The tables, as they are lent.
+    /// The tables, as they are lent, and the cells of the answer.
     pub(crate) fn tables(&mut self) -> (Tables<'_>, &mut Vec<u16>) {
         let [symbols, rows, clauses, bindings] = &mut self.tables;
         (Tables { symbols, rows, clauses, bindings }, &mut self.answer)
@@ -128,13 +128,17 @@ fn run_second(day: u16, file: &[u8], lent: &mut Lent) {
     cells.copy_from_slice(&yestrwyn_second::check_into(day, file, &mut tables).numbers());
 }
 
-/// Where two parts differ.
-pub(crate) fn differ(part: &'static str, proved: &[u16], second: &[u16]) -> Result<(), Difference> {
+/// Where two parts differ: bytes, cells or numbers.
+pub(crate) fn differ<T: Copy + PartialEq + Into<u32>>(
+    part: &'static str,
+    proved: &[T],
+    second: &[T],
+) -> Result<(), Difference> {
     if proved == second {
         return Ok(());
     }
     let cell = proved.iter().zip(second).position(|(one, other)| one != other).unwrap_or(0);
-    Err(Difference { part, cell, proved: proved[cell], second: second[cell] })
+    Err(Difference { part, cell, proved: proved[cell].into(), second: second[cell].into() })
 }
 
 /// The day and the file of a number within a run: a file with windows on a day near their ends, or any other file, at

@@ -1,8 +1,10 @@
-//! Files that are measured beside the heavy ones: of some thousand records, and ordinary ones of some dozens.
+//! Files that are measured beside the heavy ones: of some thousand records, ordinary ones of some dozens, and pairs that are
+//! merged.
 
 use std::fs;
 use std::path::Path;
 
+use yestrwyn_vectors::examples::merges::{self, Merge};
 use yestrwyn_vectors::examples::{cases, deep, edges, repeats, Example};
 use yestrwyn_vectors::sketch::{app, neg, pos, var, Sketch};
 
@@ -26,14 +28,49 @@ pub fn measured() -> Vec<Example> {
 
 /// The stored examples of proofs that a planner writes, and case A.
 pub fn ordinary() -> Vec<Example> {
-    let folder = Path::new(env!("CARGO_MANIFEST_DIR")).join("../../examples");
-    let stored = |name: &str| {
-        let file = fs::read(folder.join(name)).unwrap_or_else(|error| panic!("{name}: {error}"));
-        Example::new(&format!("`{name}`"), file)
-    };
-    let mut files = ["curfew.proof", "duty.proof", "permit.proof", "season.proof"].map(stored).to_vec();
+    let example = |name: &str| Example::new(&format!("`{name}`"), stored(name));
+    let mut files = ["curfew.proof", "duty.proof", "permit.proof", "season.proof"].map(example).to_vec();
     files.push(Example::new("case A", cases::case_a()));
     files
+}
+
+/// A stored example.
+fn stored(name: &str) -> Vec<u8> {
+    let path = Path::new(env!("CARGO_MANIFEST_DIR")).join("../../examples").join(name);
+    fs::read(path).unwrap_or_else(|error| panic!("{name}: {error}"))
+}
+
+/// Pairs that are merged: the stored examples, a long rulebook with them, and merged files as long as one can be.
+pub fn merged() -> Vec<Merge> {
+    let [rulebook, trip] = ["rulebook.proof", "trip.proof"].map(stored);
+    let mut pairs = vec![
+        Merge::new("`rulebook.proof` and `trip.proof`", rulebook.clone(), trip.clone()),
+        Merge::new("a rulebook of 4,051 records and `trip.proof`", long_rulebook(&rulebook), trip.clone()),
+        Merge::new("`trip.proof` and a rulebook of 4,051 records", trip, long_rulebook(&rulebook)),
+    ];
+    let named = [
+        ("4096-records", "rows alone, 2,048 records twice"),
+        ("4096-symbols-twice", "symbols alone, 4,096 records twice"),
+        ("largest-row-number", "4,090 rows and a clause on the last"),
+        ("18-file-2-before-19", "3,012 and 3,005 records, refused with 18"),
+    ];
+    pairs.extend(named.map(|(name, said)| {
+        let found = merges::examples().into_iter().find(|pair| pair.name == name);
+        let Merge { first, second, .. } = found.unwrap_or_else(|| panic!("no pair {name}"));
+        Merge::new(said, first, second)
+    }));
+    pairs
+}
+
+/// The rulebook of 17 records and 2,017 rules more: each of a row of its own and a clause of three literals.
+fn long_rulebook(rulebook: &[u8]) -> Vec<u8> {
+    let mut file = Sketch::new();
+    for row in 0..2017 {
+        // A closed airfield, by the rulebook's row 4 or one of these, and night by its row 5.
+        let row = file.fields(3, 2, &[1, if row == 0 { 4 } else { 7 + row }, 4]) + 8;
+        file.fields(4, 3, &[2 * row + 1, 2 * 5, 2 * row]);
+    }
+    [rulebook, &file.finish()].concat()
 }
 
 /// A count upward: each step resolves the rule with the last result, as right parent.

@@ -1,10 +1,11 @@
-//! The proved check, plain and for services, the proved readout and which clause covers which, compared with the
-//! second implementation: every answer, every cell and every byte; and the time that they take.
+//! The proved check, plain and for services, the proved readout, which clause covers which and the proved merge, compared
+//! with the second implementation: every answer, every cell and every byte; and the time that they take.
 
 pub mod clock;
 pub mod compare;
 pub mod covers;
 pub mod files;
+pub mod merges;
 pub mod pieces;
 pub mod questions;
 pub mod rounds;

@@ -3,12 +3,15 @@
 use std::mem::size_of;
 
 use yestrwyn::exported::{check_numbers, check_numbers_with, Arrays, Nodes, Origins, Values};
-use yestrwyn::exported::{covers_numbers, readout_numbers, PROGRESS_CELLS};
+use yestrwyn::exported::{covers_numbers, merge_numbers, readout_numbers, PROGRESS_CELLS};
 use yestrwyn::{Tables, LENGTHS};
 use yestrwyn_comparison::compare::day_and_file_of;
 use yestrwyn_comparison::covers::Clauses;
-use yestrwyn_types::{Cells, ANSWER_CELLS, COVERING_CELLS};
-use yestrwyn_vectors::examples::{cases, days, edges, published, refusals};
+use yestrwyn_comparison::merges::pair_of;
+use yestrwyn_types::limits::FILE_BYTES;
+use yestrwyn_types::{Cells, ANSWER_CELLS, COVERING_CELLS, MERGED_CELLS};
+use yestrwyn_vectors::examples::merges::Merge;
+use yestrwyn_vectors::examples::{cases, days, edges, merges, published, refusals};
 use yestrwyn_vectors::random::SplitMix64;
 
 /// Cells before, between and after the parts.
@@ -192,4 +195,45 @@ fn covers_stays_inside_what_it_was_lent() {
         }
     };
     yestrwyn::with_stack(compare).expect("a thread");
+}
+
+/// Merges a pair with everything lent from the middle of larger buffers.
+fn merge_in_the_middle(pair: &Merge) {
+    let [first, second] = [&pair.first, &pair.second].map(|file| in_the_middle(file));
+    let mut buffer = buffer();
+    let [symbols, rows, clauses, bindings, _] = parts(&mut buffer);
+    let mut tables = Tables { symbols, rows, clauses, bindings };
+    let (mut output, mut answer) = (vec![0xa5; 32 + FILE_BYTES + 32], [7; MERGED_CELLS + 4]);
+    let middle = 2..2 + MERGED_CELLS;
+    merge_numbers(
+        &first[64..64 + pair.first.len()],
+        &second[64..64 + pair.second.len()],
+        &mut tables,
+        &mut output[32..32 + FILE_BYTES],
+        &mut answer[middle.clone()],
+    );
+    assert!(margins_hold(&buffer), "{}", pair.name);
+    let mut theirs = vec![0xa5; FILE_BYTES];
+    let right = yestrwyn_second::merge_into(
+        &pair.first,
+        &pair.second,
+        &mut before(&mut Cells::new()).lend(),
+        &mut theirs,
+    );
+    assert_eq!(answer[middle], right.numbers(), "{}", pair.name);
+    assert_eq!((&answer[..2], &answer[2 + MERGED_CELLS..]), (&[7; 2][..], &[7; 2][..]));
+    let (output, after) = output.split_at(32 + FILE_BYTES);
+    assert!(output[32..] == theirs, "{}", pair.name);
+    assert!(output[..32].iter().chain(after).all(|&byte| byte == 0xa5), "{}", pair.name);
+}
+
+#[test]
+fn merge_stays_inside_what_it_was_lent() {
+    let merge = || {
+        merges::examples()
+            .into_iter()
+            .chain((0..300).map(pair_of))
+            .for_each(|pair| merge_in_the_middle(&pair))
+    };
+    yestrwyn::with_stack(merge).expect("a thread");
 }

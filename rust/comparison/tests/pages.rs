@@ -6,9 +6,14 @@ use std::mem::size_of;
 use std::slice;
 
 use yestrwyn::exported::{check_numbers_with, Arrays, Nodes, Origins, Values};
-use yestrwyn::{check_here, covers_here, readout_piece_here, Cells, Rest, Tables, ENOUGH, LENGTHS};
+use yestrwyn::{
+    check_here, covers_here, merge_here, readout_piece_here, Cells, Rest, Tables, ENOUGH, LENGTHS,
+};
+use yestrwyn_types::limits::FILE_BYTES;
 use yestrwyn_types::ANSWER_CELLS;
+use yestrwyn_vectors::examples::merges::{self, Merge};
 use yestrwyn_vectors::examples::{cases, days, deep, edges, published, Example};
+use yestrwyn_vectors::merges::{damaged_pair, random_pair};
 use yestrwyn_vectors::{covering_file, dated_file, random_file};
 
 const PAGE: usize = 4096;
@@ -71,16 +76,22 @@ enum Place {
     Last,
 }
 
+/// A copy of a file at one end of some pages.
+fn put<'a>(pages: &'a mut Guarded, file: &[u8], place: Place) -> &'a [u8] {
+    let free = pages.bytes().len() - file.len();
+    let start = if let Place::First = place { 0 } else { free };
+    let lent = &mut pages.bytes()[start..start + file.len()];
+    lent.copy_from_slice(file);
+    lent
+}
+
 /// Checks a file that lies against an unreadable page, reads it out and compares its first clauses, with tables that fill
 /// their pages.
 fn same(example: &Example, place: Place) {
     let Example { name, day, file } = example;
     let day = *day;
     let mut pages = Guarded::new(file.len());
-    let free = pages.bytes().len() - file.len();
-    let start = if let Place::First = place { 0 } else { free };
-    let lent = &mut pages.bytes()[start..start + file.len()];
-    lent.copy_from_slice(file);
+    let lent = put(&mut pages, file, place);
     let mut guarded = LENGTHS.map(|cells| Guarded::new(2 * cells));
     let [symbols, rows, clauses, bindings] = guarded.each_mut().map(|table| table.cells());
     assert_eq!([symbols.len(), rows.len(), clauses.len(), bindings.len()], LENGTHS);
@@ -140,6 +151,34 @@ fn files_and_tables_beside_unreadable_pages() {
             same(&Example::new(&format!("seed {seed}"), random_file(seed)), Place::Last);
             same(&Example::new(&format!("covering {seed}"), covering_file(seed)), Place::Last);
             same(&Example::on(day, &format!("dated {seed}"), dated), Place::Last);
+        }
+    };
+    yestrwyn::with_stack(compare).expect("a thread");
+}
+
+/// Merges two files that lie against unreadable pages, with tables and an output that fill their pages.
+fn same_merge(pair: &Merge, place: Place) {
+    let Merge { name, first, second } = pair;
+    let mut pages = [first, second].map(|file| Guarded::new(file.len()));
+    let [one, other] = &mut pages;
+    let lent = [put(one, first, place), put(other, second, place)];
+    let mut guarded = LENGTHS.map(|cells| Guarded::new(2 * cells));
+    let [symbols, rows, clauses, bindings] = guarded.each_mut().map(|table| table.cells());
+    let mut tables = Tables { symbols, rows, clauses, bindings };
+    let (mut output, mut theirs) = (Guarded::new(FILE_BYTES), vec![0; FILE_BYTES]);
+    assert_eq!(output.bytes().len(), FILE_BYTES);
+    let right = yestrwyn_second::merge_into(first, second, &mut Cells::new().lend(), &mut theirs);
+    assert_eq!(merge_here(lent[0], lent[1], &mut tables, output.bytes()), right, "{name} {place:?}");
+    assert!(output.bytes() == theirs, "{name} {place:?}");
+}
+
+#[test]
+fn merges_beside_unreadable_pages() {
+    let compare = || {
+        let named = merges::examples().into_iter();
+        for pair in named.chain((0..150).map(random_pair)).chain((0..100).map(damaged_pair)) {
+            same_merge(&pair, Place::Last);
+            same_merge(&pair, Place::First);
         }
     };
     yestrwyn::with_stack(compare).expect("a thread");

@@ -1,24 +1,40 @@
-//! The programs that the guide to the format quotes compile, and print what the stored readouts say; so does the program
-//! in C that asks which clause covers which.
+//! The programs that the guide to the format quotes compile, and print what the stored readouts say; so do the programs
+//! in C that ask which clause covers which and that merge two files.
 
 use std::fs;
 use std::path::{Path, PathBuf};
-use std::process::{Command, Stdio};
+use std::process::{Command, Output, Stdio};
 use std::sync::OnceLock;
 
-use yestrwyn::{Covering, Outcome};
+use yestrwyn::{Covering, MergeRefusal, Outcome};
 
 #[allow(dead_code)]
 #[path = "../../yestrwyn/examples/check.rs"]
 mod check;
 
 #[allow(dead_code)]
+#[path = "../../yestrwyn/examples/merge.rs"]
+mod merge;
+
+#[allow(dead_code)]
 #[path = "../../yestrwyn/examples/service.rs"]
 mod service;
 
 /// The stored examples.
-const EXAMPLES: [&str; 8] =
-    ["covers", "curfew", "duty", "permit", "refused", "season", "sheets", "two_steps"];
+const EXAMPLES: [&str; 12] = [
+    "covers",
+    "curfew",
+    "declined",
+    "duty",
+    "merged",
+    "permit",
+    "refused",
+    "rulebook",
+    "season",
+    "sheets",
+    "trip",
+    "two_steps",
+];
 
 /// The day of the stored readouts.
 const DAY: &str = "0";
@@ -66,6 +82,12 @@ fn service_program() -> &'static Path {
 fn covers_program() -> &'static Path {
     static PROGRAM: OnceLock<PathBuf> = OnceLock::new();
     PROGRAM.get_or_init(|| compiled("covers"))
+}
+
+/// The program `merge`, compiled once.
+fn merge_program() -> &'static Path {
+    static PROGRAM: OnceLock<PathBuf> = OnceLock::new();
+    PROGRAM.get_or_init(|| compiled("merge"))
 }
 
 /// Compiles a program of `snippets` against the library and returns where it lies.
@@ -154,6 +176,71 @@ fn words_that_are_no_clauses() {
         assert!(!output.status.success() && output.stdout.is_empty(), "{words}");
         assert!(String::from_utf8_lossy(&output.stderr).starts_with("usage: "), "{words}");
     }
+}
+
+/// What the program `merge` makes of two files, by their paths from the root.
+fn merged(first: &str, second: &str) -> Output {
+    Command::new(merge_program()).arg(path(first)).arg(path(second)).output().expect("it runs")
+}
+
+#[test]
+fn merge_from_c() {
+    let (mut written, mut refused) = (0, 0);
+    for (one, other) in EXAMPLES.iter().flat_map(|one| EXAMPLES.map(|other| (*one, other))) {
+        let [first, second] = [one, other].map(|name| format!("examples/{name}.proof"));
+        let [a, b] = [&first, &second].map(|name| fs::read(path(name)).expect("a stored example"));
+        let output = merged(&first, &second);
+        match yestrwyn_second::merge(&a, &b) {
+            Ok(file) => {
+                assert!(output.status.success() && output.stdout == file, "{one} and {other}");
+                written += 1;
+            }
+            Err(MergeRefusal { reason, file, record }) => {
+                let line = format!("refused {} at {record} of file {file}\n", reason.number());
+                assert!(!output.status.success() && output.stdout.is_empty(), "{one} and {other}");
+                assert_eq!(String::from_utf8_lossy(&output.stderr), line, "{one} and {other}");
+                refused += 1;
+            }
+        }
+    }
+    assert!(written >= 6 && refused > 60, "{written} written, {refused} refused");
+    // The stored example is what the program writes.
+    let stored = fs::read(path("examples/merged.proof")).expect("a stored example");
+    assert!(merged("examples/rulebook.proof", "examples/trip.proof").stdout == stored);
+}
+
+/// A missing file, a folder, more words than two or fewer, and a full device.
+#[test]
+fn failed_reads_and_writes_of_the_merge() {
+    let good = "examples/rulebook.proof";
+    for (first, second) in
+        [("examples/missing.proof", good), (good, "examples/missing.proof"), (good, "examples")]
+    {
+        let output = merged(first, second);
+        assert!(!output.status.success() && output.stdout.is_empty() && !output.stderr.is_empty());
+    }
+    for words in [&[][..], &[good], &[good, good, good]] {
+        let output = Command::new(merge_program()).args(words.iter().map(|name| path(name))).output();
+        let output = output.expect("it runs");
+        assert!(!output.status.success() && output.stdout.is_empty());
+        assert!(String::from_utf8_lossy(&output.stderr).starts_with("usage: "));
+    }
+    let full = fs::File::options().write(true).open("/dev/full").expect("a full device");
+    let mut program = Command::new(merge_program());
+    program.arg(path(good)).arg(path("examples/trip.proof")).stdout(Stdio::from(full)).stderr(Stdio::piped());
+    let written = program.spawn().and_then(|child| child.wait_with_output()).expect("it runs");
+    assert!(!written.status.success());
+    assert!(String::from_utf8_lossy(&written.stderr).starts_with("standard output: "));
+}
+
+#[test]
+fn merge_from_rust() {
+    let names = ["rulebook", "trip", "merged", "declined"];
+    let [rulebook, trip, stored, declined] =
+        names.map(|name| fs::read(path(&format!("examples/{name}.proof"))).expect("a stored example"));
+    assert_eq!(merge::merged(&rulebook, &trip).expect("a merged file"), stored);
+    let refusal = merge::merged(&rulebook, &declined).expect_err("a refusal");
+    assert_eq!(refusal.to_string(), "file 2: refused 17 at 30");
 }
 
 /// Words that are no day, none, and more than one.
@@ -254,6 +341,8 @@ fn the_guide_quotes_the_programs() {
         ("c", "comparison/snippets/service.c"),
         ("rust", "yestrwyn/examples/service.rs"),
         ("c", "comparison/snippets/readout.c"),
+        ("c", "comparison/snippets/merge.c"),
+        ("rust", "yestrwyn/examples/merge.rs"),
     ];
     for (language, program) in quoted {
         let block = format!("```{language}\n{}```\n", text(&format!("rust/{program}")));

@@ -3,7 +3,8 @@
 use std::io;
 use std::thread::Builder;
 
-use yestrwyn::{check, check_into, covers, covers_into, readout, readout_piece};
+use yestrwyn::limits::FILE_BYTES;
+use yestrwyn::{check, check_into, covers, covers_into, merge, merge_into, readout, readout_piece};
 use yestrwyn::{write_readout, write_readout_here, Cells, Rest, Workspace, ENOUGH};
 use yestrwyn_vectors::examples::deep;
 
@@ -23,6 +24,7 @@ fn the_deepest_files_on_a_small_thread() {
         let expected = yestrwyn_second::check_into(0, file, &mut second.lend());
         let text = yestrwyn_second::readout(0, file);
         let covering = yestrwyn_second::covers(file, 0, 0);
+        let merged = yestrwyn_second::merge(&[], file);
         on_a_small_thread(|| {
             assert_eq!(check(0, file).expect("an answer"), expected);
             assert_eq!(check_into(0, file, &mut cells.lend()).expect("an answer"), expected);
@@ -31,6 +33,11 @@ fn the_deepest_files_on_a_small_thread() {
             let mut output = vec![0; ENOUGH.max(text.len())];
             let piece = readout_piece(0, file, &mut cells.lend(), 0, &mut output).expect("a piece");
             assert!(piece.rest == Rest::Complete && output[..piece.written] == text);
+            assert_eq!(merge(&[], file).expect("an answer"), merged);
+            let length = merge_into(&[], file, &mut cells.lend(), &mut vec![0; FILE_BYTES])
+                .expect("an answer")
+                .length();
+            assert_eq!(length, merged.as_ref().ok().map(Vec::len));
             assert_eq!(covers(file, 0, 0).expect("an answer"), covering);
             assert_eq!(covers_into(file, 0, 0, &mut cells.lend()).expect("an answer"), covering);
         });

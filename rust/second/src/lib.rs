@@ -3,8 +3,8 @@
 //! A file holds symbols, rows (shared terms), input clauses, and resolution and factoring steps.
 //! [`check()`] answers whether every record stands and whether some clause is empty that is made of
 //! rules in force on a day, and fills four tables; [`readout()`] writes every clause in plain symbols;
-//! [`covers()`] answers whether one input clause covers another. Derived clauses are never written out: a
-//! clause is its parents and the bindings that its own unification added.
+//! [`covers()`] answers whether one input clause covers another; [`merge()`] makes one file of two. Derived
+//! clauses are never written out: a clause is its parents and the bindings that its own unification added.
 
 #![forbid(unsafe_code)]
 
@@ -17,10 +17,12 @@ pub mod earliest;
 pub mod environment;
 pub mod expression;
 pub mod filling;
+pub mod merge;
 pub mod outline;
 pub mod readout;
 pub mod unify;
 
 pub use check::{check, check_counting, check_into, StepWork};
 pub use cover::{covers, covers_into};
+pub use merge::{merge, merge_into};
 pub use readout::{readout, readout_into, write_readout};

@@ -1,5 +1,5 @@
-//! What a check of a proof file answers, the tables that it fills, the answer to whether one clause covers another, and
-//! the numbers of the format.
+//! What a check of a proof file answers, the tables that it fills, the answers to whether one clause covers another and to
+//! a merge of two files, and the numbers of the format.
 //!
 //! The packages `yestrwyn` (the proved check) and `yestrwyn-builder` give these types on; there is no
 //! need to name this package beside them.
@@ -12,10 +12,12 @@ pub mod record;
 
 mod answer;
 mod cover;
+mod merge;
 mod reason;
 mod tables;
 
 pub use answer::{Answer, Verdict, ANSWER_CELLS};
 pub use cover::{Covering, Outcome, COVERING_CELLS};
+pub use merge::{MergeRefusal, Merged, MERGED_CELLS};
 pub use reason::Reason;
 pub use tables::{Cells, Tables, LENGTHS};

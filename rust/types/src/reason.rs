@@ -1,16 +1,16 @@
-//! Why a file or a question about it is refused.
+//! Why a file, a question about it or a merge of two files is refused.
 
 use std::error::Error;
 use std::fmt;
 
-/// Why a file or a question about it is refused. The format may get further numbers, so a match needs a last arm; treat what
+/// Why a file, a question about it or a merge of two files is refused. The format may get further numbers, so a match needs a last arm; treat what
 /// it catches as a refusal too.
 #[non_exhaustive]
 #[derive(Clone, Copy, PartialEq, Eq, Hash, Debug)]
 pub enum Reason {
     /// Length over 65,536 or not a multiple of 16.
     Length,
-    /// A lent table is too short.
+    /// A lent table is too short, or the output that a file is to be written to.
     Table,
     /// Kind not 1 to 8.
     Kind,
@@ -43,12 +43,19 @@ pub enum Reason {
     NoComparison,
     /// The first day is after the last, of a clause that is given its days. This comes after 5.
     Crossed,
+    /// One of two files that are to be merged holds a step. No check gives this and the next two, only a merge.
+    MergedStep,
+    /// Of two files that are to be merged, neither's list of symbols begins the other's: two symbols of one number differ in
+    /// their arity.
+    MergedSymbols,
+    /// The merged file would have over 4,096 records.
+    MergedLength,
     /// A number that this version does not know: a refusal all the same.
     Other(u16),
 }
 
 /// The reasons that have a name, from number 1 on.
-const NAMED: [Reason; 16] = [
+const NAMED: [Reason; 19] = [
     Reason::Length,
     Reason::Table,
     Reason::Kind,
@@ -65,6 +72,9 @@ const NAMED: [Reason; 16] = [
     Reason::Order,
     Reason::NoComparison,
     Reason::Crossed,
+    Reason::MergedStep,
+    Reason::MergedSymbols,
+    Reason::MergedLength,
 ];
 
 impl Reason {
@@ -87,6 +97,9 @@ impl Reason {
             Reason::Order => 14,
             Reason::NoComparison => 15,
             Reason::Crossed => 16,
+            Reason::MergedStep => 17,
+            Reason::MergedSymbols => 18,
+            Reason::MergedLength => 19,
             Reason::Other(number) => number,
         }
     }
@@ -102,7 +115,7 @@ impl fmt::Display for Reason {
     fn fmt(&self, out: &mut fmt::Formatter<'_>) -> fmt::Result {
         out.write_str(match self {
             Reason::Length => "the length is over 65,536 bytes or not a multiple of 16",
-            Reason::Table => "a lent table is too short",
+            Reason::Table => "a lent table or output is too short",
             Reason::Kind => "the kind is not 1 to 8",
             Reason::Range => {
                 "byte 1 or the variable number is out of its range, or an unused field is not zero"
@@ -122,6 +135,9 @@ impl fmt::Display for Reason {
             Reason::Order => "the right literals of the step do not strictly rise",
             Reason::NoComparison => "the file does not stand, or a clause named is not an input clause of it",
             Reason::Crossed => "the first day is after the last",
+            Reason::MergedStep => "a file that is to be merged holds a step",
+            Reason::MergedSymbols => "of two files that are to be merged, neither list of symbols begins the other",
+            Reason::MergedLength => "the merged file would have over 4,096 records",
             Reason::Other(number) => return write!(out, "reason {number}"),
         })
     }

@@ -1,20 +1,26 @@
 //! Answers, verdicts and reasons as numbers and as text.
 
-use yestrwyn_types::{Answer, Cells, Covering, Outcome, Reason, Tables, Verdict, LENGTHS};
+use yestrwyn_types::{
+    Answer, Cells, Covering, MergeRefusal, Merged, Outcome, Reason, Tables, Verdict, LENGTHS,
+};
 
 #[test]
 fn reasons_are_their_numbers() {
     for number in 0..100 {
         let reason = Reason::from_number(number);
         assert_eq!(reason.number(), number);
-        assert_eq!(matches!(reason, Reason::Other(_)), !(1..=16).contains(&number), "{reason:?}");
+        assert_eq!(matches!(reason, Reason::Other(_)), !(1..=19).contains(&number), "{reason:?}");
     }
     assert_eq!(Reason::Clash.to_string(), "two different symbols meet");
     assert_eq!(Reason::Order.to_string(), "the right literals of the step do not strictly rise");
     let nothing = "the file does not stand, or a clause named is not an input clause of it";
     assert_eq!(Reason::NoComparison.to_string(), nothing);
     assert_eq!(Reason::Crossed.to_string(), "the first day is after the last");
-    assert_eq!(Reason::Other(17).to_string(), "reason 17");
+    let merging = [Reason::MergedStep, Reason::MergedSymbols, Reason::MergedLength];
+    assert_eq!(merging.map(Reason::number), [17, 18, 19]);
+    assert_eq!(Reason::MergedStep.to_string(), "a file that is to be merged holds a step");
+    assert_eq!(Reason::MergedLength.to_string(), "the merged file would have over 4,096 records");
+    assert_eq!(Reason::Other(20).to_string(), "reason 20");
 }
 
 #[test]
@@ -41,6 +47,27 @@ fn coverings_are_their_numbers() {
     let odd = Covering::from_numbers([3, 1, 0, 1, 0, 0, 0, 0, 0, 0]);
     assert!(matches!(odd.outcome, Outcome::Refused { .. }) && !odd.is_yes());
     assert!(Covering::yes([0; 7]).is_yes() && !Covering::no().is_yes());
+}
+
+#[test]
+fn merges_are_their_numbers() {
+    let symbols = MergeRefusal { reason: Reason::MergedSymbols, file: 2, record: 4095 };
+    let short = MergeRefusal::of_neither(Reason::Table);
+    let [refused, untouched] = [symbols, short].map(Merged::Refused);
+    assert_eq!(Merged::Written { length: 65_536 }.numbers(), [0, 65_536, 0, 0]);
+    assert_eq!(Merged::Written { length: 0 }.numbers(), [0; 4]);
+    assert_eq!((refused.numbers(), untouched.numbers()), ([2, 18, 2, 4095], [2, 2, 0, 0]));
+    for merged in [Merged::Written { length: 65_536 }, Merged::Written { length: 0 }, refused, untouched] {
+        assert_eq!(Merged::from_numbers(merged.numbers()), merged);
+    }
+    assert_eq!([Merged::Written { length: 48 }, refused].map(Merged::length), [Some(48), None]);
+    // Nothing that is not said to be written is taken for it, and no number is cut to another.
+    let odd = MergeRefusal { reason: Reason::Other(65_535), file: 65_535, record: 65_535 };
+    assert_eq!(Merged::from_numbers([1, 65_536 + 17, 65_537, 65_536]), Merged::Refused(odd));
+    assert_eq!(
+        [symbols, short].map(|refusal| refusal.to_string()),
+        ["file 2: refused 18 at 4095", "refused 2"]
+    );
 }
 
 #[test]

@@ -1,5 +1,6 @@
 //! Proof files for tests: the case sheet, examples from the literature, files at the edge of every
-//! limit, deep, heavy and random ones, files with days; and the vectors that are stored of them.
+//! limit, deep, heavy and random ones, files with days, pairs of files that are merged; and the vectors that are stored of
+//! them.
 
 #![forbid(unsafe_code)]
 
@@ -8,6 +9,8 @@ pub mod clashing;
 pub mod covering;
 pub mod dated;
 pub mod examples;
+pub mod merges;
+pub mod merging;
 pub mod outcome;
 pub mod random;
 pub mod repeating;
@@ -18,5 +21,6 @@ pub mod stored;
 pub use clashing::{clashing_file, clashing_several_file};
 pub use covering::covering_file;
 pub use dated::dated_file;
+pub use merging::merging_files;
 pub use random::{damage, random_file, random_file_of, several_file, several_file_of};
 pub use repeating::repeating_file;

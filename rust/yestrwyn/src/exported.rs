@@ -4,10 +4,12 @@
 
 mod check;
 mod covers;
+mod merge;
 mod readout;
 mod services;
 
 pub use check::check_numbers;
 pub use covers::covers_numbers;
+pub use merge::merge_numbers;
 pub use readout::{readout_numbers, PROGRESS_CELLS};
 pub use services::{check_numbers_with, Arrays, Nodes, Origins, Values};

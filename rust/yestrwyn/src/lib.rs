@@ -1,4 +1,5 @@
-//! The proved check and readout of resolution proof files, and which of their clauses covers which.
+//! The proved check and readout of resolution proof files, which of their clauses covers which, and two files merged into
+//! one.
 //!
 //! ```no_run
 //! let file = std::fs::read("trip.proof")?;
@@ -16,8 +17,8 @@
 //! Check and readout take a day: rules that a file gives a first and a last day are in force between these, and
 //! only a proof from rules in force is accepted.
 //!
-//! [`check()`], [`readout()`] and [`covers()`] take care of the stack themselves. Functions that end in `_here`
-//! run on the caller's, and say how much of it they need. A service that checks many files keeps a
+//! [`check()`], [`readout()`], [`covers()`] and [`merge()`] take care of the stack themselves. Functions that end in
+//! `_here` run on the caller's, and say how much of it they need. A service that checks many files keeps a
 //! [`Workspace`].
 
 #![warn(missing_docs)]
@@ -26,16 +27,20 @@ pub mod exported;
 
 mod check;
 mod cover;
+mod merge;
 mod readout;
 mod stack;
 mod workspace;
 
 pub use check::{check, check_here, check_into};
 pub use cover::{covers, covers_here, covers_into};
+pub use merge::{merge, merge_here, merge_into};
 pub use readout::{
     readout, readout_piece, readout_piece_here, write_readout, write_readout_here, Piece, Rest, ENOUGH,
 };
 pub use stack::{with_stack, STACK};
 pub use workspace::Workspace;
-pub use yestrwyn_types::{limits, Answer, Cells, Covering, Outcome, Reason, Tables, Verdict};
-pub use yestrwyn_types::{COVERING_CELLS, LENGTHS};
+pub use yestrwyn_types::{
+    limits, Answer, Cells, Covering, MergeRefusal, Merged, Outcome, Reason, Tables, Verdict,
+};
+pub use yestrwyn_types::{COVERING_CELLS, LENGTHS, MERGED_CELLS};

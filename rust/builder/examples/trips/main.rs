@@ -1,4 +1,4 @@
-//! Five trips without a lawful plan and a small rulebook, written as proof files: copy one to begin a planner's writer.
+//! Trips without a lawful plan and small rulebooks, written as proof files: copy one to begin a planner's writer.
 //!
 //!     cargo run --example trips
 //!
@@ -11,11 +11,14 @@ use std::path::Path;
 
 mod covers;
 mod curfew;
+mod declined;
 mod duty;
 mod files;
 mod permit;
+mod rulebook;
 mod season;
 mod sheets;
+mod trip;
 mod two_steps;
 
 fn main() -> Result<(), Box<dyn Error>> {

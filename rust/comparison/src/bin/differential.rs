@@ -1,32 +1,37 @@
-//! Compares the proved check, plain and for services, the proved readout and which clause covers which with the
-//! second implementation on files from a seed on, each on a day of its own:
+//! Compares the proved check, plain and for services, the proved readout, which clause covers which and the proved merge
+//! with the second implementation on files from a seed on, each on a day of its own:
 //!
 //! ```text
 //! differential SEED COUNT
 //! ```
 //!
 //! All files are checked for services with one workspace. Of each readout it takes two pieces: the first with
-//! room for every line, and one from any clause with any room. Of the clauses of each file it compares two pairs.
-//! Prints one line; at the first difference it prints the file in hexadecimal and ends with 1.
+//! room for every line, and one from any clause with any room. Of the clauses of each file it compares two pairs. With each
+//! file goes a pair of files that it merges. Prints one line; at the first difference it prints the file, or the pair that
+//! differs, in hexadecimal and ends with 1.
 
 use std::process::ExitCode;
 
 use yestrwyn::with_stack;
 use yestrwyn_comparison::compare::{day_and_file_of, lengths_of, Pair};
 use yestrwyn_comparison::covers::{for_covering, Clauses, Coverings};
+use yestrwyn_comparison::merges::{pair_of, MergeLengths, Merges};
 use yestrwyn_comparison::pieces::Second;
 use yestrwyn_vectors::random::SplitMix64;
 
 /// Pairs of clauses that are compared of each file.
 const PAIRS: usize = 2;
 
-/// How many files gave each kind of answer, and how many had no room for one; and the same of the pairs of clauses.
+/// How many files gave each kind of answer, and how many had no room for one; and the same of the pairs of clauses and of
+/// the merges.
 #[derive(Default)]
 struct Tally {
     kinds: [u64; 3],
     untouched: u64,
     coverings: [u64; 3],
     coverings_untouched: u64,
+    merges: [u64; 3],
+    merges_untouched: u64,
     bytes: u64,
 }
 
@@ -50,17 +55,22 @@ fn run(seed: u64, count: u64) -> ExitCode {
         let (day, file) = day_and_file_of(own);
         tally.bytes += file.len() as u64;
         if let Err(difference) = both.compare(day, &file, own, &mut tally) {
-            let hex: String = file.iter().map(|byte| format!("{byte:02x}")).collect();
-            println!("seed {own}: {difference}; {:?}; day {day}; file {hex}", lengths_of(own));
+            println!("seed {own}: {difference}; {:?}; day {day}; file {}", lengths_of(own), hex(&file));
+            return ExitCode::FAILURE;
+        }
+        if let Err(difference) = both.merge(own, &mut tally) {
+            println!("seed {own}: {difference}");
             return ExitCode::FAILURE;
         }
     }
     let Tally { kinds: [open, accepted, refused], untouched, bytes, .. } = tally;
     let Tally { coverings: [no, yes, nothing], coverings_untouched, .. } = tally;
+    let Tally { merges: [written, _, not_written], merges_untouched, .. } = tally;
     println!(
         "{count} files, {bytes} bytes, no difference: {open} open, {accepted} accepted, {refused} refused, \
          {untouched} with too short an answer; pairs of clauses: {yes} yes, {no} no, {nothing} refused, \
-         {coverings_untouched} with too short an answer"
+         {coverings_untouched} with too short an answer; merges: {written} written, {not_written} refused, \
+         {merges_untouched} with too short an answer"
     );
     ExitCode::SUCCESS
 }
@@ -70,6 +80,7 @@ fn run(seed: u64, count: u64) -> ExitCode {
 struct Both {
     pair: Pair,
     coverings: Coverings,
+    merges: Merges,
 }
 
 impl Both {
@@ -89,12 +100,28 @@ impl Both {
         }
         Ok(())
     }
+
+    /// Counts the answer for a pair of files if the merge does not differ; otherwise says where, with the pair.
+    fn merge(&mut self, own: u64, tally: &mut Tally) -> Result<(), String> {
+        let (pair, lengths) = (pair_of(own), MergeLengths::of(own));
+        let kind = self.merges.compare([&pair.first, &pair.second], lengths, own as u16);
+        let kind = kind.map_err(|difference| {
+            format!("{difference}; {lengths:?}; first {}; second {}", hex(&pair.first), hex(&pair.second))
+        })?;
+        count(kind, &mut tally.merges, &mut tally.merges_untouched);
+        Ok(())
+    }
+}
+
+/// A file in hexadecimal digits.
+fn hex(file: &[u8]) -> String {
+    file.iter().map(|byte| format!("{byte:02x}")).collect()
 }
 
 /// Counts an answer by its kind, or one for which there is no room.
-fn count(kind: Option<u16>, kinds: &mut [u64; 3], untouched: &mut u64) {
-    match kind {
-        Some(kind) => kinds[usize::from(kind).min(2)] += 1,
+fn count(kind: Option<impl Into<u32>>, kinds: &mut [u64; 3], untouched: &mut u64) {
+    match kind.map(Into::into) {
+        Some(kind) => kinds[kind.min(2) as usize] += 1,
         None => *untouched += 1,
     }
 }

@@ -1,8 +1,9 @@
-//! The proved check, plain and for services, and which clause covers which, beside the second implementation on the same
-//! files in one run: tables in Markdown with the times and their ratio. Arguments name tables; without any, all are made:
+//! The proved check, plain and for services, which clause covers which, and the proved merge, beside the second
+//! implementation on the same files in one run: tables in Markdown with the times and their ratio. Arguments name tables;
+//! without any, all are made:
 //!
 //! ```text
-//! performance [check] [services] [calls] [covers]
+//! performance [check] [services] [calls] [covers] [merge]
 //! ```
 
 use std::env;
@@ -13,11 +14,12 @@ use std::time::Duration;
 
 use yestrwyn::Workspace;
 use yestrwyn_comparison::clock::own_time;
-use yestrwyn_comparison::files::{measured, ordinary};
+use yestrwyn_comparison::files::{measured, merged, ordinary};
 use yestrwyn_comparison::questions::{questions, Question};
 use yestrwyn_comparison::rounds::Rounds;
-use yestrwyn_types::limits::RECORD_BYTES;
-use yestrwyn_types::{Answer, Cells, Covering};
+use yestrwyn_types::limits::{FILE_BYTES, RECORD_BYTES};
+use yestrwyn_types::{Answer, Cells};
+use yestrwyn_vectors::examples::merges::Merge;
 use yestrwyn_vectors::examples::{cases, heavy, Example};
 use yestrwyn_vectors::stored::groups;
 
@@ -28,13 +30,18 @@ const LONG_ENOUGH: Duration = Duration::from_millis(5);
 type Table = fn() -> io::Result<()>;
 
 /// The tables by name.
-const TABLES: [(&str, Table); 4] =
-    [("check", check_table), ("services", services_table), ("calls", calls_table), ("covers", covers_table)];
+const TABLES: [(&str, Table); 5] = [
+    ("check", check_table),
+    ("services", services_table),
+    ("calls", calls_table),
+    ("covers", covers_table),
+    ("merge", merge_table),
+];
 
 fn main() -> io::Result<()> {
     let asked: Vec<String> = env::args().skip(1).collect();
     if asked.iter().any(|name| TABLES.iter().all(|(table, _)| table != name)) {
-        return Err(io::Error::other("the tables are check, services, calls and covers"));
+        return Err(io::Error::other("the tables are check, services, calls, covers and merge"));
     }
     let tables =
         TABLES.iter().filter(|(table, _)| asked.is_empty() || asked.iter().any(|name| name == table));
@@ -80,6 +87,15 @@ fn covers_table() -> io::Result<()> {
     );
     println!("|---|---|---|---|---|---|---|---|");
     yestrwyn::with_stack(|| questions().iter().for_each(covers_line))
+}
+
+/// Two files merged: the whole call, and the middle of what it takes more than a check of both files.
+fn merge_table() -> io::Result<()> {
+    println!(
+        "| two files merged | proved | second | ratio | over ten rounds | proved, less the checks | second, less the checks | ratio |"
+    );
+    println!("|---|---|---|---|---|---|---|---|");
+    yestrwyn::with_stack(|| merged().iter().for_each(merge_line))
 }
 
 /// Both with tables that are lent to them again and again.
@@ -134,29 +150,45 @@ fn services_line(name: impl Display, files: &[Dated<'_>], workspace: &mut Worksp
     println!("| {name} | {to_plain} | {} |", to_second.beside());
 }
 
-/// A line of the last table, both with tables that are lent to them again and again.
+/// A line of the fourth table, both with tables that are lent to them again and again.
 fn covers_line(question: &Question) {
     let Question { name, file, clauses: [c, d] } = question;
     let proved = |cells: &mut Cells| yestrwyn::covers_here(file, *c, *d, &mut cells.lend());
     let other = |cells: &mut Cells| yestrwyn_second::covers_into(file, *c, *d, &mut cells.lend());
     let [whole, less] = Rounds::take_parts(
-        || and_less_the_check(file, proved, plain),
-        || and_less_the_check(file, other, second),
+        || and_less_the_checks(&[file], proved, plain),
+        || and_less_the_checks(&[file], other, second),
     );
     println!("| {name} | {whole} | {} |", less.middles());
 }
 
-/// The time of a comparison with its check, and that less the time of a check alone.
-fn and_less_the_check(
-    file: &[u8],
-    compare: impl Fn(&mut Cells) -> Covering,
+/// A line of the last table, both with tables and an output that are lent to them again and again.
+fn merge_line(pair: &Merge) {
+    let files = [pair.first.as_slice(), &pair.second];
+    let mut outputs = [(); 2].map(|()| vec![0; FILE_BYTES]);
+    let [ours, theirs] = &mut outputs;
+    let mut proved = |cells: &mut Cells| yestrwyn::merge_here(files[0], files[1], &mut cells.lend(), ours);
+    let mut other =
+        |cells: &mut Cells| yestrwyn_second::merge_into(files[0], files[1], &mut cells.lend(), theirs);
+    let [whole, less] = Rounds::take_parts(
+        || and_less_the_checks(&files, &mut proved, plain),
+        || and_less_the_checks(&files, &mut other, second),
+    );
+    println!("| {} | {whole} | {} |", pair.name, less.middles());
+}
+
+/// The time of something that checks files first, and that less the time of the checks alone.
+fn and_less_the_checks<T>(
+    files: &[&[u8]],
+    mut run: impl FnMut(&mut Cells) -> T,
     check: fn(u16, &[u8], &mut Cells) -> Answer,
 ) -> [Duration; 2] {
     let mut cells = Cells::new();
     let whole = time(|| {
-        black_box(compare(&mut cells));
+        black_box(run(&mut cells));
     });
-    [whole, whole.saturating_sub(time_all(&[(0, file)], check))]
+    let dated: Vec<Dated<'_>> = files.iter().map(|&file| (0, file)).collect();
+    [whole, whole.saturating_sub(time_all(&dated, check))]
 }
 
 /// The proved check with an array of its own.

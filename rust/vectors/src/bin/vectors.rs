@@ -3,6 +3,7 @@
 use std::io::Write;
 use std::{fs, io};
 
+use yestrwyn_vectors::merges;
 use yestrwyn_vectors::stored::{expected, groups, listing, listing_path, pack_path, results_path};
 
 fn main() -> io::Result<()> {
@@ -23,10 +24,20 @@ fn main() -> io::Result<()> {
         fs::write(pack_path(group.name), files)?;
         fs::write(results_path(group.name), text)?;
     }
+    total += write_merges(&mut out)?;
     let text = listing(&groups);
     writeln!(out, "printed by cases: {} bytes", text.len())?;
     total += text.len();
     fs::write(listing_path(), text)?;
     writeln!(out, "{total} bytes in all")?;
     Ok(())
+}
+
+/// The merges, and how many bytes they are.
+fn write_merges(out: &mut impl Write) -> io::Result<usize> {
+    let pairs = merges::pairs();
+    let text = merges::expected(&pairs);
+    writeln!(out, "{}: {} pairs of files, {} bytes", merges::GROUP, pairs.len(), text.len())?;
+    fs::write(results_path(merges::GROUP), &text)?;
+    Ok(text.len())
 }

@@ -8,6 +8,7 @@ pub mod edges;
 pub mod group_theory;
 pub mod heavy;
 pub mod kowalski;
+pub mod merges;
 pub mod outlines;
 pub mod refusals;
 pub mod repeats;
