@@ -1,10 +1,10 @@
-/* The check of a resolution-proof file, the same for services, the readout, and
- * which input clause covers which.
+/* The check of a resolution-proof file, the same for services, the readout,
+ * which input clause covers which, and two files merged into one.
  *
  * Link with libchecker_c.a. All functions are proved to meet their contracts,
  * for every day, every file and whatever else they are lent (Exported.antt,
- * ExportedWith.antt, ExportedReadout.antt and ExportedCovers.antt in specs/ of
- * the crate exported).
+ * ExportedWith.antt, ExportedReadout.antt, ExportedCovers.antt and
+ * ExportedMerge.antt in specs/ of the crate exported).
  * They never fail, never block, ask for no memory and keep nothing between calls.
  *
  * That they come to an end asks for a stack of 8 MiB: call them on a thread
@@ -22,7 +22,7 @@
 extern "C" {
 #endif
 
-/* The least lengths of the tables, of the two answers and of the progress, in
+/* The least lengths of the tables, of the three answers and of the progress, in
  * cells. */
 #define CHECKER_SYMBOLS 4096
 #define CHECKER_ROWS 4096
@@ -31,6 +31,7 @@ extern "C" {
 #define CHECKER_ANSWER 7
 #define CHECKER_PROGRESS 3
 #define CHECKER_COVERING 10
+#define CHECKER_MERGED 4
 
 /* The lengths of the three parts of a workspace, in cells. */
 #define CHECKER_NODES 32768
@@ -39,6 +40,10 @@ extern "C" {
 
 /* Bytes of output that have room for every line of a readout. */
 #define CHECKER_OUTPUT 131072
+
+/* The least length of an output for a merged file, in bytes: that of the longest
+ * file. */
+#define CHECKER_FILE 65536
 
 /* Checks a proof file on a day, writes the answer and fills four tables.
  *
@@ -207,6 +212,55 @@ void checker_covers(const uint8_t *file, size_t file_len,
                     uint16_t *clauses, size_t clauses_len,
                     uint16_t *bindings, size_t bindings_len,
                     uint16_t *answer, size_t answer_len);
+
+/* Merges two files into one: all records of the first, then those of the second
+ * with their numbers raised. An argument row is raised by the first's number of
+ * rows, a literal by twice that, the clause of a record of kind 8 by the first's
+ * number of clauses; symbols, variables and days stay. Of the second's symbol
+ * records only those past the end of the first's list are written. The merged
+ * file stands, on every day, and its input clauses are the first's and then the
+ * second's, term for term, each with the days that it has in its own file.
+ *
+ *   first, second
+ *             the bytes of the two files; they may be the same
+ *   symbols, rows, clauses, bindings
+ *             as for checker_check: each file is checked, the first one first,
+ *             and the tables are left as the last check leaves them
+ *   output    at least CHECKER_FILE bytes
+ *   answer    four numbers; at least 4 cells
+ *
+ * What is said there of lengths and pointers holds here too, and none of the
+ * tables, the output and the answer may overlap another part.
+ *
+ * The numbers of the answer:
+ *   answer[0]  0 written, 2 refused
+ *   answer[1]  written: the length of the merged file, in bytes; refused: the
+ *              reason
+ *   answer[2]  refused: the file, 1 or 2, or 0 for neither; otherwise 0
+ *   answer[3]  refused: the record of that file; otherwise 0
+ *
+ * The reasons, in this order:
+ *   2          the output is shorter than CHECKER_FILE bytes; file 0, record 0.
+ *              No table is touched
+ *   1 to 16    the check's own, of the first file and then of the second, with
+ *              its record; tables that are too short are the first's reason 2
+ *   17         a file holds a step: the first one, looking in the first file
+ *              first
+ *   18         neither symbol list begins the other: the second's first symbol
+ *              that differs
+ *   19         the merged file would have over 4,096 records; file 0, record 0
+ *
+ * The output is written only if nothing is refused, and not past the merged
+ * file's end. If answer has fewer than 4 cells, nothing at all is touched. Cells
+ * of answer past the fourth are left alone. */
+void checker_merge(const uint8_t *first, size_t first_len,
+                   const uint8_t *second, size_t second_len,
+                   uint16_t *symbols, size_t symbols_len,
+                   uint16_t *rows, size_t rows_len,
+                   uint16_t *clauses, size_t clauses_len,
+                   uint16_t *bindings, size_t bindings_len,
+                   uint8_t *output, size_t output_len,
+                   uint32_t *answer, size_t answer_len);
 
 #ifdef __cplusplus
 }

@@ -1,6 +1,6 @@
-// The check of a proof file, its readout and which clause covers which, for C. The definitions are in the crate exported: `Exported` says what
-// `checker_check` promises, `ExportedWith` what `checker_check_with`, `ExportedReadout` what `checker_readout` and `ExportedCovers` what
-// `checker_covers` does, and checker.h has their declarations.
+// The check of a proof file, its readout, which clause covers which and the merge of two files, for C. The definitions are in the crate exported: `Exported`
+// says what `checker_check` promises, `ExportedWith` what `checker_check_with`, `ExportedReadout` what `checker_readout`, `ExportedCovers` what
+// `checker_covers` and `ExportedMerge` what `checker_merge` does, and checker.h has their declarations.
 use checker::check;
 use checker::check_with;
 use cover::covers;
@@ -10,6 +10,7 @@ use exported::progress::put_progress;
 use following::nodes::Nodes;
 use following::nodes::Origins;
 use following::values::ValueCells;
+use merge_c::merge_to_cells;
 use readout::readout_piece;
 ghost use Rattle.entry.specs.Progress.{tablesWith};
 ghost use Rattle.checker.specs.Contract.{workspaceWith};
@@ -17,6 +18,7 @@ ghost use Rattle.exported.specs.Exported.{Exported};
 ghost use Rattle.exported.specs.ExportedWith.{ExportedWith};
 ghost use Rattle.exported.specs.ExportedReadout.{ExportedReadout};
 ghost use Rattle.exported.specs.ExportedCovers.{ExportedCovers};
+ghost use Rattle.exported.specs.ExportedMerge.{ExportedMerge};
 
 // The check of a file on a day, with the answer in seven cells. Where `answer` has fewer, nothing is touched.
 #[no_mangle]
@@ -112,4 +114,30 @@ pub extern "C" fn checker_readout(
     }
     let p = readout_piece(day, file, symbols, rows, clauses, bindings, clause, output);
     put_progress(p, progress);
+}
+
+// Two files merged into one, with the answer in four cells. Where `answer` has fewer, nothing is touched.
+#[no_mangle]
+pub extern "C" fn checker_merge(
+    first: &[u8],
+    second: &[u8],
+    symbols: &mut [u16],
+    rows: &mut [u16],
+    clauses: &mut [u16],
+    bindings: &mut [u16],
+    output: &mut [u8],
+    answer: &mut [u32],
+)
+    ensures { λ _. ⌜ ExportedMerge (now (first .entry)) (now (second .entry)) (tablesWith (now (symbols .entry)) (now (rows .entry)) (now (clauses .entry)) (now (bindings .entry))) (now (output .entry)) (now (answer .entry)) (tablesWith (now (symbols .exit)) (now (rows .exit)) (now (clauses .exit)) (now (bindings .exit))) (now (output .exit)) (now (answer .exit)) ⌝ }
+{
+    merge_to_cells(
+        first,
+        second,
+        symbols,
+        rows,
+        clauses,
+        bindings,
+        output,
+        answer,
+    );
 }

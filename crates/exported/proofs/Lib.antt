@@ -1,3 +1,4 @@
 pub mod AnswerWritten
 pub mod ProgressWritten
 pub mod CoveringWritten
+pub mod MergeWritten

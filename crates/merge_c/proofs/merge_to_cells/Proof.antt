@@ -1,0 +1,55 @@
+use Rattle.exported.proofs.MergeWritten.{merge-left-alone, merge-exported}
+use borrow.Author.Needs.{needs}
+use Rattle.merge_c.proofs.merge_to_cells.Statement.{statement}
+use Rattle.merge_c.proofs.merge_to_cells.Tie as tie
+use Rattle.merge_c.proofs.merge_to_cells.Reads as reads
+use Rattle.merge_c.proofs.merge_to_cells.Lts as lts
+use Rattle.exported.proofs.merged.put_merge.Reads as put-merge-reads
+use Rattle.merge.proofs.merge.Reads as merge-reads
+
+returns : tie.Need-returns
+returns c =
+    merge-left-alone _ _ _ _ _ (c .if1 .taken)
+
+merge-requires : tie.Need-merge-requires
+merge-requires c κs = search needs
+
+put-merge-requires : tie.Need-put-merge-requires
+put-merge-requires c κs = search needs
+
+same-length : tie.Need-same-length
+same-length c = search needs
+
+same-length-2 : tie.Need-same-length-2
+same-length-2 c = search needs
+
+same-length-3 : tie.Need-same-length-3
+same-length-3 c = search needs
+
+same-length-4 : tie.Need-same-length-4
+same-length-4 c = search needs
+
+same-length-5 : tie.Need-same-length-5
+same-length-5 c = search needs
+
+same-length-6 : tie.Need-same-length-6
+same-length-6 c = search needs
+
+returns-2 : tie.Need-returns-2
+returns-2 c =
+    merge-exported _ _ _ _ _ _ _ _ _ (c .before .before .before .before .before .before .before .before .before .before .before .before .before .before .before .before .before .before .before .before .if1 .left) (c .before .before .before .before .before .before .before .before .before .before .before .before .before .before .merge .ensures) (c .before .before .put-merge .ensures)
+
+pub merge-to-cells-spec : {M : Type 1} → statement M
+merge-to-cells-spec =
+    tie.close
+    (tie.spec
+    returns
+    merge-requires
+    put-merge-requires
+    same-length
+    same-length-2
+    same-length-3
+    same-length-4
+    same-length-5
+    same-length-6
+    returns-2)
