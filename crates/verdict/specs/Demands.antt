@@ -5,15 +5,16 @@ use mathlib.Core.Bool.{true}
 use mathlib.Core.Option.{some}
 use mathlib.Core.List.{List, [], _∷_, map}
 use Prim.Native.Nat.{ℕ, _+_, _*_, _≤_, _<_}
+use lib.Dec.{leb}
 use lib.ListN.{length, getD, take, drop}
 use Rattle.record.specs.Record.{pick, Record, records, fieldA, fieldB, fieldC}
-use Rattle.unification.specs.Environment.{follow, Binding, Ends}
+use Rattle.unification.specs.Environment.{follow, Binding, Environment, Ends}
 use Rattle.unification.specs.Repeated.{IsEarliest}
 use Rattle.unification.specs.Row.{variable, Row, application, Expression, Variable, writtenOut}
 use Rattle.unification.specs.Term.{Term, apply}
-use Rattle.unification.specs.Unification.{mostLinks}
+use Rattle.unification.specs.Unification.{mostLinks, Pair, unifying, Reaches}
 use Rattle.unification.specs.Unifier.{TermPair, Unifies, NoUnifier}
-use Rattle.derivation.specs.Derivation.{literals, input, Literal, RowLiteral, Derivation, resolve, factor, numbered, maximumIndex, lookup, Use, uses}
+use Rattle.derivation.specs.Derivation.{literals, input, Literal, RowLiteral, Derivation, resolve, factor, numbered, pairsWith, maximumIndex, joined, lookup, Use, uses}
 use Rattle.derivation.specs.Ground.{instances, Ground, Values, valueIn, WellFormedInstances, Assignment, AllTrue}
 use Rattle.derivation.specs.Textbook.{Resolvent, Factor}
 use Rattle.derivation.specs.Written.{written, substitution, renamed, WritesOut}
@@ -84,9 +85,17 @@ pub data RecordOfRow (S : State) (k : ℕ) (w : Row) : ℕ → Type 0 where
   ownRecord : ((q : ℕ) → q < length (S .rows) → ¬ (rowOf S q ≡ w)) → RecordOfRow S k w k
   earliestRecord : {q j : ℕ} → IsEarliest (rowsOf S) q → rowOf S q ≡ w → entry (map (λ u. u .0) (S .rows)) q ≡ some j → RecordOfRow S k w j
 
+-- The bindings bs are what unification of the pairs adds in the environment ρ: begun with all pairs and no binding, it has come, by its own turns, to bs and
+-- nothing left to be taken up, in at most 16,384 units of work, with room for a binding while fewer than 8,192 are held. `Fails` has the other ways in which it
+-- ends.
+pub record Binds (S : State) (ρ : Environment) (pairs : List Pair) (bs : List Binding) : Type 0 where
+  pub work : ℕ
+  pub within : work ≤ 16384
+  pub comesTo : Reaches (rowOf S) mostLinks (λ made. leb 8192 (S .total + length made)) ρ work (unifying [] pairs) (unifying bs [])
+
 -- What a record that stands adds to the state, as the table of kinds has it: a symbol with its arity; a row; an input clause with its
--- literals, each 2 × row, plus 1 if positive; the clause of a step, over its parents; the window of a clause, and no clause. Arguments and literals are
--- on earliest rows.
+-- literals, each 2 × row, plus 1 if positive; the clause of a step, over its parents, with the bindings of its unification; the window of a clause, and no
+-- clause. Arguments and literals are on earliest rows.
 pub data Adds (S : State) (k : ℕ) (r : Record) (T : State) : Type 0 where
   addsSymbol : r .kind ≡ 1 → T ≡ withSymbol S k (r .count) → Adds S k r T
   addsVariable : {j : ℕ} → r .kind ≡ 2 → RecordOfRow S k (variable (fieldA r)) j → T ≡ withRow S j (variable (fieldA r)) → Adds S k r T
@@ -96,9 +105,10 @@ pub data Adds (S : State) (k : ℕ) (r : Record) (T : State) : Type 0 where
       → ((i : ℕ) (l : RowLiteral) → numbered ls (1 + i) ≡ some l → (row : ℕ) × (2 * row + pick (l .0) 1 0 ≡ fieldNumbered r i) × EarliestEqual S row (l .1))
       → T ≡ withClause S k (input (nextClause S) ls) → Adds S k r T
   addsResolvent : {left right : Derivation} {l : Literal} {ns : List ℕ} {ms : List Literal} {bs : List Binding} → Resolves S r left right l ns ms
+      → Binds S (joined (maximumIndex left) (lookup left) (lookup right)) (pairsWith (maximumIndex left) (l .1) (map (λ m. m .1) ms)) bs
       → T ≡ withClause S k (resolve (nextClause S) left (fieldB r) right ns bs) → Adds S k r T
   addsFactor : {parent : Derivation} {l m : Literal} {bs : List Binding} → Factors S r parent l m
-      → T ≡ withClause S k (factor (nextClause S) parent (fieldB r) (fieldC r) bs) → Adds S k r T
+      → Binds S (lookup parent) ((l .1, m .1) ∷ []) bs → T ≡ withClause S k (factor (nextClause S) parent (fieldB r) (fieldC r) bs) → Adds S k r T
   addsWindow : r .kind ≡ 8 → T ≡ withWindow S (record { clause = fieldA r; first = fieldB r; last = fieldC r }) → Adds S k r T
 
 -- An atom of a clause, written out.
