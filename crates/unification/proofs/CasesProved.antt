@@ -65,6 +65,7 @@ outlines-hold = record {
   lastPair = refl;
   pairTooMany = refl;
   unopenedCounts = refl;
+  equalNotOpened = refl;
   twoConstants = refl;
   oneConstant = refl;
   variableLeft = refl;

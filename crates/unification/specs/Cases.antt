@@ -132,12 +132,13 @@ pub record UnificationsHold : Type 0 where
 
 -- ── Outlines ──
 
--- Rows 29 to 0, newest first. Row 0 is v0, row 1 a constant; row 11 is a full tree of 2,047 occurrences over v0, and row 21 one over the constant, so
+-- Rows 31 to 0, newest first. Row 0 is v0, row 1 a constant; row 11 is a full tree of 2,047 occurrences over v0, and row 21 one over the constant, so
 -- that comparing them takes 2,047 pairs and finds no clash. Rows 22 and 23 are two more constants. The rows from 24 on, in pairs:
--- s4(t,t,a) and s4(u,u,b); s5(v0,t,t,a) and s5(c,u,u,b); s5(a,t,t,a) and s5(a,u,u,b), where t and u are the trees and c, a, b the constants.
+-- s4(t,t,a) and s4(u,u,b); s5(v0,t,t,a) and s5(c,u,u,b); s5(a,t,t,a) and s5(a,u,u,b); s5(t,t,t,a) and s5(u,t,t,b), where t and u are the trees and c, a, b the constants.
 abbrev pub outlineRows : List Row
 outlineRows =
-    application 5 (22 ∷ 21 ∷ 21 ∷ 23 ∷ []) ∷ application 5 (22 ∷ 11 ∷ 11 ∷ 22 ∷ []) ∷ application 5 (1 ∷ 21 ∷ 21 ∷ 23 ∷ []) ∷ application 5 (0 ∷ 11 ∷ 11 ∷ 22 ∷ [])
+    application 5 (21 ∷ 11 ∷ 11 ∷ 23 ∷ []) ∷ application 5 (11 ∷ 11 ∷ 11 ∷ 22 ∷ [])
+    ∷ application 5 (22 ∷ 21 ∷ 21 ∷ 23 ∷ []) ∷ application 5 (22 ∷ 11 ∷ 11 ∷ 22 ∷ []) ∷ application 5 (1 ∷ 21 ∷ 21 ∷ 23 ∷ []) ∷ application 5 (0 ∷ 11 ∷ 11 ∷ 22 ∷ [])
     ∷ application 4 (21 ∷ 21 ∷ 23 ∷ []) ∷ application 4 (11 ∷ 11 ∷ 22 ∷ []) ∷ application 3 [] ∷ application 2 []
     ∷ doubled 20 ∷ doubled 19 ∷ doubled 18 ∷ doubled 17 ∷ doubled 16 ∷ doubled 15 ∷ doubled 14 ∷ doubled 13 ∷ doubled 12 ∷ doubled 1
     ∷ doubled 10 ∷ doubled 9 ∷ doubled 8 ∷ doubled 7 ∷ doubled 6 ∷ doubled 5 ∷ doubled 4 ∷ doubled 3 ∷ doubled 2 ∷ doubled 0
@@ -149,6 +150,8 @@ pub record OutlinesHold : Type 0 where
   -- One pair more before it, and it is not; the pair more may be of equal rows, which are not opened.
   pub pairTooMany : outlinesClash (rowAt outlineRows) 26 27 ≡ false
   pub unopenedCounts : outlinesClash (rowAt outlineRows) 28 29 ≡ false
+  -- A pair of equal rows is one pair however large its term: with the two equal trees opened, the clash would be pair 6,143.
+  pub equalNotOpened : outlinesClash (rowAt outlineRows) 30 31 ≡ true
   -- Of two constants; of the same; of a variable and an application, on either side.
   pub twoConstants : outlinesClash (rowAt outlineRows) 22 23 ≡ true
   pub oneConstant : outlinesClash (rowAt outlineRows) 22 22 ≡ false
