@@ -16,7 +16,7 @@ use Rattle.unification.proofs.Limits.{work-16384}
 use Rattle.unification.proofs.Tests.{true-not-false}
 use Rattle.unification.proofs.Trees as trees
 use Rattle.derivation.specs.Derivation.{input, inputLiterals}
-use Rattle.verdict.specs.Cases.{recordOf, inputClause, nines, holding, Case, works, caseOf, cases, CasesHold, refusedForLength, LengthsHold}
+use Rattle.verdict.specs.Cases.{recordOf, inputClause, nines, holding, Case, works, caseOf, cases, StoredAsBytes, CasesHold, refusedForLength, LengthsHold}
 use Rattle.verdict.specs.Edges.{answerTo, ranges, unusedFields, outlines, severalLiterals, indexEdge, literalEdge, workEdge, eights, EdgesHold, WindowsHold, ShortTablesHold, TextsHold}
 use Rattle.verdict.specs.Readout.{linesOf, joinedLines, readout, readoutLines}
 use Rattle.verdict.specs.Refusal.{unification, mostLiterals, mostIndex}
@@ -98,6 +98,10 @@ computed = refl
 
 pub cases-hold : CasesHold
 cases-hold = ap (λ made. map (λ c. made (c .day) (c .file)) cases) (fun-ext (λ day. fun-ext (case-by day))) ∙ computed
+
+pub stored-as-bytes : StoredAsBytes
+unfolding fileBytes recordBytes
+stored-as-bytes = refl
 
 -- ── The edges of the limits ──
 

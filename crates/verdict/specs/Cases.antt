@@ -149,6 +149,22 @@ caseA = record {
       ∷ "4 3" ∷ []);
 }
 
+-- A's file in bytes: a list for each record, with zeros up to sixteen bytes.
+abbrev pub sixteenEach : List (List ℕ) → List ℕ
+sixteenEach [] = []
+sixteenEach (l ∷ ls) = l ++ (replicate (16 - length l) 0 ++ sixteenEach ls)
+
+abbrev pub storedA : List (List ℕ)
+storedA =
+    (1 ∷ 1 ∷ []) ∷ (1 ∷ 1 ∷ []) ∷ (1 ∷ 0 ∷ [])
+    ∷ (3 ∷ 0 ∷ 2 ∷ []) ∷ (3 ∷ 1 ∷ 0 ∷ 0 ∷ 0 ∷ 0 ∷ []) ∷ (2 ∷ 0 ∷ 0 ∷ []) ∷ (3 ∷ 1 ∷ 1 ∷ 0 ∷ 2 ∷ 0 ∷ [])
+    ∷ (3 ∷ 1 ∷ 0 ∷ 0 ∷ 2 ∷ 0 ∷ []) ∷ (3 ∷ 1 ∷ 0 ∷ 0 ∷ 3 ∷ 0 ∷ []) ∷ (3 ∷ 1 ∷ 1 ∷ 0 ∷ 0 ∷ 0 ∷ []) ∷ (3 ∷ 1 ∷ 0 ∷ 0 ∷ 6 ∷ 0 ∷ [])
+    ∷ (4 ∷ 1 ∷ 3 ∷ 0 ∷ []) ∷ (4 ∷ 2 ∷ 8 ∷ 0 ∷ 11 ∷ 0 ∷ []) ∷ (4 ∷ 1 ∷ 14 ∷ 0 ∷ [])
+    ∷ (5 ∷ 0 ∷ 0 ∷ 0 ∷ 1 ∷ 0 ∷ 1 ∷ 0 ∷ 1 ∷ 0 ∷ []) ∷ (5 ∷ 0 ∷ 3 ∷ 0 ∷ 1 ∷ 0 ∷ 2 ∷ 0 ∷ 1 ∷ 0 ∷ []) ∷ []
+
+abbrev pub StoredAsBytes : Type 0
+StoredAsBytes = caseA .file ≡ sixteenEach storedA
+
 -- B: the empty file is open.
 abbrev pub caseB : Case
 caseB = record {
