@@ -39,6 +39,7 @@ use Rattle.verdict.proofs.Reading.{ending-stands, reading-length, readi
 use Rattle.verdict.proofs.Refusals.{refused-condition, condition-refused, refused-lowest, refused-no-unifier, condition-number}
 use Rattle.verdict.proofs.Resolution.{resolvent-added, factor-added, unifiable-stands}
 use Rattle.verdict.proofs.Standing.{below, order-of, inputs-of, known-of, held-links}
+use Rattle.verdict.proofs.WrittenRows.{terms-stay}
 
 accepted-injective : {m n : ℕ} → accepted m ≡ accepted n → m ≡ n
 accepted-injective p = cc
@@ -383,6 +384,7 @@ module _ (day : ℕ) (file : List ℕ) (tables : Tables) where
   pub demand2 : (Y : Type 0) → Demand2 Y day file tables
   demand2 Y = record {
     declared = λ k S T r R q. step-adds S k r T (reached-seven file k S r R) q;
+    termsStay = λ k S T r R e. terms-stay S k r T e;
     followingEnds = following-ends file tables;
     writtenByLookup = λ S C n c q.
         let H = comes-ok file S C in

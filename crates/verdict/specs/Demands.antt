@@ -188,6 +188,9 @@ NoneEmpty Admitted S = (n : ℕ) (c : Derivation) → clauseOf S n ≡ some c �
 pub record Demand2 (Y : Type 0) (day : ℕ) (file : List ℕ) (tables : Tables) : Type 0 where
   -- What stands is what the file says.
   pub declared : (k : ℕ) (S T : State) (r : Record) → Reached file k S r → step S k r ≡ stands T → Adds S k r T
+  -- Terms stay: a row that there is before a record has the same term after it. So what is said of a clause in the state that its step came to holds in the
+  -- last one.
+  pub termsStay : (k : ℕ) (S T : State) (r : Record) → Reached file k S r → step S k r ≡ stands T → (q : ℕ) → q < length (rowsOf S) → termOf T q ≡ termOf S q
   -- Following an expression over rows that exist ends, in every clause of every state that reading comes to.
   pub followingEnds : (S : State) → ComesTo file S → (n : ℕ) (c : Derivation) → clauseOf S n ≡ some c → (e : Expression) → e .0 < length (rowsOf S)
       → Ends (follow (rowOf S) mostLinks (lookup c) e)
