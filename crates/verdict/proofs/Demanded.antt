@@ -22,10 +22,10 @@ use Rattle.derivation.proofs.Forms.{instances-formed}
 use Rattle.derivation.proofs.Known.{Under, known-uses}
 use Rattle.derivation.proofs.Literals.{uses-length, leb-false-lt}
 use Rattle.derivation.proofs.Values.{refutes, writes-out, writes-out-unique, values-exist, values-unique}
-use Rattle.verdict.specs.Conditions.{OneOf, LengthUnfit, lengthOver, notMultiple, TableShort, symbolsShort, rowsShort, clausesShort, bindingsShort, Condition, unknownKind, outsideRange, nothingThere, fallingLiterals, crossingDays, variableAsLiteral, unfitSigns, largeResult, clashingOutlines, clashing, occurring, overworking, overfull}
+use Rattle.verdict.specs.Conditions.{OneOf, LengthUnfit, lengthOver, notMultiple, TableShort, symbolsShort, rowsShort, clausesShort, bindingsShort, Condition, unknownKind, outsideRange, nothingThere, fallingLiterals, crossingDays, variableAsLiteral, unfitSigns, largeResult, clashingOutlines, clashing, occurring, overworking, overfull, precedence}
 use Rattle.verdict.specs.Demands.{ResolventAdded, Reached, ComesTo, Untouched, LeftBefore, Demand1, ConditionAt, ofLength, ofTables, ofRecord, Due, UsesInForce, LowestEmpty, NoneEmpty, Demand2, Refutation, Demand3}
 use Rattle.verdict.specs.Force.{usesInForce}
-use Rattle.verdict.specs.Refusal.{Reason, badLength, shortTable, reasonNumber, precedence}
+use Rattle.verdict.specs.Refusal.{Reason, badLength, shortTable, reasonNumber}
 use Rattle.verdict.specs.State.{State, emptyState, rowsOf, derivations, arityOf, clauseOf, rowOf, termOf}
 use Rattle.verdict.specs.Step.{refused, step, read, Ending, allStand, refusedAt, stateOf}
 use Rattle.verdict.specs.Tables.{Tables, lengthsOf, clauseCells, filledTables, tablesGiven, tablesAfter}

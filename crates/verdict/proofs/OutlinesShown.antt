@@ -15,9 +15,9 @@ use Rattle.unification.proofs.Outlines.{whole-comparison}
 use Rattle.unification.proofs.UnifiedOutlines.{ClashAmong, clash-here, clash-later, clash-not-unified}
 use Rattle.unification.proofs.Tests.{true-not-false}
 use Rattle.derivation.specs.Derivation.{Literal, Derivation, resolve, factor, pairsWith, maximumIndex, joined, lookup}
-use Rattle.verdict.specs.Conditions.{OneOf, OutlinesClash}
+use Rattle.verdict.specs.Conditions.{OneOf, OutlinesClash, precedence}
 use Rattle.verdict.specs.Outlines.{OutlinesBeforeUnification}
-use Rattle.verdict.specs.Refusal.{tests, outlineTests, outlinesOfResolve, outlinesAgree, onBoth, Reason, unification, reasonNumber, precedence, kindOfRecord, leftOf, rightNumbers, rightOf, deletedOf}
+use Rattle.verdict.specs.Refusal.{tests, outlineTests, outlinesOfResolve, outlinesAgree, onBoth, Reason, unification, reasonNumber, kindOfRecord, leftOf, rightNumbers, rightOf, deletedOf}
 use Rattle.verdict.specs.State.{State, rowOf, nextClause}
 use Rattle.verdict.specs.Step.{stands, refused, requireAll, step, stepWithoutOutlines, atoms, unifyResolve, unifyFactor, enterResolvent, enter}
 use Rattle.verdict.proofs.Inversions.{FirstFailing, AllPass, all-stand, all-refused, all-passed, named-stands, clause-added, refused-injective, tests-passed}

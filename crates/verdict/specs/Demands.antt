@@ -18,8 +18,8 @@ use Rattle.derivation.specs.Derivation.{literals, input, Literal, RowLiteral, D
 use Rattle.derivation.specs.Ground.{instances, Ground, Values, valueIn, WellFormedInstances, Assignment, AllTrue}
 use Rattle.derivation.specs.Textbook.{Resolvent, Factor}
 use Rattle.derivation.specs.Written.{written, substitution, renamed, WritesOut}
-use Rattle.verdict.specs.Conditions.{OneOf, fieldNumbered, LengthUnfit, TableShort, OutOfRange, RightLiterals, NotRising, Resolves, Factors, SignsUnfit, Condition}
-use Rattle.verdict.specs.Refusal.{Reason, reasonNumber, precedence}
+use Rattle.verdict.specs.Conditions.{OneOf, fieldNumbered, LengthUnfit, TableShort, OutOfRange, RightLiterals, NotRising, Resolves, Factors, SignsUnfit, Condition, precedence}
+use Rattle.verdict.specs.Refusal.{Reason, reasonNumber}
 use Rattle.verdict.specs.State.{State, emptyState, withSymbol, withRow, withClause, withWindow, entry, rowsOf, derivations, nextClause, arityOf, clauseOf, rowOf, termOf}
 use Rattle.verdict.specs.Step.{stands, refused, step, read, allStand, stateOf}
 use Rattle.verdict.specs.Tables.{Tables, lengthsOf, filledTables, tablesAfter}
