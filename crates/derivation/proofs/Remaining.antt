@@ -4,9 +4,10 @@ use mathlib.Core.Bool.{Bool, true, false, _||_}
 use mathlib.Core.List.{List, [], _∷_, map}
 use Prim.Native.Nat.{ℕ, zero, suc, _+_, _≤_, _<_}
 use native.Mathlib.Omega.{arith}
-use lib.Dec.{eqb, eqb→eq, eqb-refl}
+use lib.Dec.{eqb, eqb-refl}
 use Rattle.record.specs.Record.{pick}
-use Rattle.unification.proofs.Tests.{to-T, from-T}
+use Rattle.unification.proofs.Outlines.{numbers-differ}
+use Rattle.unification.proofs.Tests.{from-T}
 use Rattle.derivation.specs.Derivation.{without, withoutAll, StrictlyRising}
 use Rattle.derivation.specs.Textbook.{among, remaining}
 use Rattle.derivation.proofs.Literals.{rising-tail}
@@ -20,19 +21,12 @@ module _ {A B : Type 0} (f : A → B) where
       try true us q = q
       try false us q = ap (λ (r : List B). f x ∷ r) q
 
--- Numbers that differ, and numbers below those that rise.
-other-number : (m n : ℕ) → ¬ (m ≡ n) → eqb m n ≡ false
-other-number m n h = try (eqb m n) refl
-  where
-    try : (b : Bool) → eqb m n ≡ b → b ≡ false
-    try true q = absurd (h (eqb→eq m n (to-T (eqb m n) q)))
-    try false q = refl
-
+-- A number below those that rise is none of them.
 not-among : (m i : ℕ) (ns : List ℕ) → StrictlyRising (m ∷ ns) → i ≤ m → among i ns ≡ false
 not-among m i [] h l = refl
 not-among m i (n ∷ ns) h l =
     let j = h .0 in
-    λ k. other-number i n (λ q. omega arith) k || not-among n i ns (h .1) (omega arith) k
+    λ k. numbers-differ i n (λ q. omega arith) k || not-among n i ns (h .1) (omega arith) k
 
 module _ {A : Type 0} where
   nothing-out : (n : ℕ) (xs : List A) → remaining n [] xs ≡ xs
@@ -42,7 +36,7 @@ module _ {A : Type 0} where
   -- A number below that of the first literal takes nothing out.
   passed : (k n : ℕ) (ns : List ℕ) (xs : List A) → n ≤ k → remaining (suc k) (n ∷ ns) xs ≡ remaining (suc k) ns xs
   passed k n ns [] h = refl
-  passed k n ns (x ∷ xs) h = let q = passed (suc k) n ns xs (omega arith) in λ i. pick (other-number (suc k) n (λ e. omega arith) i || among (suc k) ns) (q i) (x ∷ q i)
+  passed k n ns (x ∷ xs) h = let q = passed (suc k) n ns xs (omega arith) in λ i. pick (numbers-differ (suc k) n (λ e. omega arith) i || among (suc k) ns) (q i) (x ∷ q i)
 
   without-zero : (xs : List A) → without xs 0 ≡ xs
   without-zero [] = refl
@@ -61,7 +55,7 @@ module _ {A : Type 0} where
       let f = not-among n (suc k) ns h (omega arith) in
       ap (λ b. without (pick b (remaining (suc (suc k)) ns xs) (x ∷ remaining (suc (suc k)) ns xs)) (suc (suc j))) f
       ∙ ap (λ (r : List A). x ∷ r) (one-out (suc k) (suc j) n ns xs (omega arith) h)
-      ∙ ap (λ b. pick b (remaining (suc (suc k)) (n ∷ ns) xs) (x ∷ remaining (suc (suc k)) (n ∷ ns) xs)) (sym (λ i. other-number (suc k) n (λ q. omega arith) i || f i))
+      ∙ ap (λ b. pick b (remaining (suc (suc k)) (n ∷ ns) xs) (x ∷ remaining (suc (suc k)) (n ∷ ns) xs)) (sym (λ i. numbers-differ (suc k) n (λ q. omega arith) i || f i))
 
   -- All named literals go, and no other.
   pub all-out : (xs : List A) (ns : List ℕ) → StrictlyRising ns → withoutAll xs ns ≡ remaining 1 ns xs
