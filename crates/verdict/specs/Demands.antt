@@ -8,13 +8,14 @@ use Prim.Native.Nat.{ℕ, _+_, _*_, _≤_, _<_}
 use lib.Dec.{leb}
 use lib.ListN.{length, getD, take, drop}
 use Rattle.record.specs.Record.{pick, Record, records, fieldA, fieldB, fieldC}
+use Rattle.unification.specs.Bindings.{bindingAt}
 use Rattle.unification.specs.Environment.{follow, Binding, Environment, Ends}
 use Rattle.unification.specs.Repeated.{IsEarliest}
 use Rattle.unification.specs.Row.{variable, Row, application, Expression, Variable, writtenOut}
 use Rattle.unification.specs.Term.{Term, apply}
 use Rattle.unification.specs.Unification.{mostLinks, Pair, unifying, Reaches}
 use Rattle.unification.specs.Unifier.{TermPair, Unifies, NoUnifier}
-use Rattle.derivation.specs.Derivation.{literals, input, Literal, RowLiteral, Derivation, resolve, factor, numbered, pairsWith, maximumIndex, joined, lookup, Use, uses}
+use Rattle.derivation.specs.Derivation.{literals, input, Literal, RowLiteral, Derivation, resolve, factor, numbered, pairsWith, maximumIndex, joined, lookup, ownBindings, Use, uses}
 use Rattle.derivation.specs.Ground.{instances, Ground, Values, valueIn, WellFormedInstances, Assignment, AllTrue}
 use Rattle.derivation.specs.Textbook.{Resolvent, Factor}
 use Rattle.derivation.specs.Written.{written, substitution, renamed, WritesOut}
@@ -22,8 +23,9 @@ use Rattle.verdict.specs.Conditions.{OneOf, fieldNumbered, LengthUnfit, 
 use Rattle.verdict.specs.Refusal.{Reason, reasonNumber}
 use Rattle.verdict.specs.State.{State, emptyState, withSymbol, withRow, withClause, withWindow, entry, rowsOf, derivations, nextClause, arityOf, clauseOf, rowOf, termOf}
 use Rattle.verdict.specs.Step.{stands, refused, step, read, allStand, stateOf}
-use Rattle.verdict.specs.Tables.{Tables, lengthsOf, filledTables, tablesAfter}
-use Rattle.verdict.specs.Verdict.{refusal, check, accepted, open′, answerOf, fittingLength, ending, Stands}
+use Rattle.verdict.specs.Tables.{Tables, lengthsOf, tablesAfter}
+use Rattle.verdict.specs.Total.{fifthCells}
+use Rattle.verdict.specs.Verdict.{refusal, check, accepted, open′, fittingLength, ending, Stands}
 
 -- Reading comes to record k, which is r: the file's length fits, and the records before it stand and leave the state S.
 pub record Reached (file : List ℕ) (k : ℕ) (S : State) (r : Record) : Type 0 where
@@ -46,11 +48,37 @@ pub data ComesTo (file : List ℕ) : State → Type 0 where
 -- That the program ends, stays inside what it was lent and answers by `check` and `tablesAfter` is its contract. Here: what these say
 -- of a file that is refused, and of one that is not.
 
+-- A table of which so many cells are filled: zero from there up to the named length, and from there on as it was. It is as long as it was.
+pub record FilledTo (named count : ℕ) (before after : List ℕ) : Type 0 where
+  pub sameLength : length after ≡ length before
+  pub zeroAfter : (i : ℕ) → count ≤ i → i < named → getD after i 0 ≡ 0
+  pub pastUntouched : (i : ℕ) → named ≤ i → getD after i 0 ≡ getD before i 0
+
+-- The five cells of clause n, whose record is k: record, literal count, maximum index, first binding, which is the count of bindings held before the clause,
+-- and number of bindings. Then the four cells of each of these, in the order in which they were added: variable row, its index, term row, its index.
+pub record ClauseHeld (clauses bindings : List ℕ) (n k : ℕ) (c : Derivation) : Type 0 where
+  pub recordCell : getD clauses (5 * n) 0 ≡ k
+  pub literalCount : getD clauses (5 * n + 1) 0 ≡ length (literals c)
+  pub index : getD clauses (5 * n + 2) 0 ≡ maximumIndex c
+  pub firstBinding : getD clauses (5 * n + 3) 0 ≡ fifthCells clauses n
+  pub bindingCount : getD clauses (5 * n + 4) 0 ≡ length (ownBindings c)
+  pub eachBinding : (i : ℕ) (b : Binding) → entry (ownBindings c) i ≡ some b → bindingAt bindings (fifthCells clauses n + i) ≡ b
+
+-- The tables hold exactly what a state has, and every cell is decided: the record of each symbol, that of each row, and each clause with its bindings.
+pub record TablesHold (S : State) (before after : Tables) : Type 0 where
+  pub eachSymbol : (s k arity : ℕ) → entry (S .symbols) s ≡ some (k, arity) → getD (after .symbols) s 0 ≡ k
+  pub eachRow : (q k : ℕ) (w : Row) → entry (S .rows) q ≡ some (k, w) → getD (after .rows) q 0 ≡ k
+  pub eachClause : (n k : ℕ) (c : Derivation) → entry (S .clauses) n ≡ some (k, c) → ClauseHeld (after .clauses) (after .bindings) n k c
+  pub symbolsTo : FilledTo 4096 (length (S .symbols)) (before .symbols) (after .symbols)
+  pub rowsTo : FilledTo 4096 (length (S .rows)) (before .rows) (after .rows)
+  pub clausesTo : FilledTo 20480 (5 * length (S .clauses)) (before .clauses) (after .clauses)
+  pub bindingsTo : FilledTo 32768 (4 * fifthCells (after .clauses) (length (S .clauses))) (before .bindings) (after .bindings)
+
 -- Refused with 1 or 2, for its length or the tables' lengths: record 0, counts 0, tables untouched.
 pub record Untouched (day : ℕ) (file : List ℕ) (tables : Tables) (reason : Reason) (k : ℕ) : Type 0 where
   pub number : OneOf (reasonNumber reason) (1 ∷ 2 ∷ [])
   pub record0 : k ≡ 0
-  pub counts : check day file (lengthsOf tables) ≡ answerOf (refusal reason 0) emptyState
+  pub counts : check day file (lengthsOf tables) ≡ record { verdict = refusal reason 0; symbols = 0; rows = 0; clauses = 0; bindings = 0 }
   pub tablesKept : tablesAfter file tables ≡ tables
 
 -- Refused at a record, with 3 or more: counts and tables are those of the state that the records before it leave, and of nothing else.
@@ -59,13 +87,25 @@ pub record LeftBefore (day : ℕ) (file : List ℕ) (tables : Tables) (reason : 
   pub state : State
   pub refusedRecord : Record
   pub reached : Reached file k state refusedRecord
-  pub counts : check day file (lengthsOf tables) ≡ answerOf (refusal reason k) state
-  pub tablesFilled : tablesAfter file tables ≡ filledTables state tables
+  pub counts : check day file (lengthsOf tables) ≡ record {
+    verdict = refusal reason k;
+    symbols = length (state .symbols);
+    rows = length (state .rows);
+    clauses = length (state .clauses);
+    bindings = state .total;
+  }
+  pub tablesHold : TablesHold state tables (tablesAfter file tables)
 
 -- Not refused: counts and tables are those of the state that all records leave.
 pub record LeftByAll (day : ℕ) (file : List ℕ) (tables : Tables) (S : State) : Type 0 where
-  pub counts : check day file (lengthsOf tables) ≡ answerOf (check day file (lengthsOf tables) .verdict) S
-  pub tablesFilled : tablesAfter file tables ≡ filledTables S tables
+  pub counts : check day file (lengthsOf tables) ≡ record {
+    verdict = check day file (lengthsOf tables) .verdict;
+    symbols = length (S .symbols);
+    rows = length (S .rows);
+    clauses = length (S .clauses);
+    bindings = S .total;
+  }
+  pub tablesHold : TablesHold S tables (tablesAfter file tables)
 
 pub record Demand1 (day : ℕ) (file : List ℕ) (tables : Tables) : Type 0 where
   -- A file that stands, with tables long enough, leaves the tables with exactly its records.
