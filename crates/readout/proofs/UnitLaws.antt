@@ -15,9 +15,9 @@ use Rattle.verdict.specs.State.{State, derivations, clauseOf}
 use Rattle.verdict.specs.Verdict.{check, Lengths}
 use Rattle.verdict.proofs.Inversions.{entry-below}
 use Rattle.answer.proofs.GivenNumbers.{stateLeft}
-use Rattle.readout.specs.Pieces.{units}
+use Rattle.readout.specs.Pieces.{units, unitsWithin}
 use Rattle.verdict.specs.Readout.{verdictLine, clauseLine, clauseLines, linesOf, readoutLines}
-use Rattle.readout.specs.Units.{unitsWithin, unitAt}
+use Rattle.readout.specs.Units.{unitAt}
 
 -- The lines of a file are those of the verdict and the state that its check leaves.
 pub lines-left : (day : ℕ) (F : List ℕ) (lengths : Lengths) → readoutLines day F lengths ≡ linesOf (check day F lengths .verdict) (stateLeft F lengths)
