@@ -1,6 +1,7 @@
 -- Document 01, "Verdict, tables and refusals": the condition stated for each number of the table, in the paper's words, by quantifiers.
 -- Nothing here goes by the tests of `Refusal`; that the check refuses exactly where a condition holds is part of demand 2. For 10 to 13 the condition is
--- of what unification comes to, by its own turns (`Failing`): the papers define these numbers so.
+-- of what unification comes to, by its own turns (`Failing`): the papers define these numbers so. And a clash of outlines is stated by position, but that it is
+-- found within 4,096 pairs by the turns of the comparison (`Compares`).
 use mathlib.Core.Path.{_≡_}
 use mathlib.Core.Logic.{_⊎_}
 use mathlib.Core.Option.{some}

@@ -252,6 +252,7 @@ pub record Demand2 (Y : Type 0) (day : ℕ) (file : List ℕ) (tables : Tables) 
   pub recordDue : (k : ℕ) (S : State) (r : Record) (reason : Reason) → Reached file k S r → step S k r ≡ refused reason
       → Condition S r (reasonNumber reason) × ((other : ℕ) → Condition S r other → precedence (reasonNumber reason) ≤ precedence other)
   pub refusals : (reason : Reason) (k : ℕ) → check day file (lengthsOf tables) .verdict ≡ refusal reason k → Due file tables (reasonNumber reason) k
+  -- Which numbers there are; it follows from `refusals`, as only these have a condition.
   pub statedNumbers : (reason : Reason) (k : ℕ) → check day file (lengthsOf tables) .verdict ≡ refusal reason k
       → OneOf (reasonNumber reason) (1 ∷ 2 ∷ 3 ∷ 4 ∷ 5 ∷ 7 ∷ 8 ∷ 9 ∷ 10 ∷ 11 ∷ 12 ∷ 13 ∷ 14 ∷ 16 ∷ [])
   -- Where a condition holds, the record is refused, and the file too, with its number or one that is given before it.
@@ -291,6 +292,7 @@ pub record Refutation (Admitted : Derivation → Type 0) (file : List ℕ) (tabl
 
 pub record Demand3 (day : ℕ) (file : List ℕ) (tables : Tables) : Type 0 where
   pub refuted : (n : ℕ) → check day file (lengthsOf tables) .verdict ≡ accepted n → (S : State) × Stands file S × Refutation (UsesInForce file day) file tables S n
-  -- All uses of the accepted clause are in force on the day.
+  -- All uses of the accepted clause are in force on the day. It follows from `refuted`, whose clause is admitted, and is stated by itself because document 02,
+  -- Q-6, asks for it by name.
   pub inForce : (n : ℕ) → check day file (lengthsOf tables) .verdict ≡ accepted n → (S : State) → Stands file S → (c : Derivation) → clauseOf S n ≡ some c
       → (u : Use) → OneOf u (uses c) → InForce file day (u .0)
