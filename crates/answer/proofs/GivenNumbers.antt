@@ -5,7 +5,7 @@ use Prim.Native.Nat.{ℕ}
 use lib.ListN.{length, getD, drop}
 use Rattle.verdict.specs.State.{State}
 use Rattle.verdict.specs.Verdict.{Verdict, accepted, open′, refusal, verdictNumbers, answerNumbers, check, Lengths, reading, stateGiven}
-use Rattle.answer.specs.Given.{verdictGiven, answerGiven}
+use Rattle.answer.specs.Given.{verdictCoded, answerGiven}
 use Rattle.answer.specs.declared.Answer.{Answer}
 use Rattle.answer.specs.declared.Verdict as given
 use Rattle.answer.specs.declared.Verdict.the-variants as given-variants
@@ -19,7 +19,7 @@ unfolding check
 counts-left day F lengths = refl
 
 -- The verdict's numbers and the counts, taken apart.
-rest-given : (v : given.Verdict) (xs : List ℕ) → drop 3 (verdictGiven v ++ xs) ≡ xs
+rest-given : (v : given.Verdict) (xs : List ℕ) → drop 3 (verdictCoded v ++ xs) ≡ xs
 rest-given given-variants.Open xs = refl
 rest-given (given-variants.Accepted n) xs = refl
 rest-given (given-variants.Refused q k) xs = refl
@@ -32,7 +32,7 @@ rest-numbers (refusal reason k) xs = refl
 abbrev three : List ℕ → List ℕ
 three l = getD l 0 0 ∷ getD l 1 0 ∷ getD l 2 0 ∷ []
 
-three-given : (v : given.Verdict) (xs : List ℕ) → three (verdictGiven v ++ xs) ≡ verdictGiven v
+three-given : (v : given.Verdict) (xs : List ℕ) → three (verdictCoded v ++ xs) ≡ verdictCoded v
 three-given given-variants.Open xs = refl
 three-given (given-variants.Accepted n) xs = refl
 three-given (given-variants.Refused q k) xs = refl
@@ -43,7 +43,7 @@ three-numbers open′ xs = refl
 three-numbers (refusal reason k) xs = refl
 
 module _ (day : ℕ) (F : List ℕ) (lengths : Lengths) (a : Answer) (isAnswer : answerGiven a ≡ answerNumbers (check day F lengths)) where
-  pub verdict-given : verdictGiven (a .verdict) ≡ verdictNumbers (check day F lengths .verdict)
+  pub verdict-given : verdictCoded (a .verdict) ≡ verdictNumbers (check day F lengths .verdict)
   verdict-given =
       sym (three-given (a .verdict) (a .symbols ∷ a .rows ∷ a .clauses ∷ a .bindings ∷ []))
       ∙ ap three isAnswer

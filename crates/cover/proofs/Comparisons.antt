@@ -22,7 +22,7 @@ use Rattle.verdict.specs.Verdict.{Verdict, refusal, verdictNumbers, check, Answ
 use Rattle.verdict.proofs.Demanded.{not-refused, stands-check, tables-fail, long-enough}
 use Rattle.verdict.proofs.Inversions.{entry-some}
 use Rattle.verdict.proofs.Reading.{ending-stands, reading-records}
-use Rattle.answer.specs.Given.{verdictGiven}
+use Rattle.answer.specs.Given.{verdictCoded}
 use Rattle.answer.specs.declared.Answer as answer
 use Rattle.answer.specs.declared.Verdict as verdict
 use Rattle.answer.specs.declared.Verdict.the-variants as verdicts
@@ -107,12 +107,12 @@ module _ (N O : List ℕ) (term : ℕ → Term ℕ) (H : TermsOf N term) (c d le
 -- ── After a check ──
 
 -- The verdict of a file that is not refused, and of one that is.
-stands-not-refused : (v : verdict.Verdict) (w : Verdict) → verdictGiven v ≡ verdictNumbers w → verdictStands v ≡ true → (q : Reason) (k : ℕ) → ¬ (w ≡ refusal q k)
+stands-not-refused : (v : verdict.Verdict) (w : Verdict) → verdictCoded v ≡ verdictNumbers w → verdictStands v ≡ true → (q : Reason) (k : ℕ) → ¬ (w ≡ refusal q k)
 stands-not-refused verdicts.Open w e t q k f = let z : _≡_ {A = ℕ} 0 2 = ap (λ (l : List ℕ). getD l 0 0) (e ∙ ap verdictNumbers f) in omega arith
 stands-not-refused (verdicts.Accepted n) w e t q k f = let z : _≡_ {A = ℕ} 1 2 = ap (λ (l : List ℕ). getD l 0 0) (e ∙ ap verdictNumbers f) in omega arith
 stands-not-refused (verdicts.Refused r j) w e t q k f = true-not-false t refl
 
-refused-not-standing : (v : verdict.Verdict) (o : Option ℕ) → verdictGiven v ≡ verdictNumbers (standing o) → verdictStands v ≡ false → ⊥
+refused-not-standing : (v : verdict.Verdict) (o : Option ℕ) → verdictCoded v ≡ verdictNumbers (standing o) → verdictStands v ≡ false → ⊥
 refused-not-standing verdicts.Open o e t = true-not-false refl t
 refused-not-standing (verdicts.Accepted n) o e t = true-not-false refl t
 refused-not-standing (verdicts.Refused r j) none e t = let z : _≡_ {A = ℕ} 2 0 = ap (λ (l : List ℕ). getD l 0 0) e in omega arith
@@ -200,7 +200,7 @@ module _ (file : List ℕ) (before : Tables) (c d : ℕ) (S : State) (C D : List
 -- ── The ways of the program ──
 
 module _ (CL N O : List ℕ) (a : answer.Answer) (c d : ℕ) (R : AfterCheck CL N O a) where
-  given-verdict : verdictGiven (a .verdict) ≡ verdictNumbers (check (R .day) (R .file) (lengthsOf (R .before)) .verdict)
+  given-verdict : verdictCoded (a .verdict) ≡ verdictNumbers (check (R .day) (R .file) (lengthsOf (R .before)) .verdict)
   given-verdict = verdict-given (R .day) (R .file) (lengthsOf (R .before)) a (R .checked .checked .answer)
 
   -- The file does not stand.

@@ -23,7 +23,7 @@ use Rattle.verdict.specs.Refusal.{unification, mostLiterals, mostIndex}
 use Rattle.verdict.specs.State.{State, emptyState, derivations}
 use Rattle.verdict.specs.Step.{Ending, allStand, refusedAt, require, requireAll, enter, onNamed, step, read, addClause, stateOf}
 use Rattle.verdict.specs.Tables.{Tables, lengthsOf, symbolCells, rowCells, clauseCells, bindingCells, filled, filledTables, tablesGiven, tablesAfter}
-use Rattle.verdict.specs.Verdict.{refusal, verdictOf, named, check, answerNumbers, longEnough, answerOf, verdictGiven, stateGiven, Lengths, fittingLength, ending, Reading, untouched, readTo, reading}
+use Rattle.verdict.specs.Verdict.{refusal, verdictOf, leastLengths, check, answerNumbers, longEnough, answerOf, verdictGiven, stateGiven, Lengths, fittingLength, ending, Reading, untouched, readTo, reading}
 use Rattle.verdict.proofs.Demanded.{length-only}
 use Rattle.verdict.proofs.Reading.{reading-records, read-on}
 
@@ -150,7 +150,7 @@ numbers (refusedAt S reason k) = refl
 answered : (rs : List Record) → fittingLength (length (fileBytes rs)) ≡ true → answerTo rs ≡ numbersOf (ending (fileBytes rs))
 unfolding check
 answered rs fits =
-    ap (λ r. answerNumbers (answerOf (verdictGiven 0 r) (stateGiven r))) (reading-records (fileBytes rs) named fits refl) ∙ numbers (ending (fileBytes rs))
+    ap (λ r. answerNumbers (answerOf (verdictGiven 0 r) (stateGiven r))) (reading-records (fileBytes rs) leastLengths fits refl) ∙ numbers (ending (fileBytes rs))
 
 -- The state before the two steps of `workEdge`.
 abbrev edgeState : State
