@@ -12,7 +12,7 @@ use borrow.Author.Tests.{eq-eqb, ne-eqb}
 use Rattle.record.specs.Record.{pick}
 use Rattle.unification.proofs.Tests.{to-T}
 use Rattle.derivation.specs.Stored.{literalsCell}
-use Rattle.answer.specs.Given.{verdictGiven, answerGiven, numbersWith, untouchedNumbers, accepts, firstAccepted, standingNumbers, allSet, endedNumbers}
+use Rattle.answer.specs.Given.{verdictCoded, answerGiven, numbersWith, untouchedNumbers, accepts, firstAccepted, standingNumbers, allSet, endedNumbers}
 use Rattle.verdict.specs.Verdict.{verdictNumbers, standing}
 use Rattle.verdict.proofs.Inversions.{not-below}
 use Rattle.force.specs.Flags.{flagsInForce}
@@ -43,7 +43,7 @@ first-stays C L c (suc n) q l = try (ltb c n) refl (λ m. first-stays C L c n q 
     try false p ih = let m : n ≤ c = not-below c n p in let z : n ≡ c = omega arith in ap (λ (x : ℕ). firstAccepted C L (suc x)) z ∙ q
 
 module _ (C L : List ℕ) (c : ℕ) (none-before : firstAccepted C L c ≡ none) (b : Bool) (isAccepted : b ≡ accepts C L c) where
-  pub first-found : (count : ℕ) → c < count → b ≡ true → verdictGiven (verdict.Accepted c) ≡ standingNumbers C L count
+  pub first-found : (count : ℕ) → c < count → b ≡ true → verdictCoded (verdict.Accepted c) ≡ standingNumbers C L count
   first-found count l z =
       let hit : firstAccepted C L (suc c) ≡ some c = ap (nextAccepted C L c) none-before ∙ ap (λ (x : Bool). pick x (some c) none) (sym isAccepted ∙ z) in
       ap (λ (o : Option ℕ). verdictNumbers (standing o)) (sym (first-stays C L c count hit (omega arith)))
@@ -51,7 +51,7 @@ module _ (C L : List ℕ) (c : ℕ) (none-before : firstAccepted C L c ≡ none)
   pub none-yet : b ≡ false → firstAccepted C L (c + 1) ≡ none
   none-yet z = ap (firstAccepted C L) (add-one c) ∙ ap (nextAccepted C L c) none-before ∙ ap (λ (x : Bool). pick x (some c) none) (sym isAccepted ∙ z)
 
-pub none-found : (C L : List ℕ) (c count : ℕ) → firstAccepted C L c ≡ none → c ≤ count → count ≤ c → verdictGiven verdict.Open ≡ standingNumbers C L count
+pub none-found : (C L : List ℕ) (c count : ℕ) → firstAccepted C L c ≡ none → c ≤ count → count ≤ c → verdictCoded verdict.Open ≡ standingNumbers C L count
 none-found C L c count q l m =
     let z : c ≡ count = omega arith in
     ap (λ (o : Option ℕ). verdictNumbers (standing o)) (sym (ap (firstAccepted C L) (sym z) ∙ q))
@@ -60,7 +60,7 @@ none-found C L c count q l m =
 abbrev made : Verdict → Counts → Answer
 made v n = record { verdict = v; symbols = n .symbols; rows = n .rows; clauses = n .clauses; bindings = n .bindings }
 
-pub all-numbers : (day : ℕ) (F : List ℕ) (e : Ended) (n : Counts) (C O : List ℕ) (v : Verdict) (a : Answer) → e ≡ All n → verdictGiven v ≡ standingNumbers C (flagsInForce day F O (n .clauses) allSet) (n .clauses) → a ≡ made v n → answerGiven a ≡ endedNumbers day F e C O
+pub all-numbers : (day : ℕ) (F : List ℕ) (e : Ended) (n : Counts) (C O : List ℕ) (v : Verdict) (a : Answer) → e ≡ All n → verdictCoded v ≡ standingNumbers C (flagsInForce day F O (n .clauses) allSet) (n .clauses) → a ≡ made v n → answerGiven a ≡ endedNumbers day F e C O
 all-numbers day F e n C O v a p q r = ap answerGiven r ∙ ap (λ (x : List ℕ). numbersWith x n) q ∙ sym (ap (λ (x : Ended). endedNumbers day F x C O) p)
 
 pub refused-numbers : (day : ℕ) (F : List ℕ) (e : Ended) (q k : ℕ) (n : Counts) (C O : List ℕ) (a : Answer) → e ≡ Refused q k n → a ≡ made (verdict.Refused q k) n → answerGiven a ≡ endedNumbers day F e C O

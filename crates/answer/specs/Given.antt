@@ -17,10 +17,10 @@ use Rattle.answer.specs.declared.Verdict.{Verdict}
 use Rattle.answer.specs.declared.Verdict.the-variants as verdict
 
 -- The verdict's three numbers and the counts.
-abbrev pub verdictGiven : Verdict → List ℕ
-verdictGiven verdict.Open = 0 ∷ 0 ∷ 0 ∷ []
-verdictGiven (verdict.Accepted n) = 1 ∷ n ∷ 0 ∷ []
-verdictGiven (verdict.Refused q k) = 2 ∷ q ∷ k ∷ []
+abbrev pub verdictCoded : Verdict → List ℕ
+verdictCoded verdict.Open = 0 ∷ 0 ∷ 0 ∷ []
+verdictCoded (verdict.Accepted n) = 1 ∷ n ∷ 0 ∷ []
+verdictCoded (verdict.Refused q k) = 2 ∷ q ∷ k ∷ []
 
 -- Whether all records stand: the verdict is no refusal.
 abbrev pub verdictStands : Verdict → Bool
@@ -29,7 +29,7 @@ verdictStands (verdict.Accepted n) = true
 verdictStands (verdict.Refused number k) = false
 
 abbrev pub answerGiven : Answer → List ℕ
-answerGiven a = verdictGiven (a .verdict) ++ (a .symbols ∷ a .rows ∷ a .clauses ∷ a .bindings ∷ [])
+answerGiven a = verdictCoded (a .verdict) ++ (a .symbols ∷ a .rows ∷ a .clauses ∷ a .bindings ∷ [])
 
 abbrev pub numbersWith : List ℕ → Counts → List ℕ
 numbersWith v n = v ++ (n .symbols ∷ n .rows ∷ n .clauses ∷ n .bindings ∷ [])

@@ -11,7 +11,7 @@ use tables::cell;
 ghost use mathlib.Core.Path.{_≡_};
 ghost use lib.ListN.{length};
 ghost use Rattle.force.specs.Flags.{flagsInForce};
-ghost use Rattle.answer.specs.Given.{verdictGiven, verdictStands, answerGiven, untouchedNumbers, endedNumbers, standingNumbers, accepts, allSet};
+ghost use Rattle.answer.specs.Given.{verdictCoded, verdictStands, answerGiven, untouchedNumbers, endedNumbers, standingNumbers, accepts, allSet};
 
 // All records stand, with the counts after the last; or one is refused: its reason's number, its own, and the counts before it.
 pub enum Ended {
@@ -59,7 +59,7 @@ fn is_accepted(clauses: &[u16], flags: &[u16], c: u16) -> bool
 
 // The first clause without literals among those in force.
 fn first_accepted(clauses: &[u16], flags: &[u16], count: u16) -> Verdict
-    ensures { λ v. ⌜ verdictGiven v ≡ standingNumbers (now (clauses .entry)) (now (flags .entry)) count ⌝ }
+    ensures { λ v. ⌜ verdictCoded v ≡ standingNumbers (now (clauses .entry)) (now (flags .entry)) count ⌝ }
 {
     let mut c = 0u16;
     while c < count {
@@ -74,7 +74,7 @@ fn first_accepted(clauses: &[u16], flags: &[u16], count: u16) -> Verdict
 // The verdict on a file whose records all stand, on a day: flags say which clauses are in force.
 fn standing(day: u16, file: &[u8], clauses: &[u16], origins: &Origins, count: u16) -> Verdict
     requires { ⌜ length (now origins) ≡ 32768 ⌝ }
-    ensures { λ v. ⌜ verdictGiven v ≡ standingNumbers (now (clauses .entry)) (flagsInForce day (now (file .entry)) (now (origins .entry)) count allSet) count ⌝ }
+    ensures { λ v. ⌜ verdictCoded v ≡ standingNumbers (now (clauses .entry)) (flagsInForce day (now (file .entry)) (now (origins .entry)) count allSet) count ⌝ }
 {
     let mut flags = [1u16; 4096];
     in_force(day, file, origins, count, &mut flags);

@@ -2,7 +2,7 @@
 use super::Verdict;
 ghost use mathlib.Core.Path.{_≡_};
 ghost use mathlib.Core.List.{[], _∷_};
-ghost use Rattle.answer.specs.Given.{verdictGiven};
+ghost use Rattle.answer.specs.Given.{verdictCoded};
 
 // A verdict in numbers: 0 open, 1 accepted, 2 refused; the clause or the reason; the record.
 pub struct Numbers {
@@ -13,7 +13,7 @@ pub struct Numbers {
 
 // The numbers of a verdict.
 pub fn verdict_numbers(v: Verdict) -> Numbers
-    ensures { λ n. ⌜ (n .kind ∷ n .what ∷ n .record ∷ []) ≡ verdictGiven v ⌝ }
+    ensures { λ n. ⌜ (n .kind ∷ n .what ∷ n .record ∷ []) ≡ verdictCoded v ⌝ }
 {
     match v {
         Verdict::Open => Numbers {

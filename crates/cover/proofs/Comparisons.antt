@@ -22,7 +22,7 @@ use Rattle.verdict.specs.Verdict.{Verdict, refusal, verdictNumbers, check, Answ
 use Rattle.verdict.proofs.Demanded.{not-refused, stands-check, tables-fail, long-enough}
 use Rattle.verdict.proofs.Inversions.{entry-some}
 use Rattle.verdict.proofs.Reading.{ending-stands, reading-records}
-use Rattle.answer.specs.Given.{verdictGiven, verdictStands}
+use Rattle.answer.specs.Given.{verdictCoded, verdictStands}
 use Rattle.answer.specs.declared.Answer as answer
 use Rattle.answer.proofs.GivenNumbers.{verdict-given, clauses-given, stands-not-refused, refused-not-standing}
 use Rattle.entry.specs.Progress.{ReadTo, tablesWith}
@@ -186,7 +186,7 @@ module _ (file : List ℕ) (before : Tables) (c d : ℕ) (S : State) (C D : List
 -- ── The ways of the program ──
 
 module _ (CL N O : List ℕ) (a : answer.Answer) (c d : ℕ) (R : AfterCheck CL N O a) where
-  given-verdict : verdictGiven (a .verdict) ≡ verdictNumbers (check (R .day) (R .file) (lengthsOf (R .before)) .verdict)
+  given-verdict : verdictCoded (a .verdict) ≡ verdictNumbers (check (R .day) (R .file) (lengthsOf (R .before)) .verdict)
   given-verdict = verdict-given (R .day) (R .file) (lengthsOf (R .before)) a (R .checked .checked .answer)
 
   -- The file does not stand.

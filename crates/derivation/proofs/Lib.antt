@@ -1,4 +1,5 @@
 pub mod Literals
+pub mod Remaining
 pub mod Validity
 pub mod Truth
 pub mod Substitutions

@@ -13,12 +13,13 @@ use Rattle.unification.specs.Unifier.{Unifies}
 use Rattle.unification.proofs.Lists.{map-map, map-append}
 use Rattle.unification.proofs.Terms.{apply-ext, apply-apply, apply-agree, variables-more}
 use Rattle.unification.proofs.Tests.{some-not-none, some-injective}
-use Rattle.derivation.specs.Derivation.{numbered, without, numberedAll, withoutAll, raise}
+use Rattle.derivation.specs.Derivation.{numbered, numberedAll, raise}
 use Rattle.derivation.specs.Ground.{Ground, GroundLiteral}
 use Rattle.derivation.specs.Lifting.{GroundClause, groundInstance, InstanceOf, GroundResolvent, GroundFactor}
-use Rattle.derivation.specs.Textbook.{instantiated, ClauseVariables, Resolvent, Factor}
+use Rattle.derivation.specs.Textbook.{remaining, instantiated, ClauseVariables, Resolvent, Factor}
 use Rattle.derivation.specs.Written.{Clause, renamed}
-use Rattle.derivation.proofs.Literals.{In, numbered-cons, numbered-all-cons, map-without, map-numbered, map-without-all, map-numbered-all, leb-true, leb-false}
+use Rattle.derivation.proofs.Literals.{In, numbered-cons, numbered-all-cons, map-numbered, map-numbered-all, leb-true, leb-false}
+use Rattle.derivation.proofs.Remaining.{map-remaining}
 
 -- A numbered literal of a list that was gone through is what became of a numbered literal.
 module _ {A B : Type 0} (f : A → B) where
@@ -99,10 +100,10 @@ module _ (m n : ℕ) (C D E : Clause) (a : ℕ) (bs : List ℕ) (inC : ClauseVar
   resolvent-lifted R = (
     υ,
     G .result
-        ∙ ap₂ (λ (X Y : GroundClause). without X a ++ withoutAll Y bs) (sym (instance-left m γ δ C inC)) (sym (instance-right m γ δ n D inD))
-        ∙ ap₂ (λ (X Y : GroundClause). X ++ Y) (sym (map-without ground C a)) (sym (map-without-all ground (instantiated (renamed m) D) bs))
-        ∙ sym (map-append ground (without C a) (withoutAll (instantiated (renamed m) D) bs))
-        ∙ instance-through υ (R .unifier) (R .mostGeneral .general υ made-one) (without C a ++ withoutAll (instantiated (renamed m) D) bs)
+        ∙ ap₂ (λ (X Y : GroundClause). remaining 1 (a ∷ []) X ++ remaining 1 bs Y) (sym (instance-left m γ δ C inC)) (sym (instance-right m γ δ n D inD))
+        ∙ ap₂ (λ (X Y : GroundClause). X ++ Y) (sym (map-remaining ground 1 (a ∷ []) C)) (sym (map-remaining ground 1 bs (instantiated (renamed m) D)))
+        ∙ sym (map-append ground (remaining 1 (a ∷ []) C) (remaining 1 bs (instantiated (renamed m) D)))
+        ∙ instance-through υ (R .unifier) (R .mostGeneral .general υ made-one) (remaining 1 (a ∷ []) C ++ remaining 1 bs (instantiated (renamed m) D))
         ∙ ap (groundInstance υ) (sym (R .result)),
   )
     where
@@ -126,8 +127,8 @@ module _ (C E : Clause) (a b : ℕ) (γ : Variable → Ground) (F : GroundClause
   factor-lifted R = (
     γ,
     G .result
-        ∙ sym (map-without ground C b)
-        ∙ instance-through γ (R .unifier) (R .mostGeneral .general γ (is-left ∙ sym is-right, tt)) (without C b)
+        ∙ sym (map-remaining ground 1 (b ∷ []) C)
+        ∙ instance-through γ (R .unifier) (R .mostGeneral .general γ (is-left ∙ sym is-right, tt)) (remaining 1 (b ∷ []) C)
         ∙ ap (groundInstance γ) (sym (R .result)),
   )
     where

@@ -21,6 +21,7 @@ use Rattle.derivation.specs.Derivation.{literals, Literal, Derivation, r
 use Rattle.derivation.specs.Textbook.{instantiated, Resolvent, Factor, ClauseVariables, StandardizedApart}
 use Rattle.derivation.specs.Written.{written, Clause, substitution, renamed, joinedSubstitution, writtenLiteral}
 use Rattle.derivation.proofs.Literals.{In, map-without, map-numbered, map-without-all, map-numbered-all, each-numbered, each-without, each-without-all, LiteralIn, literals-in}
+use Rattle.derivation.proofs.Remaining.{all-out, named-out}
 use Rattle.derivation.proofs.Substitutions.{written-left, written-right, solved-joined, lookup-solved}
 use Rattle.derivation.proofs.Unifiers.{writtenPairs, unifier, no-unifier, value-after, most-general}
 use Rattle.derivation.proofs.Validity.{Unified, Valid, signed, kept-joined, right-in, resolve-in, lookup-in}
@@ -172,7 +173,7 @@ module _ (row : ℕ → Row) (term : ℕ → Term ℕ) (termLaw : (r : ℕ) → 
           unifier = θ;
           mostGeneral = subst (MostGeneralUnifier Y θ) pairs-written (most-general row term termLaw (In (m + n)) base both S arities (pairsWith m e ds) bs u κ κp Y);
           result = written-then term both (composed term both bs) θ (m + n) (value-after row term termLaw (In (m + n)) base both S arities (pairsWith m e ds) bs u κ κp) (literals (resolve number l a r ns bs)) (literals-in (resolve number l a r ns bs))
-              ∙ ap (instantiated θ) (map-append (writtenLiteral term both) (without (literals l) a) (map (raiseLiteral m) (withoutAll (literals r) ns)) ∙ ap₂ (λ (x y : Clause). x ++ y) left-part right-part);
+              ∙ ap (instantiated θ) (map-append (writtenLiteral term both) (without (literals l) a) (map (raiseLiteral m) (withoutAll (literals r) ns)) ∙ ap₂ (λ (x y : Clause). x ++ y) (left-part ∙ named-out (written term l) a) (right-part ∙ all-out (instantiated (renamed m) (written term r)) ns rise));
         }
 
   module _ (c : Derivation) (K : Valid row c) (a b : ℕ) (s : Bool) (e d : Expression) (p : numbered (literals c) a ≡ some (s, e)) (q : numbered (literals c) b ≡ some (s, d)) where
@@ -211,5 +212,5 @@ module _ (row : ℕ → Row) (term : ℕ → Term ℕ) (termLaw : (r : ℕ) → 
         unifier = φ;
         mostGeneral = most-general row term termLaw (In N) (lookup c) (substitution term c) Sc arities ((e, d) ∷ []) bs u κc (ie, id, tt) Y;
         result = written-then term (substitution term c) (composed term (substitution term c) bs) φ N (value-after row term termLaw (In N) (lookup c) (substitution term c) Sc arities ((e, d) ∷ []) bs u κc (ie, id, tt)) (without (literals c) b) (each-without (LiteralIn N) (literals c) b (literals-in c))
-            ∙ ap (instantiated φ) (map-without (writtenLiteral term (substitution term c)) (literals c) b);
+            ∙ ap (instantiated φ) (map-without (writtenLiteral term (substitution term c)) (literals c) b ∙ named-out (written term c) b);
       }

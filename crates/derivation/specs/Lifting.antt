@@ -2,12 +2,13 @@
 use mathlib.Core.Path.{_≡_}
 use mathlib.Core.Bool.{Bool, not}
 use mathlib.Core.Option.{some}
-use mathlib.Core.List.{List, _++_, map}
+use mathlib.Core.List.{List, [], _∷_, _++_, map}
 use Prim.Native.Nat.{ℕ}
 use Rattle.unification.specs.Row.{Variable}
 use Rattle.unification.specs.Term.{apply}
-use Rattle.derivation.specs.Derivation.{numbered, without, numberedAll, withoutAll}
+use Rattle.derivation.specs.Derivation.{numbered, numberedAll}
 use Rattle.derivation.specs.Ground.{Ground, GroundLiteral}
+use Rattle.derivation.specs.Textbook.{remaining}
 use Rattle.derivation.specs.Written.{Clause}
 
 -- A clause without variables.
@@ -29,7 +30,7 @@ pub record GroundResolvent (G : GroundClause) (a : ℕ) (H : GroundClause) (bs :
   pub atom : Ground
   pub isLeft : numbered G a ≡ some (sign, atom)
   pub areRight : numberedAll H bs ≡ some (map (λ b. (not sign, atom)) bs)
-  pub result : E ≡ without G a ++ withoutAll H bs
+  pub result : E ≡ remaining 1 (a ∷ []) G ++ remaining 1 bs H
 
 -- The literals numbered a and b of G have one atom and one sign; E is G without the latter.
 pub record GroundFactor (G : GroundClause) (a b : ℕ) (E : GroundClause) : Type 0 where
@@ -38,4 +39,4 @@ pub record GroundFactor (G : GroundClause) (a b : ℕ) (E : GroundClause) : Type
   pub isKept : numbered G a ≡ some (sign, atom)
   pub isDeleted : numbered G b ≡ some (sign, atom)
   pub different : ¬ (a ≡ b)
-  pub result : E ≡ without G b
+  pub result : E ≡ remaining 1 (b ∷ []) G

@@ -1,14 +1,26 @@
 -- Resolution and factoring as document 004 has them, for either sign: the remaining literals, in order, under a most general unifier.
 use mathlib.Core.Path.{_≡_}
-use mathlib.Core.Bool.{Bool, not}
+use mathlib.Core.Bool.{Bool, false, _||_, not}
 use mathlib.Core.Option.{some}
 use mathlib.Core.List.{List, [], _∷_, _++_, map}
-use Prim.Native.Nat.{ℕ, _≤_, _<_}
+use Prim.Native.Nat.{ℕ, suc, _≤_, _<_}
+use lib.Dec.{eqb}
+use Rattle.record.specs.Record.{pick}
 use Rattle.unification.specs.Row.{Variable}
 use Rattle.unification.specs.Term.{Term, var, apply, Variables}
 use Rattle.unification.specs.Unifier.{MostGeneralUnifier}
-use Rattle.derivation.specs.Derivation.{numbered, without, numberedAll, withoutAll, StrictlyRising}
+use Rattle.derivation.specs.Derivation.{numbered, numberedAll, StrictlyRising}
 use Rattle.derivation.specs.Written.{Clause}
+
+-- The remaining literals, in order: the literals of a list are gone through, the first of them with number n, and each whose number is among ns goes. It
+-- does not go by `without` and `withoutAll`, by which the literals of a derivation are defined.
+abbrev pub among : ℕ → List ℕ → Bool
+among n [] = false
+among n (m ∷ ns) = eqb n m || among n ns
+
+abbrev pub remaining {ℓ} : {A : Type ℓ} → ℕ → List ℕ → List A → List A
+remaining n ns [] = []
+remaining n ns (l ∷ ls) = pick (among n ns) (remaining (suc n) ns ls) (l ∷ remaining (suc n) ns ls)
 
 -- A substitution applied to a clause.
 abbrev pub instantiated : (Variable → Term Variable) → Clause → Clause
@@ -42,7 +54,7 @@ pub record Resolvent (Y : Type 0) (rename : Variable → Term Variable) (C : Cla
   pub areRight : numberedAll (instantiated rename D) bs ≡ some (map (λ t. (not sign, t)) rights)
   pub unifier : Variable → Term Variable
   pub mostGeneral : MostGeneralUnifier Y unifier (map (λ t. (left, t)) rights)
-  pub result : E ≡ instantiated unifier (without C a ++ withoutAll (instantiated rename D) bs)
+  pub result : E ≡ instantiated unifier (remaining 1 (a ∷ []) C ++ remaining 1 bs (instantiated rename D))
 
 -- E is the factor of C that keeps literal a and deletes literal b, with the unifier as in a resolvent.
 pub record Factor (Y : Type 0) (C : Clause) (a b : ℕ) (E : Clause) : Type 0 where
@@ -54,4 +66,4 @@ pub record Factor (Y : Type 0) (C : Clause) (a b : ℕ) (E : Clause) : Type 0 wh
   pub different : ¬ (a ≡ b)
   pub unifier : Variable → Term Variable
   pub mostGeneral : MostGeneralUnifier Y unifier ((left, right) ∷ [])
-  pub result : E ≡ instantiated unifier (without C b)
+  pub result : E ≡ instantiated unifier (remaining 1 (b ∷ []) C)

@@ -1,4 +1,5 @@
--- The program's own tables for a state: the contracts of its inner functions. No demand needs this file.
+-- The program's own tables for a state: the contracts of its inner functions. No demand needs this file. In the contracts of `check_with` and of what goes on after
+-- it stand `tablesWith`, `nodeTableOf` with the three definitions before it, and `ReadTo` with `Kept` and `countsOf`.
 use mathlib.Core.Path.{_≡_}
 use mathlib.Core.Bool.{true}
 use mathlib.Core.Option.{none, some}

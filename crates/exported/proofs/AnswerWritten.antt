@@ -5,7 +5,7 @@ use Prim.Native.Nat.{ℕ, _<_, _≤_}
 use native.Mathlib.Omega.{arith}
 use lib.ListN.{length, drop, set}
 use Rattle.checker.specs.Contract.{Checked, Workspace, CheckedWith}
-use Rattle.answer.specs.Given.{verdictGiven, answerGiven}
+use Rattle.answer.specs.Given.{verdictCoded, answerGiven}
 use Rattle.verdict.specs.Tables.{Tables}
 use Rattle.answer.specs.declared.Answer.{Answer}
 use Rattle.exported.specs.Exported.{Exported}
@@ -22,7 +22,7 @@ seven (_ ∷ _ ∷ []) a b c d e f g l = absurd (omega arith)
 seven (_ ∷ []) a b c d e f g l = absurd (omega arith)
 seven [] a b c d e f g l = absurd (omega arith)
 
-pub written : (a : Answer) (k w r : ℕ) (xs : List ℕ) → (k ∷ w ∷ r ∷ []) ≡ verdictGiven (a .verdict) → 7 ≤ length xs → set (set (set (set (set (set (set xs 0 k) 1 w) 2 r) 3 (a .symbols)) 4 (a .rows)) 5 (a .clauses)) 6 (a .bindings) ≡ answerGiven a ++ drop 7 xs
+pub written : (a : Answer) (k w r : ℕ) (xs : List ℕ) → (k ∷ w ∷ r ∷ []) ≡ verdictCoded (a .verdict) → 7 ≤ length xs → set (set (set (set (set (set (set xs 0 k) 1 w) 2 r) 3 (a .symbols)) 4 (a .rows)) 5 (a .clauses)) 6 (a .bindings) ≡ answerGiven a ++ drop 7 xs
 written a k w r xs q l =
     seven xs k w r (a .symbols) (a .rows) (a .clauses) (a .bindings) l
     ∙ ap (λ (v : List ℕ). (v ++ (a .symbols ∷ a .rows ∷ a .clauses ∷ a .bindings ∷ [])) ++ drop 7 xs) q

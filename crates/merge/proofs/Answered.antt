@@ -16,7 +16,7 @@ use Rattle.verdict.specs.Tables.{Tables, lengthsOf, tablesAfter}
 use Rattle.verdict.specs.Verdict.{Verdict, accepted, open′, refusal, verdictNumbers, check, longEnough, Stands, stateGiven}
 use Rattle.verdict.proofs.Demanded.{not-refused}
 use Rattle.verdict.proofs.Reading.{reading-records}
-use Rattle.answer.specs.Given.{verdictGiven, verdictStands}
+use Rattle.answer.specs.Given.{verdictCoded, verdictStands}
 use Rattle.answer.specs.declared.Answer as answer
 use Rattle.answer.specs.declared.Verdict as verdict
 use Rattle.answer.specs.declared.Verdict.the-variants as verdicts
@@ -33,19 +33,19 @@ use Rattle.merge.specs.declared.MergeOutcome as given
 -- ── A verdict, and what becomes of the merge ──
 
 -- A refusal ends the work.
-refused-ends : (file : ℕ) (v : verdict.Verdict) (w : Verdict) (next : Merge) → verdictGiven v ≡ verdictNumbers w → verdictStands v ≡ false → mergeNumbers (unlessRefused file w next) ≡ refusalGiven file v
+refused-ends : (file : ℕ) (v : verdict.Verdict) (w : Verdict) (next : Merge) → verdictCoded v ≡ verdictNumbers w → verdictStands v ≡ false → mergeNumbers (unlessRefused file w next) ≡ refusalGiven file v
 refused-ends file verdicts.Open w next e t = absurd (true-not-false refl t)
 refused-ends file (verdicts.Accepted n) w next e t = absurd (true-not-false refl t)
 refused-ends file (verdicts.Refused q k) w next e t =
     let r = refused-given q k w e in
     ap (λ (x : Verdict). mergeNumbers (unlessRefused file x next)) (r .1) ∙ ap (λ (n : ℕ). 2 ∷ n ∷ file ∷ k ∷ []) (r .2)
 
-refused-tables : (v : verdict.Verdict) (w : Verdict) (here next : Tables) → verdictGiven v ≡ verdictNumbers w → verdictStands v ≡ false → tablesUnlessRefused w here next ≡ here
+refused-tables : (v : verdict.Verdict) (w : Verdict) (here next : Tables) → verdictCoded v ≡ verdictNumbers w → verdictStands v ≡ false → tablesUnlessRefused w here next ≡ here
 refused-tables verdicts.Open w here next e t = absurd (true-not-false refl t)
 refused-tables (verdicts.Accepted n) w here next e t = absurd (true-not-false refl t)
 refused-tables (verdicts.Refused q k) w here next e t = ap (λ (x : Verdict). tablesUnlessRefused x here next) (refused-given q k w e .1)
 
-refused-is : (file : ℕ) (v : verdict.Verdict) (w : Verdict) (next : Merge) → verdictGiven v ≡ verdictNumbers w → verdictStands v ≡ false → (X O : List ℕ) → outputLeft (unlessRefused file w next) X O ≡ O
+refused-is : (file : ℕ) (v : verdict.Verdict) (w : Verdict) (next : Merge) → verdictCoded v ≡ verdictNumbers w → verdictStands v ≡ false → (X O : List ℕ) → outputLeft (unlessRefused file w next) X O ≡ O
 refused-is file verdicts.Open w next e t X O = absurd (true-not-false refl t)
 refused-is file (verdicts.Accepted n) w next e t X O = absurd (true-not-false refl t)
 refused-is file (verdicts.Refused q k) w next e t X O = ap (λ (x : Verdict). outputLeft (unlessRefused file x next) X O) (refused-given q k w e .1)
@@ -79,7 +79,7 @@ module _ (first second : List ℕ) (between : Tables) (output : List ℕ) (mine 
   abbrev verdict₂ : Verdict
   verdict₂ = check 0 second (lengthsOf between) .verdict
 
-  given₂ : verdictGiven (theirs .verdict) ≡ verdictNumbers (check 0 second (lengthsOf between) .verdict)
+  given₂ : verdictCoded (theirs .verdict) ≡ verdictNumbers (check 0 second (lengthsOf between) .verdict)
   given₂ = verdict-given 0 second (lengthsOf between) theirs (L .answer)
 
   pub second-refused : (m : given.MergeOutcome) (b : Bool) → b ≡ verdictStands (theirs .verdict) → b ≡ false → mergeGiven m ≡ refusalGiven 2 (theirs .verdict) → SecondAnswered first second between output m after output
@@ -163,7 +163,7 @@ module _ (first second : List ℕ) (before : Tables) (output : List ℕ) where
     }
 
     module _ (mine : answer.Answer) (between : Tables) (K : Checked 0 first before mine between) where
-      given₁ : verdictGiven (mine .verdict) ≡ verdictNumbers (check 0 first (lengthsOf before) .verdict)
+      given₁ : verdictCoded (mine .verdict) ≡ verdictNumbers (check 0 first (lengthsOf before) .verdict)
       given₁ = verdict-given 0 first (lengthsOf before) mine (K .answer)
 
       pub first-refused : (m : given.MergeOutcome) (b : Bool) → b ≡ verdictStands (mine .verdict) → b ≡ false → mergeGiven m ≡ refusalGiven 1 (mine .verdict) → MergeAnswered first second before output m between output

@@ -5,14 +5,14 @@ use Prim.Native.Nat.{ℕ}
 use lib.ListN.{replicate}
 use Rattle.answer.specs.Given.{answerGiven}
 use Rattle.verdict.specs.Tables.{Tables, lengthsOf, tablesAfter}
-use Rattle.verdict.specs.Verdict.{check, answerNumbers, named}
+use Rattle.verdict.specs.Verdict.{check, answerNumbers, leastLengths}
 use Rattle.outcomes.specs.Digest.{DigestOf}
 use Rattle.hash.specs.Hash.{start, hashCells}
 use Rattle.outcomes.specs.declared.outcome.Outcome.{Outcome}
 
 -- Tables that are just long enough, with every cell zero.
 abbrev pub zeroTables : Tables
-zeroTables = record { symbols = replicate (named .symbols) 0; rows = replicate (named .rows) 0; clauses = replicate (named .clauses) 0; bindings = replicate (named .bindings) 0 }
+zeroTables = record { symbols = replicate (leastLengths .symbols) 0; rows = replicate (leastLengths .rows) 0; clauses = replicate (leastLengths .clauses) 0; bindings = replicate (leastLengths .bindings) 0 }
 
 -- The seven numbers of the answer, the hash of each table, and the length and the hash of the readout, for a file that is checked on a
 -- day with some tables.

@@ -1,15 +1,15 @@
 -- The two bytes of a day, and where the file after them stands.
 use mathlib.Core.Path.{_≡_, refl, sym, ap, _∙_}
-use mathlib.Core.Bool.{Bool}
+use mathlib.Core.Bool.{Bool, false}
 use mathlib.Core.List.{List, [], _∷_}
 use Prim.Native.Nat.{ℕ, zero, suc, _+_, _-_, _*_, _≤_, _<_}
 use native.Mathlib.Omega.{arith}
 use lib.Dec.{ltb}
-use lib.ListN.{length, getD, take, drop}
-use borrow.Author.Tests.{lt-ltb, le-ltb}
+use lib.ListN.{length, getD, take, drop, length-take, length-drop}
+use borrow.Author.Tests.{lt-ltb, le-ltb, lt-leb}
 use Rattle.record.specs.Record.{pick}
 use Rattle.verdict.specs.Refusal.{badLength}
-use Rattle.verdict.specs.Verdict.{refusal, check, Lengths}
+use Rattle.verdict.specs.Verdict.{refusal, check, Lengths, fittingLength}
 use Rattle.program_input.specs.Input.{dayOf, filePart, fileIn, InputsRead}
 use Rattle.program_input.specs.declared.Part.{Part}
 
@@ -29,9 +29,12 @@ one-byte : (space : List ℕ) → 1 ≤ length space → length (take 1 (drop 0 
 one-byte [] l = absurd (omega arith)
 one-byte (b ∷ bs) l = refl
 
-one-refused : (file : List ℕ) (day : ℕ) (lengths : Lengths) → length file ≡ 1 → check day file lengths .verdict ≡ refusal badLength 0
+unfit-refused : (file : List ℕ) (day : ℕ) (lengths : Lengths) → fittingLength (length file) ≡ false → check day file lengths .verdict ≡ refusal badLength 0
 unfolding check
-one-refused file day lengths e = rw e
+unfit-refused file day lengths e = rw e
+
+over-unfit : (n : ℕ) → 65536 < n → fittingLength n ≡ false
+over-unfit n l = rw (lt-leb n 65536 l)
 
 between : (space : List ℕ) (n : ℕ) → 2 ≤ n → n ≤ length space → take (n - 2) (drop 2 space) ≡ drop 2 (take n space)
 between space zero l m = absurd (omega arith)
@@ -43,5 +46,8 @@ between (x ∷ y ∷ xs) (suc (suc n)) l m = let e : suc (suc n) - 2 ≡ n = ome
 pub inputs-read : InputsRead
 inputs-read = record {
   afterDay = λ space n l m. ap (λ (p : Part). take (p .end - p .first) (drop (p .first) space)) (sym (whole-part n l)) ∙ between space n l m;
-  short = λ space n day lengths l m. one-refused (fileIn space n) day lengths (ap (λ (p : Part). length (take (p .end - p .first) (drop (p .first) space))) (sym (short-part n l)) ∙ one-byte space m);
+  short = λ space n day lengths l m. unfit-refused (fileIn space n) day lengths (ap fittingLength (ap (λ (p : Part). length (take (p .end - p .first) (drop (p .first) space))) (sym (short-part n l)) ∙ one-byte space m));
+  long = λ space n day lengths l m.
+      let file = ap (λ (p : Part). take (p .end - p .first) (drop (p .first) space)) (sym (whole-part n (omega arith))) in
+      unfit-refused (fileIn space n) day lengths (over-unfit (length (fileIn space n)) (omega (arith, ap length file, length-take (n - 2) (drop 2 space), length-drop 2 space)));
 }

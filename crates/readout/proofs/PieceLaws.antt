@@ -8,9 +8,9 @@ use lib.Dec.{eqb, leb}
 use lib.ListN.{length, drop, length-append, drop-of-length-le}
 use borrow.Author.Tests.{eqb-true, eqb-false, leb-true, leb-false, le-leb}
 use Rattle.record.specs.Record.{pick}
-use Rattle.verdict.specs.Verdict.{Lengths}
+use Rattle.verdict.specs.Verdict.{check, Lengths}
 use Rattle.verdict.specs.Readout.{readoutLines, joinedLines, readout}
-use Rattle.readout.specs.Pieces.{units, fitting, Progress, complete, goOnWith, tooShortFor, afterPiece, unitsFrom, pieceLines, pieceBytes, progress, Pieces, lastPiece, piece, PiecesHold}
+use Rattle.readout.specs.Pieces.{units, unitsWithin, fitting, Progress, complete, goOnWith, tooShortFor, afterPiece, unitsFrom, pieceLines, pieceBytes, progress, Pieces, lastPiece, piece, PiecesHold}
 
 units-joined : (ls : List (List ℕ)) → joinedLines (units ls) ≡ joinedLines ls
 units-joined [] = refl
@@ -155,9 +155,11 @@ module _ (day : ℕ) (file : List ℕ) (lengths : Lengths) where
   whole = subst (Pieces day file lengths 0) (ap joinedLines all-taken ∙ all-units) (lastPiece roomForAll
       (ap (λ (us : List (List ℕ)). afterPiece us 0 (length (pieceLines day file lengths 0 roomForAll))) (ap (λ (ls : List (List ℕ)). unitsFrom day file lengths (0 + length ls)) all-taken ∙ none-after)))
 
-  pub pieces-hold : AllWithin 131072 (units (readoutLines day file lengths)) → PiecesHold day file lengths
+  pub pieces-hold : AllWithin 131072 (units (readoutLines day file lengths)) → length (units (readoutLines day file lengths)) ≡ unitsWithin (check day file lengths .clauses) → PiecesHold day file lengths
   unfolding unitsFrom tag
-  pieces-hold within = record {
+  pieces-hold within counted = record {
+    count = counted;
+    lines = units-joined (readoutLines day file lengths);
     together = λ text p. pieces-from 0 text p ∙ all-units;
     whole = whole;
     moves = λ n room m q.

@@ -6,34 +6,18 @@ use mathlib.Core.List.{List, [], _∷_, _++_}
 use Prim.Native.Nat.{ℕ, zero, suc, _+_, _<_}
 use native.Mathlib.Omega.{arith}
 use lib.Dec.{eqb}
-use lib.ListN.{length, getD, length-append, length-map, List·getD-append}
-use lib.Seq.{getD-append-add}
-use borrow.Author.Tests.{eqb-true, ne-eqb}
+use lib.ListN.{length, getD, length-map}
+use borrow.Author.Tests.{ne-eqb}
 use Rattle.record.specs.Record.{pick}
 use Rattle.derivation.specs.Derivation.{Derivation}
-use Rattle.verdict.proofs.DaysShown.{clause-lines-length}
-use Rattle.verdict.specs.State.{State, derivations, entry, clauseOf}
+use Rattle.verdict.proofs.DaysShown.{clause-lines-length, clause-line-at}
+use Rattle.verdict.specs.State.{State, derivations, clauseOf}
 use Rattle.verdict.specs.Verdict.{check, Lengths}
 use Rattle.verdict.proofs.Inversions.{entry-below}
-use Rattle.unification.proofs.Tests.{some-injective}
 use Rattle.answer.proofs.GivenNumbers.{stateLeft}
-use Rattle.readout.specs.Pieces.{units}
+use Rattle.readout.specs.Pieces.{units, unitsWithin}
 use Rattle.verdict.specs.Readout.{verdictLine, clauseLine, clauseLines, linesOf, readoutLines}
-use Rattle.readout.specs.Units.{unitsWithin, unitAt}
-
--- The lines of the clauses, by number.
-pub clause-line-at : (S : State) (ds : List Derivation) (n : ℕ) (d : Derivation) → entry ds n ≡ some d → getD (clauseLines S ds) n [] ≡ clauseLine S n d
-clause-line-at S [] n d q = let z = entry-below [] n d q in absurd (omega arith)
-clause-line-at S (e ∷ ds) n d q = try (eqb n (length ds)) refl q (λ r. clause-line-at S ds n d r)
-  where
-    try : (b : Bool) → eqb n (length ds) ≡ b → pick b (some e) (entry ds n) ≡ some d → (entry ds n ≡ some d → getD (clauseLines S ds) n [] ≡ clauseLine S n d)
-        → getD (clauseLines S ds ++ (clauseLine S (length ds) e ∷ [])) n [] ≡ clauseLine S n d
-    try true p r ih =
-        let z : n ≡ length (clauseLines S ds) + 0 = omega (arith, eqb-true n (length ds) p, clause-lines-length S ds) in
-        ap (λ (k : ℕ). getD (clauseLines S ds ++ (clauseLine S (length ds) e ∷ [])) k []) z
-        ∙ getD-append-add (clauseLines S ds) (clauseLine S (length ds) e ∷ []) 0 []
-        ∙ ap₂ (clauseLine S) (sym (eqb-true n (length ds) p)) (some-injective r)
-    try false p r ih = List·getD-append (clauseLines S ds) (clauseLine S (length ds) e ∷ []) [] n (omega (arith, entry-below ds n d r, clause-lines-length S ds)) ∙ ih r
+use Rattle.readout.specs.Units.{unitAt}
 
 -- The lines of a file are those of the verdict and the state that its check leaves.
 pub lines-left : (day : ℕ) (F : List ℕ) (lengths : Lengths) → readoutLines day F lengths ≡ linesOf (check day F lengths .verdict) (stateLeft F lengths)

@@ -17,8 +17,9 @@ use Rattle.entry.specs.Progress.{ReadTo, tablesWith}
 use Rattle.answer.specs.declared.Answer.{Answer}
 use Rattle.lines.specs.Lines.{LineReady, LineWritten}
 use Rattle.readout.specs.Heading.{VerdictWritten}
+use Rattle.readout.specs.Pieces.{unitsWithin}
 use Rattle.verdict.specs.Readout.{verdictLine, clauseLine}
-use Rattle.readout.specs.Units.{unitsWithin, unitAt, AfterCheck, UnitReady, UnitWritten}
+use Rattle.readout.specs.Units.{unitAt, AfterCheck, UnitReady}
 use Rattle.terms.specs.Writing.{Wrote, Sized}
 use Rattle.lines.proofs.LineTexts.{ClauseThere, clause-there, read-again}
 use Rattle.terms.proofs.Positions.{wrote-then}
@@ -110,14 +111,19 @@ module _ {C B N O A T : List ℕ} {a : Answer} {n : ℕ} (U : UnitReady C B N O 
       try zero k = absurd (k refl)
       try (suc m) k = omega arith
 
+-- As much of a unit as fits into the buffer was written at its start.
+pub record UnitWrote (C B N O A A′ T T′ : List ℕ) (a : Answer) (n end : ℕ) : Type 0 where
+  pub wrote : (R : AfterCheck C B N O A a) → Wrote T T′ 0 end (unitAt (R .day) (R .file) (lengthsOf (R .before)) n)
+  pub sized : Sized N A′ T′
+
 module _ {C B N O A A′ T T′ : List ℕ} {a : Answer} {end : ℕ} where
-  pub unit-line : {n : ℕ} → (n ≡ 0 → ⊥) → n < a .clauses → LineWritten C B N O A A′ T T′ 0 n end → UnitWritten C B N O A A′ T T′ a n end
+  pub unit-line : {n : ℕ} → (n ≡ 0 → ⊥) → n < a .clauses → LineWritten C B N O A A′ T T′ 0 n end → UnitWrote C B N O A A′ T T′ a n end
   unit-line {n} h l W = record {
     wrote = λ R. subst (Wrote T T′ 0 end) (sym (unit-other (R .day) (R .file) (lengthsOf (R .before)) n (there R n l .clause) h (there R n l .isClause))) (line-text R n l W (there R n l));
     sized = W .sized;
   }
 
-  pub unit-both : {n : ℕ} → n ≡ 0 → n < a .clauses → (T₁ : List ℕ) (middle : ℕ) → VerdictWritten (a .verdict) T T₁ 0 middle → LineWritten C B N O A A′ T₁ T′ middle n end → UnitWritten C B N O A A′ T T′ a n end
+  pub unit-both : {n : ℕ} → n ≡ 0 → n < a .clauses → (T₁ : List ℕ) (middle : ℕ) → VerdictWritten (a .verdict) T T₁ 0 middle → LineWritten C B N O A A′ T₁ T′ middle n end → UnitWrote C B N O A A′ T T′ a n end
   unit-both {n} z l T₁ middle G W = record {
     wrote = λ R.
         let c = there R n l in
@@ -133,7 +139,7 @@ module _ {C B N O A A′ T T′ : List ℕ} {a : Answer} {end : ℕ} where
   }
 
 module _ {C B N O A T T′ : List ℕ} {a : Answer} {end : ℕ} where
-  pub unit-heading : {n : ℕ} → n ≡ 0 → a .clauses ≡ 0 → VerdictWritten (a .verdict) T T′ 0 end → Sized N A T′ → UnitWritten C B N O A A T T′ a n end
+  pub unit-heading : {n : ℕ} → n ≡ 0 → a .clauses ≡ 0 → VerdictWritten (a .verdict) T T′ 0 end → Sized N A T′ → UnitWrote C B N O A A T T′ a n end
   unit-heading {n} z none W sized = record {
     wrote = λ R. subst (Wrote T T′ 0 end)
         (sym (ap (unitAt (R .day) (R .file) (lengthsOf (R .before))) z ∙ unit-alone (R .day) (R .file) (lengthsOf (R .before)) (sym (count R) ∙ none)))

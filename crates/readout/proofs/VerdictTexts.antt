@@ -7,7 +7,7 @@ use lib.ListN.{length, take}
 use lib.Seq.{take-at}
 use Rattle.verdict.specs.Refusal.{reasonNumber}
 use Rattle.verdict.specs.Verdict.{Verdict, refusal, accepted, open′, verdictNumbers, Answer, answerNumbers}
-use Rattle.answer.specs.Given.{verdictGiven, answerGiven}
+use Rattle.answer.specs.Given.{verdictCoded, answerGiven}
 use Rattle.answer.specs.declared.Answer as given-answer
 use Rattle.answer.specs.declared.Verdict as given
 use Rattle.answer.specs.declared.Verdict.the-variants.{Open, Accepted, Refused}
@@ -17,7 +17,7 @@ use Rattle.terms.specs.Writing.{Wrote}
 use Rattle.terms.proofs.Positions.{wrote-then}
 
 -- Three numbers decide the words.
-pub given-words : (v : given.Verdict) (u : Verdict) → verdictGiven v ≡ verdictNumbers u → givenText v ≡ verdictText u
+pub given-words : (v : given.Verdict) (u : Verdict) → verdictCoded v ≡ verdictNumbers u → givenText v ≡ verdictText u
 given-words Open open′ q = refl
 given-words Open (accepted n) q = absurd (let z : _≡_ {A = ℕ} 0 1 = cc in omega arith)
 given-words Open (refusal reason k) q = absurd (let z : _≡_ {A = ℕ} 0 2 = cc in omega arith)
@@ -42,16 +42,16 @@ verdict-written v T T₁ T₂ at last end z w x =
     }
 
 -- The line written is that of the definition's verdict with the same three numbers.
-pub verdict-line : {v : given.Verdict} {T T′ : List ℕ} {at end : ℕ} (u : Verdict) → verdictGiven v ≡ verdictNumbers u → VerdictWritten v T T′ at end → Wrote T T′ at end (verdictLine u)
+pub verdict-line : {v : given.Verdict} {T T′ : List ℕ} {at end : ℕ} (u : Verdict) → verdictCoded v ≡ verdictNumbers u → VerdictWritten v T T′ at end → Wrote T T′ at end (verdictLine u)
 verdict-line {v} {T} {T′} {at} {end} u q W = subst (λ (x : List ℕ). Wrote T T′ at end (x ++ (10 ∷ []))) (given-words v u q) (W .wrote)
 
 -- The verdict's numbers are the first three of an answer's seven.
-pub verdict-told : (a : given-answer.Answer) (b : Answer) → answerGiven a ≡ answerNumbers b → verdictGiven (a .verdict) ≡ verdictNumbers (b .verdict)
+pub verdict-told : (a : given-answer.Answer) (b : Answer) → answerGiven a ≡ answerNumbers b → verdictCoded (a .verdict) ≡ verdictNumbers (b .verdict)
 verdict-told a b q =
-    sym (take-at (verdictGiven (a .verdict)) (a .symbols ∷ a .rows ∷ a .clauses ∷ a .bindings ∷ []) 3 (given-three (a .verdict)))
+    sym (take-at (verdictCoded (a .verdict)) (a .symbols ∷ a .rows ∷ a .clauses ∷ a .bindings ∷ []) 3 (given-three (a .verdict)))
     ∙ ap (take 3) q ∙ take-at (verdictNumbers (b .verdict)) (b .symbols ∷ b .rows ∷ b .clauses ∷ b .bindings ∷ []) 3 (three (b .verdict))
   where
-    given-three : (v : given.Verdict) → length (verdictGiven v) ≡ 3
+    given-three : (v : given.Verdict) → length (verdictCoded v) ≡ 3
     given-three Open = refl
     given-three (Accepted n) = refl
     given-three (Refused p k) = refl

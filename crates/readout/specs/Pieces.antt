@@ -5,7 +5,7 @@ use Prim.Native.Nat.{ℕ, _+_, _-_, _<_, _≤_}
 use lib.Dec.{eqb, leb}
 use lib.ListN.{length, drop}
 use Rattle.record.specs.Record.{pick}
-use Rattle.verdict.specs.Verdict.{Lengths}
+use Rattle.verdict.specs.Verdict.{check, Lengths}
 use Rattle.verdict.specs.Readout.{readoutLines, joinedLines, readout}
 
 -- A piece is made of whole lines. The first line goes with that of clause 0, so that every piece begins with a clause; without clauses it
@@ -14,6 +14,10 @@ abbrev pub units : List (List ℕ) → List (List ℕ)
 units [] = []
 units (v ∷ []) = v ∷ []
 units (v ∷ (l ∷ ls)) = (v ++ l) ∷ ls
+
+-- How many there are for so many clauses.
+abbrev pub unitsWithin : ℕ → ℕ
+unitsWithin clauses = pick (eqb clauses 0) 1 clauses
 
 -- As many as fit, in order.
 abbrev pub fitting : ℕ → List (List ℕ) → List (List ℕ)
@@ -49,8 +53,11 @@ module _ (day : ℕ) (file : List ℕ) (lengths : Lengths) where
     piece : {n m : ℕ} {text : List ℕ} (room : ℕ) → progress n room ≡ goOnWith m → Pieces m text → Pieces n (pieceBytes n room ++ text)
 
 -- What holds of the pieces of every file: put together they are the readout; each moves on, or its room is too short for the next line and
--- nothing is written; and room for the longest line is never too short.
+-- nothing is written; and room for the longest line is never too short. Line by line too: there are as many units as the answer's number of clauses says,
+-- and one after another they are the readout.
 pub record PiecesHold (day : ℕ) (file : List ℕ) (lengths : Lengths) : Type 0 where
+  pub count : length (units (readoutLines day file lengths)) ≡ unitsWithin (check day file lengths .clauses)
+  pub lines : joinedLines (units (readoutLines day file lengths)) ≡ readout day file lengths
   pub together : (text : List ℕ) → Pieces day file lengths 0 text → text ≡ readout day file lengths
   pub whole : Pieces day file lengths 0 (readout day file lengths)
   pub moves : (n room m : ℕ) → progress day file lengths n room ≡ goOnWith m → n < m

@@ -8,7 +8,8 @@ use following::values::ValueCells;
 use lines::line::write_line;
 use terms::text::TextBuffer;
 ghost use mathlib.Core.Path.{_≡_};
-ghost use Rattle.readout.specs.Units.{unitsWithin, UnitReady, UnitWritten};
+ghost use Rattle.readout.specs.Pieces.{unitsWithin};
+ghost use Rattle.readout.specs.Units.{UnitReady, UnitWritten};
 
 // How many there are.
 pub fn unit_count(clauses: u16) -> u16
@@ -29,7 +30,7 @@ pub fn write_unit(
     n: u16,
 ) -> usize
     requires { ⌜ UnitReady (now clauses) (now bindings) (now nodes) (now origins) (now values) (now text) a n ⌝ }
-    ensures { λ end. ⌜ UnitWritten (now (clauses .entry)) (now (bindings .entry)) (now (nodes .entry)) (now (origins .entry)) (now (values .entry)) (now (values .exit)) (now (text .entry)) (now (text .exit)) a n end ⌝ }
+    ensures { λ end. ⌜ UnitWritten (now (clauses .entry)) (now (bindings .entry)) (now (nodes .entry)) (now (origins .entry)) (now (values .entry)) (now (values .exit)) (now (text .exit)) a n end ⌝ }
 {
     if n != 0 {
         return write_line(origins, clauses, bindings, nodes, values, text, 0, n);

@@ -1,3 +1,4 @@
 pub mod Record
 pub mod Reader
 pub mod Bytes
+pub mod Cases

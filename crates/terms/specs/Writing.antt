@@ -1,5 +1,5 @@
 -- The contracts of the functions that write text into the buffer. What a text is stands in `Text` of the crate verdict; this file only
--- says how the parts of the program fit together.
+-- says how the parts of the program fit together. Of it `Sized` stands in the contract of `write_unit`.
 use mathlib.Core.Path.{_≡_}
 use mathlib.Core.Bool.{Bool, false}
 use mathlib.Core.List.{List, [], _∷_, _++_}

@@ -1,8 +1,9 @@
--- Unification fails exactly as stated: each failure comes with what the machine had come to, and what it had come to gives the failure.
+-- Unification fails exactly as stated: each failure comes with what the machine had come to, and what it had come to gives the failure. Where it
+-- succeeds, the machine has come to nothing left to do.
 use mathlib.Core.Path.{_≡_, refl, sym, ap, ap₂, _∙_, subst}
 use mathlib.Core.Bool.{Bool, true, false}
 use mathlib.Core.List.{List, [], _∷_}
-use Prim.Native.Nat.{ℕ, zero, suc, _+_, _-_, _<_}
+use Prim.Native.Nat.{ℕ, zero, suc, _+_, _-_, _≤_, _<_}
 use native.Mathlib.Nat.{add-zero, suc-add, zero-add}
 use native.Mathlib.Omega.{arith}
 use lib.Dec.{eqb, eqb→eq}
@@ -171,3 +172,49 @@ module _ (row : ℕ → Row) (links : ℕ) (isFull : List Binding → Bool) (bas
       stopped m n s (testing bs x e o os ps) occurs h l (ap (λ (w : View). testOne isFull w bs x e os ps) a ∙ ap (λ (t : Bool). pick t (stop occurs) (testRest isFull bs x e os ps)) (same-refl x))
   failing-fails n s r (workDone {t} h w) = reached-run n s t h 0 n (sym (add-zero n)) ∙ out-of-work t w
   failing-fails n s r (bindingsHeld {m} {bs} {x} {e} {o} {os} {ps} h l a b) = stopped m n s (testing bs x e o os ps) full h l (full-turn bs x e os ps (follow row links (extend base bs) o) a b)
+
+  -- Success: the last turn found nothing to do.
+  rest-not-finished : (bs : List Binding) (x : Variable) (e : Expression) (ps : List Pair) (os : List Expression) (t : Turn) → Goes row links isFull base bs x e ps os t → (cs : List Binding) → ¬ (t ≡ finished cs)
+  rest-not-finished bs x e ps os t (m-full q) cs z = not-stop z
+  rest-not-finished bs x e ps os t (m-bind q) cs z = not-goOn z
+  rest-not-finished bs x e ps os t m-more cs z = not-goOn z
+
+  at-end : (s : Task) (t : Turn) → Move row links isFull base s t → (cs : List Binding) → t ≡ finished cs → s ≡ unifying cs []
+  at-end s t m-finished cs z = cc
+  at-end s t (m-same v w f g q) cs z = absurd (not-goOn z)
+  at-end s t (m-left v e w f g k q) cs z = absurd (not-goOn z)
+  at-end s t (m-right u xs e w d f g) cs z = absurd (not-goOn z)
+  at-end s t (m-args u xs e ys d f g) cs z = absurd (not-goOn z)
+  at-end s t (m-clash u xs e w ys d f g q) cs z = absurd (not-stop z)
+  at-end s t (m-endless o d f q) cs z = absurd (not-stop z)
+  at-end s t (m-occurs v d f q) cs z = absurd (not-stop z)
+  at-end s t (m-other {bs} {x} {e} {o} {os} {ps} v d f k m) cs z = absurd (rest-not-finished bs x e ps os t m cs z)
+  at-end s t (m-into {bs} {x} {e} {o} {os} {ps} u xs d f m) cs z = absurd (rest-not-finished bs x e ps (arguments xs (d .1) os) t m cs z)
+  at-end s t (m-endless-test d f) cs z = absurd (not-stop z)
+
+  failed-not-unified : {bs : List Binding} {n : ℕ} {r : Failure} → failed r ≡ unified bs n → ⊥
+  failed-not-unified p = let z : _≡_ {A = ℕ} 0 1 = cc in omega arith
+
+  abbrev Finishes : ℕ → Task → List Binding → Type 0
+  Finishes n s bs = (k : ℕ) × (k ≤ n) × Reaches row links isFull base k s (unifying bs [])
+
+  finishes-here : (n : ℕ) (s : Task) (bs cs : List Binding) (i m : ℕ) → turn row links isFull base s ≡ finished cs → unified cs i ≡ unified bs m → Finishes n s bs
+  finishes-here n s bs cs i m p z =
+      let e : s ≡ unifying cs [] = at-end s (turn row links isFull base s) (moves row links isFull base s) cs p in
+      let c : cs ≡ bs = cc in
+      (0, omega arith, subst (Reaches row links isFull base 0 s) (e ∙ ap (λ (ds : List Binding). unifying ds []) c) noTurn)
+
+  pub unified-reached : (n : ℕ) (s : Task) (bs : List Binding) (m : ℕ) → run row links isFull base n s ≡ unified bs m → (k : ℕ) × (k ≤ n) × Reaches row links isFull base k s (unifying bs [])
+  unfolding run
+  unified-reached zero s bs m q = try (turn row links isFull base s) refl q
+    where
+      try : (t : Turn) → turn row links isFull base s ≡ t → withoutWork t ≡ unified bs m → Finishes zero s bs
+      try (finished cs) p z = finishes-here 0 s bs cs 0 m p z
+      try (goOn t) p z = absurd (failed-not-unified z)
+      try (stop f) p z = absurd (failed-not-unified z)
+  unified-reached (suc n) s bs m q = try (λ t z. unified-reached n t bs m z) (turn row links isFull base s) refl q
+    where
+      try : ((t : Task) → run row links isFull base n t ≡ unified bs m → Finishes n t bs) → (t : Turn) → turn row links isFull base s ≡ t → withWork (λ t. run row links isFull base n t) (suc n) t ≡ unified bs m → Finishes (suc n) s bs
+      try ih (finished cs) p z = finishes-here (suc n) s bs cs (suc n) m p z
+      try ih (goOn t) p z = let f = ih t z in (suc (f .0), omega (arith, f .1), oneTurn p (f .2))
+      try ih (stop f) p z = absurd (failed-not-unified z)

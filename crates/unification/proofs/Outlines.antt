@@ -1,6 +1,7 @@
 -- Outlines: the machine finds a clash exactly where a position clashes within its pairs; rows whose outlines clash have no common instance; and
 -- what unification makes equal has no clash.
 use mathlib.Core.Path.{_≡_, refl, sym, ap, ap₂, _∙_, subst}
+use mathlib.Core.Logic.{_⊎_, inl, inr}
 use mathlib.Core.Bool.{Bool, true, false}
 use mathlib.Core.List.{List, [], _∷_}
 use Prim.Native.Nat.{ℕ, zero, suc, _≤_, _<_}
@@ -251,9 +252,39 @@ module _ (row : ℕ → Row) where
   all-clean noPair e = subst (Each Clean) (sym e) tt
   all-clean (onePair {p = p} {ps = ps} {qs = qs} e c) f = turn-clean (p .0) (p .1) ps qs (outlineTurn row p ps) (sees (p .0) (p .1) ps) e (all-clean c f)
 
-  pub whole-comparison : {n : ℕ} (r q : ℕ) → Compares row n ((r, q) ∷ []) [] → (path : List ℕ) → ¬ ClashAt row r q path
+  whole-comparison : {n : ℕ} (r q : ℕ) → Compares row n ((r, q) ∷ []) [] → (path : List ℕ) → ¬ ClashAt row r q path
   unfolding Clean
   whole-comparison r q c path = all-clean c refl .0 path
+
+  -- A comparison of up to n pairs finds a clash, comes to its end, or has taken up n pairs with some left.
+  pub data Outcome (n : ℕ) (ps : List RowPair) : Type 0 where
+    clashes : clashWithin row n ps ≡ true → Outcome n ps
+    ended : {m : ℕ} → Compares row m ps [] → Outcome n ps
+    spent : (p : RowPair) (qs : List RowPair) → Compares row n ps (p ∷ qs) → Outcome n ps
+
+  pub outcome : (n : ℕ) (ps : List RowPair) → Outcome n ps
+  unfolding clashWithin
+  outcome zero [] = ended noPair
+  outcome zero (p ∷ ps) = spent p ps noPair
+  outcome (suc n) [] = ended noPair
+  outcome (suc n) (p ∷ ps) = try (outlineTurn row p ps) refl (λ qs. outcome n qs)
+    where
+      more : (qs : List RowPair) → outlineTurn row p ps ≡ agree qs → Outcome n qs → Outcome (suc n) (p ∷ ps)
+      more qs e (clashes q) = clashes (ap (afterTurn (λ rs. clashWithin row n rs)) e ∙ q)
+      more qs e (ended c) = ended (onePair e c)
+      more qs e (spent u us c) = spent u us (onePair e c)
+
+      try : (t : OutlineTurn) → outlineTurn row p ps ≡ t → ((qs : List RowPair) → Outcome n qs) → Outcome (suc n) (p ∷ ps)
+      try (agree qs) e ih = more qs e (ih qs)
+      try differ e ih = clashes (ap (afterTurn (λ qs. clashWithin row n qs)) e)
+
+  pub found-or-spent : (r q : ℕ) (path : List ℕ) → ClashAt row r q path → (outlinesClash row r q ≡ true) ⊎ ((p : RowPair) × (ps : List RowPair) × Compares row 4096 ((r, q) ∷ []) (p ∷ ps))
+  found-or-spent r q path c = try (outcome mostOutlinePairs ((r, q) ∷ []))
+    where
+      try : Outcome mostOutlinePairs ((r, q) ∷ []) → (outlinesClash row r q ≡ true) ⊎ ((p : RowPair) × (ps : List RowPair) × Compares row 4096 ((r, q) ∷ []) (p ∷ ps))
+      try (clashes z) = inl z
+      try (ended e) = absurd (whole-comparison r q e path c)
+      try (spent p ps e) = inr (p, ps, subst (λ (n : ℕ). Compares row n ((r, q) ∷ []) (p ∷ ps)) pairs-4096 e)
 
   -- ── A clash of outlines: no values make the two rows equal ──
   module _ (term : ℕ → Term ℕ) (law : (r : ℕ) → term r ≡ rowTerm term r (row r)) {Y : Type 0} (σ τ : ℕ → Term Y) where

@@ -9,7 +9,7 @@ use Rattle.unification.specs.Environment.{Binding, Environment, extend}
 use Rattle.unification.specs.Outlines.{outlinesClash}
 use Rattle.unification.specs.Row.{variable, Row, application, Expression, Variable, rowAt, termAt, writtenOut}
 use Rattle.unification.specs.Term.{Term, var, app, nil, cons}
-use Rattle.unification.specs.Unification.{unify, mostWork, occurs, overwork, full, unified, failed}
+use Rattle.unification.specs.Unification.{unify, mostWork, mostLinks, occurs, overwork, full, unified, failed, unifying, noRoom, run}
 
 abbrev pub noBindings : Environment
 noBindings x = none
@@ -102,6 +102,10 @@ deepRows =
     application 2 (0 ∷ 15 ∷ []) ∷ doubled 14 ∷ doubled 13 ∷ doubled 12 ∷ doubled 11 ∷ doubled 10 ∷ doubled 9 ∷ doubled 8 ∷ doubled 7 ∷ doubled 6 ∷ doubled 5 ∷ doubled 4
     ∷ doubled 3 ∷ doubled 2 ∷ doubled 1 ∷ application 0 [] ∷ variable 0 ∷ []
 
+-- Rows 4 to 0, newest first: s2(s1(s1(s3)),v0), s1(s1(s3)), s1(s3), s3, v0.
+abbrev pub nestedRows : List Row
+nestedRows = application 2 (3 ∷ 0 ∷ []) ∷ application 1 (2 ∷ []) ∷ application 1 (1 ∷ []) ∷ application 3 [] ∷ variable 0 ∷ []
+
 -- Each with what unification gives: new bindings and the work that is left, or why it fails.
 pub record UnificationsHold : Type 0 where
   -- F: one binding, work 4; the right side is followed before the occurrence test. D: the variable occurs.
@@ -115,6 +119,10 @@ pub record UnificationsHold : Type 0 where
   pub sameApplication : unify (rowAt pairRows) 0 noBindings (((2, 1), (2, 1)) ∷ []) ≡ unified [] (mostWork - 1)
   -- The occurrence test goes through arguments in order: it ends at the first, before the work is used up on the second.
   pub occurrenceInOrder : unify (rowAt deepRows) 0 noBindings (((0, 1), (16, 1)) ∷ []) ≡ failed occurs
+  -- It goes into an argument before it takes up the next one: after one unit of work for the pair, one for s2 and three inside its first argument the
+  -- variable is met at the sixth, and with five it is not.
+  pub occurrenceDepthFirst : run (rowAt nestedRows) mostLinks (noRoom 0) noBindings 5 (unifying [] (((0, 1), (4, 1)) ∷ [])) ≡ failed overwork
+  pub occurrenceMet : run (rowAt nestedRows) mostLinks (noRoom 0) noBindings 6 (unifying [] (((0, 1), (4, 1)) ∷ [])) ≡ failed occurs
   -- The last binding that there is room for, and the first that there is not.
   pub lastBinding : unify (rowAt pairRows) 8191 noBindings (((0, 1), (1, 1)) ∷ []) ≡ unified (((0, 1), (1, 1)) ∷ []) (mostWork - 2)
   pub noFurtherBinding : unify (rowAt pairRows) 8192 noBindings (((0, 1), (1, 1)) ∷ []) ≡ failed full
@@ -124,12 +132,13 @@ pub record UnificationsHold : Type 0 where
 
 -- ── Outlines ──
 
--- Rows 29 to 0, newest first. Row 0 is v0, row 1 a constant; row 11 is a full tree of 2,047 occurrences over v0, and row 21 one over the constant, so
+-- Rows 31 to 0, newest first. Row 0 is v0, row 1 a constant; row 11 is a full tree of 2,047 occurrences over v0, and row 21 one over the constant, so
 -- that comparing them takes 2,047 pairs and finds no clash. Rows 22 and 23 are two more constants. The rows from 24 on, in pairs:
--- s4(t,t,a) and s4(u,u,b); s5(v0,t,t,a) and s5(c,u,u,b); s5(a,t,t,a) and s5(a,u,u,b), where t and u are the trees and c, a, b the constants.
+-- s4(t,t,a) and s4(u,u,b); s5(v0,t,t,a) and s5(c,u,u,b); s5(a,t,t,a) and s5(a,u,u,b); s5(t,t,t,a) and s5(u,t,t,b), where t and u are the trees and c, a, b the constants.
 abbrev pub outlineRows : List Row
 outlineRows =
-    application 5 (22 ∷ 21 ∷ 21 ∷ 23 ∷ []) ∷ application 5 (22 ∷ 11 ∷ 11 ∷ 22 ∷ []) ∷ application 5 (1 ∷ 21 ∷ 21 ∷ 23 ∷ []) ∷ application 5 (0 ∷ 11 ∷ 11 ∷ 22 ∷ [])
+    application 5 (21 ∷ 11 ∷ 11 ∷ 23 ∷ []) ∷ application 5 (11 ∷ 11 ∷ 11 ∷ 22 ∷ [])
+    ∷ application 5 (22 ∷ 21 ∷ 21 ∷ 23 ∷ []) ∷ application 5 (22 ∷ 11 ∷ 11 ∷ 22 ∷ []) ∷ application 5 (1 ∷ 21 ∷ 21 ∷ 23 ∷ []) ∷ application 5 (0 ∷ 11 ∷ 11 ∷ 22 ∷ [])
     ∷ application 4 (21 ∷ 21 ∷ 23 ∷ []) ∷ application 4 (11 ∷ 11 ∷ 22 ∷ []) ∷ application 3 [] ∷ application 2 []
     ∷ doubled 20 ∷ doubled 19 ∷ doubled 18 ∷ doubled 17 ∷ doubled 16 ∷ doubled 15 ∷ doubled 14 ∷ doubled 13 ∷ doubled 12 ∷ doubled 1
     ∷ doubled 10 ∷ doubled 9 ∷ doubled 8 ∷ doubled 7 ∷ doubled 6 ∷ doubled 5 ∷ doubled 4 ∷ doubled 3 ∷ doubled 2 ∷ doubled 0
@@ -141,6 +150,8 @@ pub record OutlinesHold : Type 0 where
   -- One pair more before it, and it is not; the pair more may be of equal rows, which are not opened.
   pub pairTooMany : outlinesClash (rowAt outlineRows) 26 27 ≡ false
   pub unopenedCounts : outlinesClash (rowAt outlineRows) 28 29 ≡ false
+  -- A pair of equal rows is one pair however large its term: with the two equal trees opened, the clash would be pair 6,143.
+  pub equalNotOpened : outlinesClash (rowAt outlineRows) 30 31 ≡ true
   -- Of two constants; of the same; of a variable and an application, on either side.
   pub twoConstants : outlinesClash (rowAt outlineRows) 22 23 ≡ true
   pub oneConstant : outlinesClash (rowAt outlineRows) 22 22 ≡ false

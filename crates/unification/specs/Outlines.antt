@@ -77,7 +77,7 @@ module _ (row : ℕ → Row) where
     pub isRight : row right ≡ application rightSymbol rightArguments
     pub differs : ¬ (leftSymbol ≡ rightSymbol)
 
-  -- Such a position is found within 4,096 pairs: fewer are taken up before the one there.
+  -- There is such a position, and a pair of the rows that are there is reached within 4,096 pairs: fewer are taken up before it.
   pub record ClashFound (r q : ℕ) : Type 0 where
     pub path : List ℕ
     pub clash : ClashAt r q path

@@ -19,7 +19,8 @@ mostBindings = 8192
 unfoldable pub mostLinks : ℕ
 mostLinks = 8192
 
--- Why unification fails, with the number of document 01's table. `endless`, following that does not end, never happens.
+-- Why unification fails, with the number of document 01's table. `endless`, following that does not end, happens in no state that a file leads
+-- to.
 pub data Failure : Type 0 where
   clash occurs overwork full endless : Failure
 

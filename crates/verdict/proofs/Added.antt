@@ -5,12 +5,16 @@ use mathlib.Core.Option.{Option, none, some}
 use mathlib.Core.List.{List, [], _∷_, map}
 use Prim.Native.Nat.{ℕ, zero, suc, _+_, _*_, _/_, _%_, _≤_, _<_}
 use native.Mathlib.Omega.{arith}
-use lib.Dec.{eqb}
+use lib.Dec.{eqb, leb}
 use lib.ListN.{length, getD, take, drop, length-take, length-drop, length-map}
 use lib.Seq.{getD-take, getD-drop}
 use Rattle.record.specs.Record.{pick, Record, otherKind, Kind, symbolKind, variableKind, applicationKind, inputKind, resolveKind, factorKind, severalKind, windowKind, fieldA, fieldB, fieldC}
+use Rattle.unification.specs.Environment.{Binding, Environment}
 use Rattle.unification.specs.Repeated.{earliestEqual, orSame}
 use Rattle.unification.specs.Row.{variable, Row}
+use Rattle.unification.specs.Unification.{unify, mostWork, mostLinks, unified, Pair, unifying, noRoom, Reaches}
+use Rattle.unification.proofs.Failures.{unified-reached}
+use Rattle.unification.proofs.Limits.{bindings-8192, work-16384}
 use Rattle.unification.proofs.Lists.{Each}
 use Rattle.unification.proofs.Repeats.{FoundEqual, earliest-none, earliest-found, earliest-equal}
 use Rattle.unification.proofs.Rows.{Below}
@@ -18,9 +22,9 @@ use Rattle.unification.proofs.Tests.{both-true, some-not-none, some-injective}
 use Rattle.derivation.proofs.Literals.{each-numbered}
 use Rattle.derivation.specs.Derivation.{RowLiteral, literalOf, inputLiterals, resolve, factor, numbered}
 use Rattle.verdict.specs.Conditions.{fieldNumbered, ofApplication, ofInput}
-use Rattle.verdict.specs.Demands.{EarliestEqual, RecordOfRow, ownRecord, earliestRecord, Adds, addsSymbol, addsVariable, addsApplication, addsInput, addsResolvent, addsFactor, addsWindow}
+use Rattle.verdict.specs.Demands.{EarliestEqual, RecordOfRow, ownRecord, earliestRecord, Binds, Adds, addsSymbol, addsVariable, addsApplication, addsInput, addsResolvent, addsFactor, addsWindow}
 use Rattle.verdict.specs.Refusal.{kindOfRecord, inRange, hasArity, allBelow, argumentRows, leftOf, rightNumbers, rightOf, deletedOf}
-use Rattle.verdict.specs.State.{State, entry, rowsOf, arityOf, earliestOf, recordOfRow, nextClause}
+use Rattle.verdict.specs.State.{State, entry, rowsOf, arityOf, rowOf, earliestOf, recordOfRow, nextClause}
 use Rattle.verdict.specs.Step.{stands, step, unifyResolve, unifyFactor, newApplication, newLiterals, enterResolvent, enter}
 use Rattle.verdict.proofs.RangeTests.{IsResolve, on-one, on-several, of-kind, range-fits, equal, unequal}
 use Rattle.verdict.proofs.StepTests.{resolves, factors}
@@ -104,11 +108,21 @@ module _ (S : State) (k : ℕ) (r : Record) (T : State) (seven : length (r .fiel
       let below = each-numbered (λ (y : RowLiteral). y .1 < length (rowsOf S)) (inputLiterals r) (suc i) x (m .1) h in
       (x .1, ap (λ (b : Bool). 2 * x .1 + pick b 1 0) (sym s) ∙ literal-read i x (subst (λ (n : ℕ). numbered (inputLiterals r) n ≡ some x) (sym e) (m .1)), subst (EarliestEqual S (x .1)) (ap (λ (y : RowLiteral). y .1) (m .2)) (earliest-taken (x .1) below))
 
+  -- What unification adds, with the limits as numbers.
+  bound : (ρ : Environment) (pairs : List Pair) (bs : List Binding) (n : ℕ) → unify (rowOf S) (S .total) ρ pairs ≡ unified bs n → Binds S ρ pairs bs
+  bound ρ pairs bs n q =
+      let R = unified-reached (rowOf S) mostLinks (noRoom (S .total)) ρ mostWork (unifying [] pairs) bs n q in
+      record {
+        work = R .0;
+        within = omega (arith, R .1, work-16384);
+        comesTo = subst (λ (b : ℕ). Reaches (rowOf S) mostLinks (λ made. leb b (S .total + length made)) ρ (R .0) (unifying [] pairs) (unifying bs [])) bindings-8192 (R .2);
+      }
+
   resolvent-adds : (kind : Kind) → IsResolve kind → kindOfRecord r ≡ kind → enterResolvent S k kind r ≡ stands T → Adds S k r T
   resolvent-adds kind i e q =
       let s = named-stands _ (leftOf S r) (rightOf S kind r) T q in
       let c = clause-added S k (resolve (nextClause S) (s .0 .0) (fieldB r) (s .1 .0) (rightNumbers kind r)) (unifyResolve S (s .0) (s .1)) T (s .4) in
-      addsResolvent (resolves S r kind i (s .0) (s .1) e (s .2) (s .3)) (sym (c .3))
+      addsResolvent (resolves S r kind i (s .0) (s .1) e (s .2) (s .3)) (bound _ _ (c .0) (c .1) (c .2)) (sym (c .3))
 
   adds : (kind : Kind) → kindOfRecord r ≡ kind → Passed S kind r → enter S k kind r ≡ stands T → Adds S k r T
   adds symbolKind e a q = addsSymbol (of-kind r symbolKind e) (sym (stands-same q))
@@ -129,7 +143,7 @@ module _ (S : State) (k : ℕ) (r : Record) (T : State) (seven : length (r .fiel
   adds factorKind e a q =
       let s = named-stands _ (leftOf S r) (deletedOf S r) T q in
       let c = clause-added S k (factor (nextClause S) (s .0 .0) (fieldB r) (fieldC r)) (unifyFactor S (s .0) (s .1)) T (s .4) in
-      addsFactor (factors S r (s .0) (s .1) e (s .2) (s .3)) (sym (c .3))
+      addsFactor (factors S r (s .0) (s .1) e (s .2) (s .3)) (bound _ _ (c .0) (c .1) (c .2)) (sym (c .3))
   adds windowKind e a q = addsWindow (of-kind r windowKind e) (sym (stands-same q))
   adds otherKind e a q = absurd a
 

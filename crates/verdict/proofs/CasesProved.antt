@@ -16,14 +16,14 @@ use Rattle.unification.proofs.Limits.{work-16384}
 use Rattle.unification.proofs.Tests.{true-not-false}
 use Rattle.unification.proofs.Trees as trees
 use Rattle.derivation.specs.Derivation.{input, inputLiterals}
-use Rattle.verdict.specs.Cases.{recordOf, inputClause, nines, holding, Case, works, caseOf, cases, CasesHold, refusedForLength, LengthsHold}
+use Rattle.verdict.specs.Cases.{recordOf, inputClause, nines, holding, Case, works, caseOf, cases, StoredAsBytes, CasesHold, refusedForLength, LengthsHold}
 use Rattle.verdict.specs.Edges.{answerTo, ranges, unusedFields, outlines, severalLiterals, indexEdge, literalEdge, workEdge, eights, EdgesHold, WindowsHold, ShortTablesHold, TextsHold}
 use Rattle.verdict.specs.Readout.{linesOf, joinedLines, readout, readoutLines}
 use Rattle.verdict.specs.Refusal.{unification, mostLiterals, mostIndex}
 use Rattle.verdict.specs.State.{State, emptyState, derivations}
 use Rattle.verdict.specs.Step.{Ending, allStand, refusedAt, require, requireAll, enter, onNamed, step, read, addClause, stateOf}
 use Rattle.verdict.specs.Tables.{Tables, lengthsOf, symbolCells, rowCells, clauseCells, bindingCells, filled, filledTables, tablesGiven, tablesAfter}
-use Rattle.verdict.specs.Verdict.{refusal, verdictOf, named, check, answerNumbers, longEnough, answerOf, verdictGiven, stateGiven, Lengths, fittingLength, ending, Reading, untouched, readTo, reading}
+use Rattle.verdict.specs.Verdict.{refusal, verdictOf, leastLengths, check, answerNumbers, longEnough, answerOf, verdictGiven, stateGiven, Lengths, fittingLength, ending, Reading, untouched, readTo, reading}
 use Rattle.verdict.proofs.Demanded.{length-only}
 use Rattle.verdict.proofs.Reading.{reading-records, read-on}
 
@@ -99,6 +99,10 @@ computed = refl
 pub cases-hold : CasesHold
 cases-hold = ap (λ made. map (λ c. made (c .day) (c .file)) cases) (fun-ext (λ day. fun-ext (case-by day))) ∙ computed
 
+pub stored-as-bytes : StoredAsBytes
+unfolding fileBytes recordBytes
+stored-as-bytes = refl
+
 -- ── The edges of the limits ──
 
 -- The rows of `workEdge`, the newest first. At the indices 1 and 2 row r takes n turns of the machine.
@@ -146,7 +150,7 @@ numbers (refusedAt S reason k) = refl
 answered : (rs : List Record) → fittingLength (length (fileBytes rs)) ≡ true → answerTo rs ≡ numbersOf (ending (fileBytes rs))
 unfolding check
 answered rs fits =
-    ap (λ r. answerNumbers (answerOf (verdictGiven 0 r) (stateGiven r))) (reading-records (fileBytes rs) named fits refl) ∙ numbers (ending (fileBytes rs))
+    ap (λ r. answerNumbers (answerOf (verdictGiven 0 r) (stateGiven r))) (reading-records (fileBytes rs) leastLengths fits refl) ∙ numbers (ending (fileBytes rs))
 
 -- The state before the two steps of `workEdge`.
 abbrev edgeState : State

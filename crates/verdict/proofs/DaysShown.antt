@@ -1,25 +1,28 @@
 -- What the day changes, and what it leaves as it was.
-use mathlib.Core.Path.{_≡_, refl, sym, ap, _∙_, fun-ext}
+use mathlib.Core.Path.{_≡_, refl, sym, ap, ap₂, _∙_, fun-ext}
 use mathlib.Core.Bool.{Bool, true, false}
-use mathlib.Core.List.{List, [], _∷_}
+use mathlib.Core.Option.{some}
+use mathlib.Core.List.{List, [], _∷_, _++_}
 use Prim.Native.Nat.{ℕ, suc, _+_}
 use native.Mathlib.Omega.{arith}
 use lib.Dec.{eqb}
-use lib.ListN.{length, take, drop, length-append, length-map}
+use lib.ListN.{length, getD, take, drop, length-append, length-map, List·getD-append}
+use lib.Seq.{getD-append-add}
 use Rattle.record.specs.Record.{pick, Record, records, Kind, kindNumbered}
+use Rattle.unification.proofs.Tests.{some-injective}
 use Rattle.derivation.specs.Derivation.{Derivation, Use, uses}
 use Rattle.verdict.specs.Days.{stepWithoutWindows, readWithoutWindows, readingWithoutWindows, everyClause, verdictWithoutDay, DaysOnlyChoose}
 use Rattle.verdict.specs.Demands.{Reached}
 use Rattle.verdict.specs.Force.{allInForce, usesInForce}
 use Rattle.verdict.specs.Readout.{clauseLine, clauseLines, readoutLines}
 use Rattle.verdict.specs.Refusal.{Reason, badKind, badLength, shortTable}
-use Rattle.verdict.specs.State.{State, Window, emptyState, withWindow, derivations}
+use Rattle.verdict.specs.State.{State, Window, emptyState, withWindow, entry, derivations, clauseOf}
 use Rattle.verdict.specs.Step.{stands, refused, Result, windowIn, enter, step, read, Ending, allStand, refusedAt}
 use Rattle.verdict.specs.Tables.{Tables, filledTables}
 use Rattle.verdict.specs.Verdict.{Verdict, refusal, accepted, open′, check, answerNumbers, answerOf, firstEmpty, standing, Lengths, fittingLength, longEnough, ending, Stands, Reading, untouched, readTo, reading, verdictGiven, stateGiven}
 use Rattle.verdict.proofs.Demanded.{never-refusal}
 use Rattle.verdict.proofs.InForceShown.{not-dated, step-windows}
-use Rattle.verdict.proofs.Inversions.{stands-same, step-stands}
+use Rattle.verdict.proofs.Inversions.{stands-same, step-stands, entry-below}
 use Rattle.verdict.proofs.RangeTests.{not-true, equal}
 use Rattle.verdict.proofs.Reading.{ending-stands, reading-length, reading-tables, reading-records, stands-not-refused}
 
@@ -68,6 +71,20 @@ window-step S T k r e q = sym (stands-same (sym (ap (λ (kind : Kind). enter S k
 pub clause-lines-length : (S : State) (cs : List Derivation) → length (clauseLines S cs) ≡ length cs
 clause-lines-length S [] = refl
 clause-lines-length S (c ∷ cs) = length-append (clauseLines S cs) (clauseLine S (length cs) c ∷ []) ∙ omega (arith, clause-lines-length S cs)
+
+-- The lines of the clauses, by number.
+pub clause-line-at : (S : State) (ds : List Derivation) (n : ℕ) (d : Derivation) → entry ds n ≡ some d → getD (clauseLines S ds) n [] ≡ clauseLine S n d
+clause-line-at S [] n d q = let z = entry-below [] n d q in absurd (omega arith)
+clause-line-at S (e ∷ ds) n d q = try (eqb n (length ds)) refl q (λ r. clause-line-at S ds n d r)
+  where
+    try : (b : Bool) → eqb n (length ds) ≡ b → pick b (some e) (entry ds n) ≡ some d → (entry ds n ≡ some d → getD (clauseLines S ds) n [] ≡ clauseLine S n d)
+        → getD (clauseLines S ds ++ (clauseLine S (length ds) e ∷ [])) n [] ≡ clauseLine S n d
+    try true p r ih =
+        let z : n ≡ length (clauseLines S ds) + 0 = omega (arith, equal n (length ds) p, clause-lines-length S ds) in
+        ap (λ (k : ℕ). getD (clauseLines S ds ++ (clauseLine S (length ds) e ∷ [])) k []) z
+        ∙ getD-append-add (clauseLines S ds) (clauseLine S (length ds) e ∷ []) 0 []
+        ∙ ap₂ (clauseLine S) (sym (equal n (length ds) p)) (some-injective r)
+    try false p r ih = List·getD-append (clauseLines S ds) (clauseLine S (length ds) e ∷ []) [] n (omega (arith, entry-below ds n d r, clause-lines-length S ds)) ∙ ih r
 
 -- Where reading comes to no window, it is as it was, and leaves no window.
 abbrev NoWindow : State → ℕ → List Record → Type 0
@@ -133,6 +150,13 @@ module _ (file : List ℕ) (lengths : Lengths) where
       let S = stateGiven (reading file lengths) in
       omega (arith, clause-lines-length S (derivations S), length-map (S .clauses) (λ (c : ℕ × Derivation). c .1))
 
+  listed : (day n : ℕ) (c : Derivation) → clauseOf (stateGiven (reading file lengths)) n ≡ some c → getD (readoutLines day file lengths) (1 + n) [] ≡ clauseLine (stateGiven (reading file lengths)) n c
+  unfolding readoutLines
+  listed day n c q =
+      let S = stateGiven (reading file lengths) in
+      let next : 1 + n ≡ suc n = omega arith in
+      ap (λ (k : ℕ). getD (readoutLines day file lengths) k []) next ∙ clause-line-at S (derivations S) n c q
+
   pub days-only-choose : DaysOnlyChoose file lengths
   unfolding check readoutLines
   days-only-choose = record {
@@ -143,6 +167,7 @@ module _ (file : List ℕ) (lengths : Lengths) where
     counts = λ day other. counts-after (verdictGiven day (reading file lengths)) (verdictGiven other (reading file lengths)) (stateGiven (reading file lengths));
     clauseLines = λ day other. refl;
     allListed = all-listed;
+    listed = listed;
     readAlike = reading-alike;
     sameVerdict = same-verdict;
   }

@@ -8,8 +8,9 @@ use Prim.Native.Nat.{ℕ, _+_, _-_, _*_, _%_, _≤_, _<_}
 use native.Mathlib.Nat.{zero-add}
 use native.Mathlib.Omega.{arith}
 use lib.Dec.{eqb, leb}
-use lib.ListN.{length, getD, take, drop, replicate, length-map, List·getD-append}
+use lib.ListN.{length, getD, take, drop, replicate, length-map, length-take, List·getD-append}
 use Rattle.record.specs.Record.{pick, Record, records, kindNumbered}
+use Rattle.record.proofs.Records.{records-shaped}
 use Rattle.unification.specs.Environment.{follow, Ends}
 use Rattle.unification.specs.Row.{Expression}
 use Rattle.unification.specs.Unification.{mostLinks}
@@ -22,10 +23,10 @@ use Rattle.derivation.proofs.Forms.{instances-formed}
 use Rattle.derivation.proofs.Known.{Under, known-uses}
 use Rattle.derivation.proofs.Literals.{uses-length, leb-false-lt}
 use Rattle.derivation.proofs.Values.{refutes, writes-out, writes-out-unique, values-exist, values-unique}
-use Rattle.verdict.specs.Conditions.{OneOf, LengthUnfit, lengthOver, notMultiple, TableShort, symbolsShort, rowsShort, clausesShort, bindingsShort, Condition, unknownKind, outsideRange, nothingThere, fallingLiterals, crossingDays, variableAsLiteral, unfitSigns, largeResult, clashingOutlines, clashing, occurring, overworking, overfull}
-use Rattle.verdict.specs.Demands.{ResolventAdded, Reached, ComesTo, Untouched, LeftBefore, Demand1, ConditionAt, ofLength, ofTables, ofRecord, Due, UsesInForce, LowestEmpty, NoneEmpty, Demand2, Refutation, Demand3}
+use Rattle.verdict.specs.Conditions.{OneOf, LengthUnfit, lengthOver, notMultiple, TableShort, symbolsShort, rowsShort, clausesShort, bindingsShort, Condition, unknownKind, outsideRange, nothingThere, fallingLiterals, crossingDays, variableAsLiteral, unfitSigns, largeResult, clashingOutlines, clashing, occurring, overworking, overfull, precedence}
+use Rattle.verdict.specs.Demands.{ResolventAdded, Reached, ComesTo, TablesHold, Untouched, LeftBefore, Demand1, ConditionAt, ofLength, ofTables, ofRecord, Due, UsesInForce, LowestEmpty, NoneEmpty, Demand2, Refutation, Demand3}
 use Rattle.verdict.specs.Force.{usesInForce}
-use Rattle.verdict.specs.Refusal.{Reason, badLength, shortTable, reasonNumber, precedence}
+use Rattle.verdict.specs.Refusal.{Reason, badLength, shortTable, reasonNumber}
 use Rattle.verdict.specs.State.{State, emptyState, rowsOf, derivations, arityOf, clauseOf, rowOf, termOf}
 use Rattle.verdict.specs.Step.{refused, step, read, Ending, allStand, refusedAt, stateOf}
 use Rattle.verdict.specs.Tables.{Tables, lengthsOf, clauseCells, filledTables, tablesGiven, tablesAfter}
@@ -35,10 +36,12 @@ use Rattle.verdict.proofs.Added.{step-adds}
 use Rattle.verdict.proofs.InForceShown.{uses-in-force, of-uses-in-force}
 use Rattle.verdict.proofs.RangeTests.{resolve-kind, not-true, either-false, unequal, equal, at-most}
 use Rattle.verdict.proofs.Inversions.{entry-below}
-use Rattle.verdict.proofs.Reading.{ending-stands, reading-length, reading-tables, reading-records, read-refused, reached-seven, reached-ok, reached-refused, comes-ok, stands-ok, term-of-row, one-arity}
+use Rattle.verdict.proofs.Reading.{ending-stands, reading-length, reading-tables, reading-records, read-refused, few-records, reached-shaped, reached-seven, reached-ok, reached-refused, comes-ok, stands-ok, term-of-row, one-arity}
 use Rattle.verdict.proofs.Refusals.{refused-condition, condition-refused, refused-lowest, refused-no-unifier, condition-number}
 use Rattle.verdict.proofs.Resolution.{resolvent-added, factor-added, unifiable-stands}
-use Rattle.verdict.proofs.Standing.{below, order-of, inputs-of, known-of, held-links}
+use Rattle.verdict.proofs.Standing.{StateOk, below, order-of, inputs-of, known-of, held-links}
+use Rattle.verdict.proofs.TableCells.{sizeOf, read-size, tables-hold}
+use Rattle.verdict.proofs.WrittenRows.{terms-stay}
 
 accepted-injective : {m n : ℕ} → accepted m ≡ accepted n → m ≡ n
 accepted-injective p = cc
@@ -122,12 +125,15 @@ module _ (file : List ℕ) (tables : Tables) where
       first (inl p) = second (either-false (four .0 && four .1) (four .2) p)
       first (inr p) = bindingsShort (leb-false-lt 32768 (length (tables .bindings)) p)
 
-  pub tables-fail : TableShort tables → longEnough (lengthsOf tables) ≡ false
-  tables-fail h = not-true (longEnough (lengthsOf tables)) (λ t.
+  lengths-enough : longEnough (lengthsOf tables) ≡ true → (4096 ≤ length (tables .symbols)) × (4096 ≤ length (tables .rows)) × (20480 ≤ length (tables .clauses)) × (32768 ≤ length (tables .bindings))
+  lengths-enough t =
       let c = both-true (four .0 && four .1 && four .2) (four .3) t in
       let b = both-true (four .0 && four .1) (four .2) (c .0) in
       let a = both-true (four .0) (four .1) (b .0) in
-      by h (at-most 4096 (length (tables .symbols)) (a .0)) (at-most 4096 (length (tables .rows)) (a .1)) (at-most 20480 (length (tables .clauses)) (b .1)) (at-most 32768 (length (tables .bindings)) (c .1)))
+      (at-most 4096 (length (tables .symbols)) (a .0), at-most 4096 (length (tables .rows)) (a .1), at-most 20480 (length (tables .clauses)) (b .1), at-most 32768 (length (tables .bindings)) (c .1))
+
+  pub tables-fail : TableShort tables → longEnough (lengthsOf tables) ≡ false
+  tables-fail h = not-true (longEnough (lengthsOf tables)) (λ t. let l = lengths-enough t in by h (l .0) (l .1) (l .2) (l .3))
     where
       by : TableShort tables → 4096 ≤ length (tables .symbols) → 4096 ≤ length (tables .rows) → 20480 ≤ length (tables .clauses) → 32768 ≤ length (tables .bindings) → ⊥
       by (symbolsShort l) a b c d = omega arith
@@ -245,11 +251,28 @@ module _ (day : ℕ) (file : List ℕ) (tables : Tables) where
       try (forTables a b f l) = let y : _≡_ {A = ℕ} 1 2 = ap reasonNumber a in absurd (omega arith)
       try (forRecord f l F) = let y = condition-number 1 (found-condition badLength k F) .0 in absurd (omega arith)
 
+  -- The tables of a state that is in order and has come of at most 4,096 records.
+  held : (S : State) → StateOk 4096 S → sizeOf S ≤ 4096 → longEnough (lengthsOf tables) ≡ true → tablesAfter file tables ≡ filledTables S tables → TablesHold S tables (tablesAfter file tables)
+  held S H size l e = let n = lengths-enough file tables l in subst (TablesHold S tables) (sym e) (tables-hold S H size tables (n .0) (n .1) (n .2) (n .3))
+
+  reached-size : (k : ℕ) (S : State) (r : Record) → Reached file k S r → sizeOf S ≤ 4096
+  reached-size k S r R =
+      let h = read-size emptyState 0 (take k (records file)) (reached-shaped file k S r R) in
+      let e : sizeOf (stateOf (read emptyState 0 (take k (records file)))) ≡ sizeOf S = ap (λ (x : Ending). sizeOf (stateOf x)) (R .before) in
+      omega (arith, h, e, length-take k (records file), few-records file (R .fits))
+
+  stands-size : (S : State) → Stands file S → sizeOf S ≤ 4096
+  unfolding ending
+  stands-size S st =
+      let h = read-size emptyState 0 (records file) (records-shaped file) in
+      let e : sizeOf (stateOf (read emptyState 0 (records file))) ≡ sizeOf S = ap (λ (x : Ending). sizeOf (stateOf x)) (st .reads) in
+      omega (arith, h, e, few-records file (st .fits))
+
   pub demand1 : Demand1 day file tables
   demand1 = record {
     tablesOfStanding = λ S st h.
         let c = stands-check S st (long-enough file tables h) in
-        record { counts = c ∙ ap (λ (v : Verdict). answerOf v S) (sym (ap (λ (a : Answer). a .verdict) c)); tablesFilled = stands-tables file tables S st (long-enough file tables h) };
+        record { counts = c ∙ ap (λ (v : Verdict). answerOf v S) (sym (ap (λ (a : Answer). a .verdict) c)); tablesHold = held S (stands-ok file S st) (stands-size S st) (long-enough file tables h) (stands-tables file tables S st (long-enough file tables h)) };
     tablesOfRefusal = λ q k z. try q k (refused-by q k z);
   }
     where
@@ -262,7 +285,8 @@ module _ (day : ℕ) (file : List ℕ) (tables : Tables) where
         refusedRecord = F .refusedRecord;
         reached = F .reached;
         counts = check-reads f l ∙ ap (λ (e : Ending). answerOf (verdictOf day e) (stateOf e)) (F .isEnding);
-        tablesFilled = tables-read file tables f l ∙ ap (λ (e : Ending). filledTables (stateOf e) tables) (F .isEnding);
+        tablesHold = held (F .state) (reached-ok file k (F .state) (F .refusedRecord) (F .reached)) (reached-size k (F .state) (F .refusedRecord) (F .reached)) l
+            (tables-read file tables f l ∙ ap (λ (e : Ending). filledTables (stateOf e) tables) (F .isEnding));
       })
 
   condition-at : (q : Reason) (k : ℕ) → Refused q k → ConditionAt file tables (reasonNumber q) k
@@ -383,6 +407,7 @@ module _ (day : ℕ) (file : List ℕ) (tables : Tables) where
   pub demand2 : (Y : Type 0) → Demand2 Y day file tables
   demand2 Y = record {
     declared = λ k S T r R q. step-adds S k r T (reached-seven file k S r R) q;
+    termsStay = λ k S T r R e. terms-stay S k r T e;
     followingEnds = following-ends file tables;
     writtenByLookup = λ S C n c q.
         let H = comes-ok file S C in

@@ -11,10 +11,11 @@ pub mod Added
 pub mod Resolution
 pub mod Refusals
 pub mod InForceShown
-pub mod Demanded
 pub mod Shared
 pub mod Sources
 pub mod Tabled
+pub mod TableCells
+pub mod Demanded
 pub mod Advance
 pub mod OutlinesShown
 pub mod WrittenRows

@@ -11,13 +11,13 @@ use Rattle.record.specs.Record.{Record, otherKind, Kind, symbolKind, variableKi
 use Rattle.unification.specs.Environment.{Binding, Environment}
 use Rattle.unification.specs.Outlines.{outlinesClash}
 use Rattle.unification.specs.Unification.{mostWork, mostLinks, endless, Failure, clash, occurs, overwork, full, failureNumber, unify, unified, Pair, noRoom}
-use Rattle.unification.proofs.Outlines.{whole-comparison}
+use Rattle.unification.proofs.Outlines.{found-or-spent}
 use Rattle.unification.proofs.UnifiedOutlines.{ClashAmong, clash-here, clash-later, clash-not-unified}
 use Rattle.unification.proofs.Tests.{true-not-false}
 use Rattle.derivation.specs.Derivation.{Literal, Derivation, resolve, factor, pairsWith, maximumIndex, joined, lookup}
-use Rattle.verdict.specs.Conditions.{OneOf, OutlinesClash}
+use Rattle.verdict.specs.Conditions.{OneOf, OutlinesClash, precedence}
 use Rattle.verdict.specs.Outlines.{OutlinesBeforeUnification}
-use Rattle.verdict.specs.Refusal.{tests, outlineTests, outlinesOfResolve, outlinesAgree, onBoth, Reason, unification, reasonNumber, precedence, kindOfRecord, leftOf, rightNumbers, rightOf, deletedOf}
+use Rattle.verdict.specs.Refusal.{tests, outlineTests, outlinesOfResolve, outlinesAgree, onBoth, Reason, unification, reasonNumber, kindOfRecord, leftOf, rightNumbers, rightOf, deletedOf}
 use Rattle.verdict.specs.State.{State, rowOf, nextClause}
 use Rattle.verdict.specs.Step.{stands, refused, requireAll, step, stepWithoutOutlines, atoms, unifyResolve, unifyFactor, enterResolvent, enter}
 use Rattle.verdict.proofs.Inversions.{FirstFailing, AllPass, all-stand, all-refused, all-passed, named-stands, clause-added, refused-injective, tests-passed}
@@ -144,5 +144,5 @@ outlines-shown = record {
   stoodStands = λ S T k r q. stood-stands S T k r q;
   refusedAlike = λ S k r reason q l n. refused-alike S k r reason q l n;
   clashFirst = λ S k r reason q m c. clash-first S k r reason q m c;
-  noneOverlooked = λ S r q n z c l. whole-comparison (rowOf S) r q c;
+  foundOrSpent = λ S r q path c. found-or-spent (rowOf S) r q path c;
 }

@@ -113,7 +113,7 @@ shaped-here (suc k) (x ∷ rs) r rest q h = shaped-here k rs r rest q (h .1)
 
 -- A file of fitting length.
 module _ (file : List ℕ) (fit : fittingLength (length file) ≡ true) where
-  few-records : length (records file) ≤ 4096
+  pub few-records : length (records file) ≤ 4096
   few-records =
       let p = both-true (leb (length file) 65536) (eqb (length file % 16) 0) fit in
       let l : length file ≤ 65536 = leb→le (length file) 65536 (to-T (leb (length file) 65536) (p .0)) in

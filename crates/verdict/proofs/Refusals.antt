@@ -23,9 +23,9 @@ use Rattle.unification.proofs.Tests.{to-T, both-true, true-not-false, some-inje
 use Rattle.derivation.specs.Derivation.{Literal, Derivation, resolve, factor, pairsWith, maximumIndex, joined, lookup}
 use Rattle.derivation.specs.Written.{renamed}
 use Rattle.derivation.proofs.Validity.{signed}
-use Rattle.verdict.specs.Conditions.{OneOf, RightLiterals, ofOne, ofSome, Resolves, OutlinesClash, resolveOutlines, factorOutlines, Fails, StepFails, resolveFails, factorFails, Condition, unknownKind, outsideRange, nothingThere, fallingLiterals, crossingDays, variableAsLiteral, unfitSigns, largeResult, clashingOutlines, clashing, occurring, overworking, overfull}
+use Rattle.verdict.specs.Conditions.{OneOf, RightLiterals, ofOne, ofSome, Resolves, OutlinesClash, resolveOutlines, factorOutlines, Fails, StepFails, resolveFails, factorFails, Condition, unknownKind, outsideRange, nothingThere, fallingLiterals, crossingDays, variableAsLiteral, unfitSigns, largeResult, clashingOutlines, clashing, occurring, overworking, overfull, precedence}
 use Rattle.verdict.specs.Demands.{Reached, atomOf, StepAtoms, resolveAtoms, factorAtoms}
-use Rattle.verdict.specs.Refusal.{tests, resolveTests, outlineTests, outlinesOfResolve, outlinesAgree, onBoth, Reason, unification, reasonNumber, precedence, kindOfRecord, inRange, leftOf, rightNumbers, rightOf, deletedOf}
+use Rattle.verdict.specs.Refusal.{tests, resolveTests, outlineTests, outlinesOfResolve, outlinesAgree, onBoth, Reason, unification, reasonNumber, kindOfRecord, inRange, leftOf, rightNumbers, rightOf, deletedOf}
 use Rattle.verdict.specs.State.{State, emptyState, rowsOf, rowOf, nextClause}
 use Rattle.verdict.specs.Step.{stands, refused, Result, require, requireAll, step, addClause, atoms, unifyResolve, unifyFactor, enterResolvent, enter}
 use Rattle.verdict.proofs.RangeTests.{not-true, either-false, of-kind, other-kind, range-over, out-of-range, IsResolve, on-one, on-several}

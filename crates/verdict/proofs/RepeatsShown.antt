@@ -69,6 +69,8 @@ replacing file f lengths =
 
 pub repeats-shown : (file : List ℕ) → RepeatedRows file
 repeats-shown file = record {
+  asMany = λ k S q. there file k S q .same .sameLength;
+  asWritten = λ k S q. there file k S q .same .terms;
   sameTerm = λ k S q p r l m e. same-term file k S q p r l m e;
   sameRow = λ k S q p r l m e. same-row file k S q p r l m e;
   bindingsEarliest = λ k S q n c p x e l. bindings-earliest file k S q n c p x e l;

@@ -18,15 +18,7 @@ use Rattle.verdict.proofs.Acceptance.{cells-length}
 use Rattle.verdict.proofs.Demanded.{check-length, check-tables, check-reads, tables-read}
 use Rattle.verdict.proofs.Reading.{read-ok, start-ok, shaped-take}
 use Rattle.verdict.proofs.Standing.{StateOk}
-
--- The fifth cells of all clauses of a table, whatever comes after them.
-fifth-sum : (cs : List (ℕ × Derivation)) (rest : List ℕ) → fifthCells (clauseCells cs ++ rest) (length cs) ≡ bindingsOf (map (λ (c : ℕ × Derivation). c .1) cs)
-fifth-sum [] rest = refl
-fifth-sum (c ∷ cs) rest =
-    let five = cellsOfClause (c .0) (bindingsOf (map (λ (d : ℕ × Derivation). d .1) cs)) (c .1) in
-    let l : 5 * length cs + 4 ≡ length (clauseCells cs) + 4 = omega (arith, cells-length cs) in
-    ap (λ (C : List ℕ). fifthCells C (length cs) + getD C (5 * length cs + 4) 0) (append-assoc (clauseCells cs) five rest)
-    ∙ ap₂ _+_ (fifth-sum cs (five ++ rest)) (ap (λ (i : ℕ). getD (clauseCells cs ++ (five ++ rest)) i 0) l ∙ getD-append-add (clauseCells cs) (five ++ rest) 4 0)
+use Rattle.verdict.proofs.TableCells.{fifth-sum}
 
 -- A state in order has the sum for its total.
 pub total-sum : (n : ℕ) (S : State) → StateOk n S → (t : Tables) → S .total ≡ fifthCells (filledTables S t .clauses) (length (S .clauses))

@@ -8,7 +8,7 @@ use lib.Dec.{eqb, ltb, ltb→lt}
 use lib.ListN.{length}
 use Rattle.record.specs.Record.{pick, Record, otherKind, Kind, symbolKind, variableKind, applicationKind, inputKind, resolveKind, factorKind, severalKind, windowKind, fieldA, fieldB, fieldC}
 use Rattle.unification.specs.Repeated.{IsEarliest, earliestRow}
-use Rattle.unification.specs.Row.{variable, Row, application, rowAt, argumentTerms}
+use Rattle.unification.specs.Row.{variable, Row, application, rowAt, termAt, argumentTerms}
 use Rattle.unification.specs.Term.{Term, app, cons}
 use Rattle.unification.proofs.Lists.{Each}
 use Rattle.unification.proofs.Repeats.{earliest-equal, earliest-itself, earliest-same, earliest-absent}
@@ -17,7 +17,7 @@ use Rattle.unification.proofs.Tests.{to-T}
 use Rattle.derivation.specs.Derivation.{resolve, factor}
 use Rattle.verdict.specs.Refusal.{Reason, kindOfRecord, argumentRows, leftOf, rightNumbers, rightOf, deletedOf}
 use Rattle.verdict.specs.Repeats.{withWritten, writtenAfter, numberTerm, termByNumbers}
-use Rattle.verdict.specs.State.{State, rowsOf, nextClause}
+use Rattle.verdict.specs.State.{State, rowsOf, nextClause, termOf}
 use Rattle.verdict.specs.Step.{stands, refused, Result, step, unifyResolve, unifyFactor, newApplication, enterResolvent, enter, read, allStand, refusedAt}
 use Rattle.verdict.proofs.Inversions.{stands-same, step-stands, named-stands, clause-added, not-below, never-both}
 use Rattle.verdict.proofs.Reading.{ending-stands, stands-not-refused}
@@ -131,6 +131,24 @@ entered-rows S k r T factorKind q =
     sym (ap rowsOf (c .3))
 entered-rows S k r T windowKind q = sym (ap rowsOf (stands-same q))
 entered-rows S k r T otherKind q = absurd (never-both (enter S k otherKind r) q refl)
+
+-- A row added changes no term of those before it.
+term-stays : (w : Row) (ws : List Row) (r : ℕ) → r < length ws → termAt (w ∷ ws) r ≡ termAt ws r
+term-stays w ws r l = rw (eqb-below r (length ws) l)
+
+pub terms-stay : (S : State) (k : ℕ) (r : Record) (T : State) → step S k r ≡ stands T → (q : ℕ) → q < length (rowsOf S) → termOf T q ≡ termOf S q
+terms-stay S k r T e q l = ap (λ (ws : List Row). termAt ws q) (entered-rows S k r T (kindOfRecord r) (step-stands S k r T e .1)) ∙ by (kindOfRecord r)
+  where
+    by : (kind : Kind) → termAt (rowsEntered S kind r) q ≡ termAt (rowsOf S) q
+    by variableKind = term-stays (variable (fieldA r)) (rowsOf S) q l
+    by applicationKind = term-stays (newApplication S r) (rowsOf S) q l
+    by symbolKind = refl
+    by inputKind = refl
+    by resolveKind = refl
+    by severalKind = refl
+    by factorKind = refl
+    by windowKind = refl
+    by otherKind = refl
 
 -- Two lists of rows with the same terms at the same numbers.
 pub record SameTerms (ws us : List Row) : Type 0 where

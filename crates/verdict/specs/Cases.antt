@@ -149,6 +149,22 @@ caseA = record {
       ∷ "4 3" ∷ []);
 }
 
+-- A's file in bytes: a list for each record, with zeros up to sixteen bytes.
+abbrev pub sixteenEach : List (List ℕ) → List ℕ
+sixteenEach [] = []
+sixteenEach (l ∷ ls) = l ++ (replicate (16 - length l) 0 ++ sixteenEach ls)
+
+abbrev pub storedA : List (List ℕ)
+storedA =
+    (1 ∷ 1 ∷ []) ∷ (1 ∷ 1 ∷ []) ∷ (1 ∷ 0 ∷ [])
+    ∷ (3 ∷ 0 ∷ 2 ∷ []) ∷ (3 ∷ 1 ∷ 0 ∷ 0 ∷ 0 ∷ 0 ∷ []) ∷ (2 ∷ 0 ∷ 0 ∷ []) ∷ (3 ∷ 1 ∷ 1 ∷ 0 ∷ 2 ∷ 0 ∷ [])
+    ∷ (3 ∷ 1 ∷ 0 ∷ 0 ∷ 2 ∷ 0 ∷ []) ∷ (3 ∷ 1 ∷ 0 ∷ 0 ∷ 3 ∷ 0 ∷ []) ∷ (3 ∷ 1 ∷ 1 ∷ 0 ∷ 0 ∷ 0 ∷ []) ∷ (3 ∷ 1 ∷ 0 ∷ 0 ∷ 6 ∷ 0 ∷ [])
+    ∷ (4 ∷ 1 ∷ 3 ∷ 0 ∷ []) ∷ (4 ∷ 2 ∷ 8 ∷ 0 ∷ 11 ∷ 0 ∷ []) ∷ (4 ∷ 1 ∷ 14 ∷ 0 ∷ [])
+    ∷ (5 ∷ 0 ∷ 0 ∷ 0 ∷ 1 ∷ 0 ∷ 1 ∷ 0 ∷ 1 ∷ 0 ∷ []) ∷ (5 ∷ 0 ∷ 3 ∷ 0 ∷ 1 ∷ 0 ∷ 2 ∷ 0 ∷ 1 ∷ 0 ∷ []) ∷ []
+
+abbrev pub StoredAsBytes : Type 0
+StoredAsBytes = caseA .file ≡ sixteenEach storedA
+
 -- B: the empty file is open.
 abbrev pub caseB : Case
 caseB = record {
@@ -347,6 +363,19 @@ caseSides = record {
   readout = lines ("open" ∷ "0 1 +s0(v0.1) +s1(v0.1)" ∷ "1 1 -s0(v1.1)" ∷ "2 2 +s1(v1.2)" ∷ "3 1 +s0(v1.1)" ∷ []);
 }
 
+-- The remaining literals, in order: +s0 +s1 +s2 resolved with -s0 +s3 +s4 leaves two of each; and -s4 resolved with that clause's last literal the three
+-- before it.
+abbrev pub caseInOrder : Case
+caseInOrder = record {
+  day = 0;
+  file = fileBytes (replicate 5 (symbolOf 0) ++ (map (λ s. applicationRow s []) (numbersFrom 0 5)
+      ++ (inputClause (1 ∷ 3 ∷ 5 ∷ []) ∷ inputClause (0 ∷ 7 ∷ 9 ∷ []) ∷ inputClause (8 ∷ []) ∷ resolveStep 0 1 1 1 ∷ resolveStep 2 1 3 4 ∷ [])));
+  answer = 0 ∷ 0 ∷ 0 ∷ 5 ∷ 5 ∷ 5 ∷ 0 ∷ [];
+  tables = holding (numbersFrom 0 5) (numbersFrom 5 5) (10 ∷ 3 ∷ 1 ∷ 0 ∷ 0 ∷ 11 ∷ 3 ∷ 1 ∷ 0 ∷ 0 ∷ 12 ∷ 1 ∷ 1 ∷ 0 ∷ 0 ∷ 13 ∷ 4 ∷ 2 ∷ 0 ∷ 0 ∷ 14 ∷ 3 ∷ 3 ∷ 0 ∷ 0 ∷ []) [];
+  work = 1 ∷ 1 ∷ [];
+  readout = lines ("open" ∷ "0 1 +s0 +s1 +s2" ∷ "1 1 -s0 +s3 +s4" ∷ "2 1 -s4" ∷ "3 2 +s1 +s2 +s3 +s4" ∷ "4 3 +s1 +s2 +s3" ∷ []);
+}
+
 -- Document 02, Q-6: a curfew, clause 0, and its breach, clause 1, resolved to the empty clause 2. The curfew is first dated 300 to 310, and after the
 -- step 100 to 200, which supersedes that. The windows are in no table. Accepted on day 200, and open on day 300.
 abbrev pub seasonOn : ℕ → List ℕ → List ℕ → Case
@@ -367,7 +396,7 @@ caseOutOfSeason = seasonOn 300 (0 ∷ 0 ∷ 0 ∷ 1 ∷ 1 ∷ 3 ∷ 0 ∷ []) (l
 
 abbrev pub cases : List Case
 cases =
-    caseA ∷ caseB ∷ caseC ∷ caseLongest ∷ caseTooLong ∷ caseD ∷ caseE ∷ caseF ∷ caseG ∷ caseGBad ∷ caseH ∷ caseI ∷ caseJ ∷ caseRepeats ∷ caseSeveral ∷ caseSides ∷ caseInSeason ∷ caseOutOfSeason ∷ caseK ∷ []
+    caseA ∷ caseB ∷ caseC ∷ caseLongest ∷ caseTooLong ∷ caseD ∷ caseE ∷ caseF ∷ caseG ∷ caseGBad ∷ caseH ∷ caseI ∷ caseJ ∷ caseRepeats ∷ caseSeveral ∷ caseSides ∷ caseInOrder ∷ caseInSeason ∷ caseOutOfSeason ∷ caseK ∷ []
 
 -- The definitions give what is written.
 abbrev pub CasesHold : Type 0

@@ -1,14 +1,15 @@
 -- Document 01, "Verdict, tables and refusals": the condition stated for each number of the table, in the paper's words, by quantifiers.
 -- Nothing here goes by the tests of `Refusal`; that the check refuses exactly where a condition holds is part of demand 2. For 10 to 13 the condition is
--- of what unification comes to, by its own turns (`Failing`): the papers define these numbers so.
+-- of what unification comes to, by its own turns (`Failing`): the papers define these numbers so. And a clash of outlines is stated by position, but that it is
+-- found within 4,096 pairs by the turns of the comparison (`Compares`).
 use mathlib.Core.Path.{_≡_}
 use mathlib.Core.Logic.{_⊎_}
 use mathlib.Core.Option.{some}
 use mathlib.Core.List.{List, [], _∷_, map}
 use Prim.Native.Nat.{ℕ, _+_, _/_, _%_, _≤_, _<_}
-use lib.Dec.{leb}
+use lib.Dec.{eqb, leb}
 use lib.ListN.{length, getD, take, drop}
-use Rattle.record.specs.Record.{Record, fieldA, fieldB, fieldC, fieldD}
+use Rattle.record.specs.Record.{pick, Record, fieldA, fieldB, fieldC, fieldD}
 use Rattle.unification.specs.Environment.{Environment}
 use Rattle.unification.specs.Failing.{Failing}
 use Rattle.unification.specs.Outlines.{ClashFound}
@@ -150,6 +151,12 @@ pub data StepFails (S : State) (r : Record) (f : Failure) : Type 0 where
   resolveFails : {left right : Derivation} {l : Literal} {ns : List ℕ} {ms : List Literal} → Resolves S r left right l ns ms
       → Fails S (joined (maximumIndex left) (lookup left) (lookup right)) (pairsWith (maximumIndex left) (l .1) (map (λ m. m .1) ms)) f → StepFails S r f
   factorFails : {parent : Derivation} {l m : Literal} → Factors S r parent l m → Fails S (lookup parent) ((l .1, m .1) ∷ []) f → StepFails S r f
+
+-- The order in which numbers are given, as the papers have it: 1 before 2, and both before any record; lower numbers come first within a record; but 14
+-- (document 02, Q-3) comes after 5 and before 8, and 16 (Q-6) after 5. Both get the place of 6, which is not given any more. Only a resolve can have 14
+-- and only a window 16.
+abbrev pub precedence : ℕ → ℕ
+precedence n = pick (eqb n 14) 6 (pick (eqb n 16) 6 n)
 
 -- The conditions of a record, by their numbers; S is the state that the records before it leave. There is none for 6 (document 02, Q-2).
 pub data Condition (S : State) (r : Record) : ℕ → Type 0 where

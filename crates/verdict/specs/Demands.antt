@@ -5,24 +5,27 @@ use mathlib.Core.Bool.{true}
 use mathlib.Core.Option.{some}
 use mathlib.Core.List.{List, [], _∷_, map}
 use Prim.Native.Nat.{ℕ, _+_, _*_, _≤_, _<_}
+use lib.Dec.{leb}
 use lib.ListN.{length, getD, take, drop}
 use Rattle.record.specs.Record.{pick, Record, records, fieldA, fieldB, fieldC}
-use Rattle.unification.specs.Environment.{follow, Binding, Ends}
+use Rattle.unification.specs.Bindings.{bindingAt}
+use Rattle.unification.specs.Environment.{follow, Binding, Environment, Ends}
 use Rattle.unification.specs.Repeated.{IsEarliest}
 use Rattle.unification.specs.Row.{variable, Row, application, Expression, Variable, writtenOut}
 use Rattle.unification.specs.Term.{Term, apply}
-use Rattle.unification.specs.Unification.{mostLinks}
+use Rattle.unification.specs.Unification.{mostLinks, Pair, unifying, Reaches}
 use Rattle.unification.specs.Unifier.{TermPair, Unifies, NoUnifier}
-use Rattle.derivation.specs.Derivation.{literals, input, Literal, RowLiteral, Derivation, resolve, factor, numbered, maximumIndex, lookup, Use, uses}
+use Rattle.derivation.specs.Derivation.{literals, input, Literal, RowLiteral, Derivation, resolve, factor, numbered, pairsWith, maximumIndex, joined, lookup, ownBindings, Use, uses}
 use Rattle.derivation.specs.Ground.{instances, Ground, Values, valueIn, WellFormedInstances, Assignment, AllTrue}
 use Rattle.derivation.specs.Textbook.{Resolvent, Factor}
 use Rattle.derivation.specs.Written.{written, substitution, renamed, WritesOut}
-use Rattle.verdict.specs.Conditions.{OneOf, fieldNumbered, LengthUnfit, TableShort, OutOfRange, RightLiterals, NotRising, Resolves, Factors, SignsUnfit, Condition}
-use Rattle.verdict.specs.Refusal.{Reason, reasonNumber, precedence}
+use Rattle.verdict.specs.Conditions.{OneOf, fieldNumbered, LengthUnfit, TableShort, OutOfRange, RightLiterals, NotRising, Resolves, Factors, SignsUnfit, Condition, precedence}
+use Rattle.verdict.specs.Refusal.{Reason, reasonNumber}
 use Rattle.verdict.specs.State.{State, emptyState, withSymbol, withRow, withClause, withWindow, entry, rowsOf, derivations, nextClause, arityOf, clauseOf, rowOf, termOf}
 use Rattle.verdict.specs.Step.{stands, refused, step, read, allStand, stateOf}
-use Rattle.verdict.specs.Tables.{Tables, lengthsOf, filledTables, tablesAfter}
-use Rattle.verdict.specs.Verdict.{refusal, check, accepted, open′, answerOf, fittingLength, ending, Stands}
+use Rattle.verdict.specs.Tables.{Tables, lengthsOf, tablesAfter}
+use Rattle.verdict.specs.Total.{fifthCells}
+use Rattle.verdict.specs.Verdict.{refusal, check, accepted, open′, fittingLength, ending, Stands}
 
 -- Reading comes to record k, which is r: the file's length fits, and the records before it stand and leave the state S.
 pub record Reached (file : List ℕ) (k : ℕ) (S : State) (r : Record) : Type 0 where
@@ -45,11 +48,37 @@ pub data ComesTo (file : List ℕ) : State → Type 0 where
 -- That the program ends, stays inside what it was lent and answers by `check` and `tablesAfter` is its contract. Here: what these say
 -- of a file that is refused, and of one that is not.
 
+-- A table of which so many cells are filled: zero from there up to the named length, and from there on as it was. It is as long as it was.
+pub record FilledTo (named count : ℕ) (before after : List ℕ) : Type 0 where
+  pub sameLength : length after ≡ length before
+  pub zeroAfter : (i : ℕ) → count ≤ i → i < named → getD after i 0 ≡ 0
+  pub pastUntouched : (i : ℕ) → named ≤ i → getD after i 0 ≡ getD before i 0
+
+-- The five cells of clause n, whose record is k: record, literal count, maximum index, first binding, which is the count of bindings held before the clause,
+-- and number of bindings. Then the four cells of each of these, in the order in which they were added: variable row, its index, term row, its index.
+pub record ClauseHeld (clauses bindings : List ℕ) (n k : ℕ) (c : Derivation) : Type 0 where
+  pub recordCell : getD clauses (5 * n) 0 ≡ k
+  pub literalCount : getD clauses (5 * n + 1) 0 ≡ length (literals c)
+  pub index : getD clauses (5 * n + 2) 0 ≡ maximumIndex c
+  pub firstBinding : getD clauses (5 * n + 3) 0 ≡ fifthCells clauses n
+  pub bindingCount : getD clauses (5 * n + 4) 0 ≡ length (ownBindings c)
+  pub eachBinding : (i : ℕ) (b : Binding) → entry (ownBindings c) i ≡ some b → bindingAt bindings (fifthCells clauses n + i) ≡ b
+
+-- The tables hold exactly what a state has, and every cell is decided: the record of each symbol, that of each row, and each clause with its bindings.
+pub record TablesHold (S : State) (before after : Tables) : Type 0 where
+  pub eachSymbol : (s k arity : ℕ) → entry (S .symbols) s ≡ some (k, arity) → getD (after .symbols) s 0 ≡ k
+  pub eachRow : (q k : ℕ) (w : Row) → entry (S .rows) q ≡ some (k, w) → getD (after .rows) q 0 ≡ k
+  pub eachClause : (n k : ℕ) (c : Derivation) → entry (S .clauses) n ≡ some (k, c) → ClauseHeld (after .clauses) (after .bindings) n k c
+  pub symbolsTo : FilledTo 4096 (length (S .symbols)) (before .symbols) (after .symbols)
+  pub rowsTo : FilledTo 4096 (length (S .rows)) (before .rows) (after .rows)
+  pub clausesTo : FilledTo 20480 (5 * length (S .clauses)) (before .clauses) (after .clauses)
+  pub bindingsTo : FilledTo 32768 (4 * fifthCells (after .clauses) (length (S .clauses))) (before .bindings) (after .bindings)
+
 -- Refused with 1 or 2, for its length or the tables' lengths: record 0, counts 0, tables untouched.
 pub record Untouched (day : ℕ) (file : List ℕ) (tables : Tables) (reason : Reason) (k : ℕ) : Type 0 where
   pub number : OneOf (reasonNumber reason) (1 ∷ 2 ∷ [])
   pub record0 : k ≡ 0
-  pub counts : check day file (lengthsOf tables) ≡ answerOf (refusal reason 0) emptyState
+  pub counts : check day file (lengthsOf tables) ≡ record { verdict = refusal reason 0; symbols = 0; rows = 0; clauses = 0; bindings = 0 }
   pub tablesKept : tablesAfter file tables ≡ tables
 
 -- Refused at a record, with 3 or more: counts and tables are those of the state that the records before it leave, and of nothing else.
@@ -58,13 +87,25 @@ pub record LeftBefore (day : ℕ) (file : List ℕ) (tables : Tables) (reason : 
   pub state : State
   pub refusedRecord : Record
   pub reached : Reached file k state refusedRecord
-  pub counts : check day file (lengthsOf tables) ≡ answerOf (refusal reason k) state
-  pub tablesFilled : tablesAfter file tables ≡ filledTables state tables
+  pub counts : check day file (lengthsOf tables) ≡ record {
+    verdict = refusal reason k;
+    symbols = length (state .symbols);
+    rows = length (state .rows);
+    clauses = length (state .clauses);
+    bindings = state .total;
+  }
+  pub tablesHold : TablesHold state tables (tablesAfter file tables)
 
 -- Not refused: counts and tables are those of the state that all records leave.
 pub record LeftByAll (day : ℕ) (file : List ℕ) (tables : Tables) (S : State) : Type 0 where
-  pub counts : check day file (lengthsOf tables) ≡ answerOf (check day file (lengthsOf tables) .verdict) S
-  pub tablesFilled : tablesAfter file tables ≡ filledTables S tables
+  pub counts : check day file (lengthsOf tables) ≡ record {
+    verdict = check day file (lengthsOf tables) .verdict;
+    symbols = length (S .symbols);
+    rows = length (S .rows);
+    clauses = length (S .clauses);
+    bindings = S .total;
+  }
+  pub tablesHold : TablesHold S tables (tablesAfter file tables)
 
 pub record Demand1 (day : ℕ) (file : List ℕ) (tables : Tables) : Type 0 where
   -- A file that stands, with tables long enough, leaves the tables with exactly its records.
@@ -84,9 +125,17 @@ pub data RecordOfRow (S : State) (k : ℕ) (w : Row) : ℕ → Type 0 where
   ownRecord : ((q : ℕ) → q < length (S .rows) → ¬ (rowOf S q ≡ w)) → RecordOfRow S k w k
   earliestRecord : {q j : ℕ} → IsEarliest (rowsOf S) q → rowOf S q ≡ w → entry (map (λ u. u .0) (S .rows)) q ≡ some j → RecordOfRow S k w j
 
+-- The bindings bs are what unification of the pairs adds in the environment ρ: begun with all pairs and no binding, it has come, by its own turns, to bs and
+-- nothing left to be taken up, in at most 16,384 units of work, with room for a binding while fewer than 8,192 are held. `Fails` has the other ways in which it
+-- ends.
+pub record Binds (S : State) (ρ : Environment) (pairs : List Pair) (bs : List Binding) : Type 0 where
+  pub work : ℕ
+  pub within : work ≤ 16384
+  pub comesTo : Reaches (rowOf S) mostLinks (λ made. leb 8192 (S .total + length made)) ρ work (unifying [] pairs) (unifying bs [])
+
 -- What a record that stands adds to the state, as the table of kinds has it: a symbol with its arity; a row; an input clause with its
--- literals, each 2 × row, plus 1 if positive; the clause of a step, over its parents; the window of a clause, and no clause. Arguments and literals are
--- on earliest rows.
+-- literals, each 2 × row, plus 1 if positive; the clause of a step, over its parents, with the bindings of its unification; the window of a clause, and no
+-- clause. Arguments and literals are on earliest rows.
 pub data Adds (S : State) (k : ℕ) (r : Record) (T : State) : Type 0 where
   addsSymbol : r .kind ≡ 1 → T ≡ withSymbol S k (r .count) → Adds S k r T
   addsVariable : {j : ℕ} → r .kind ≡ 2 → RecordOfRow S k (variable (fieldA r)) j → T ≡ withRow S j (variable (fieldA r)) → Adds S k r T
@@ -96,9 +145,10 @@ pub data Adds (S : State) (k : ℕ) (r : Record) (T : State) : Type 0 where
       → ((i : ℕ) (l : RowLiteral) → numbered ls (1 + i) ≡ some l → (row : ℕ) × (2 * row + pick (l .0) 1 0 ≡ fieldNumbered r i) × EarliestEqual S row (l .1))
       → T ≡ withClause S k (input (nextClause S) ls) → Adds S k r T
   addsResolvent : {left right : Derivation} {l : Literal} {ns : List ℕ} {ms : List Literal} {bs : List Binding} → Resolves S r left right l ns ms
+      → Binds S (joined (maximumIndex left) (lookup left) (lookup right)) (pairsWith (maximumIndex left) (l .1) (map (λ m. m .1) ms)) bs
       → T ≡ withClause S k (resolve (nextClause S) left (fieldB r) right ns bs) → Adds S k r T
   addsFactor : {parent : Derivation} {l m : Literal} {bs : List Binding} → Factors S r parent l m
-      → T ≡ withClause S k (factor (nextClause S) parent (fieldB r) (fieldC r) bs) → Adds S k r T
+      → Binds S (lookup parent) ((l .1, m .1) ∷ []) bs → T ≡ withClause S k (factor (nextClause S) parent (fieldB r) (fieldC r) bs) → Adds S k r T
   addsWindow : r .kind ≡ 8 → T ≡ withWindow S (record { clause = fieldA r; first = fieldB r; last = fieldC r }) → Adds S k r T
 
 -- An atom of a clause, written out.
@@ -178,6 +228,9 @@ NoneEmpty Admitted S = (n : ℕ) (c : Derivation) → clauseOf S n ≡ some c �
 pub record Demand2 (Y : Type 0) (day : ℕ) (file : List ℕ) (tables : Tables) : Type 0 where
   -- What stands is what the file says.
   pub declared : (k : ℕ) (S T : State) (r : Record) → Reached file k S r → step S k r ≡ stands T → Adds S k r T
+  -- Terms stay: a row that there is before a record has the same term after it. So what is said of a clause in the state that its step came to holds in the
+  -- last one.
+  pub termsStay : (k : ℕ) (S T : State) (r : Record) → Reached file k S r → step S k r ≡ stands T → (q : ℕ) → q < length (rowsOf S) → termOf T q ≡ termOf S q
   -- Following an expression over rows that exist ends, in every clause of every state that reading comes to.
   pub followingEnds : (S : State) → ComesTo file S → (n : ℕ) (c : Derivation) → clauseOf S n ≡ some c → (e : Expression) → e .0 < length (rowsOf S)
       → Ends (follow (rowOf S) mostLinks (lookup c) e)
@@ -199,6 +252,7 @@ pub record Demand2 (Y : Type 0) (day : ℕ) (file : List ℕ) (tables : Tables) 
   pub recordDue : (k : ℕ) (S : State) (r : Record) (reason : Reason) → Reached file k S r → step S k r ≡ refused reason
       → Condition S r (reasonNumber reason) × ((other : ℕ) → Condition S r other → precedence (reasonNumber reason) ≤ precedence other)
   pub refusals : (reason : Reason) (k : ℕ) → check day file (lengthsOf tables) .verdict ≡ refusal reason k → Due file tables (reasonNumber reason) k
+  -- Which numbers there are; it follows from `refusals`, as only these have a condition.
   pub statedNumbers : (reason : Reason) (k : ℕ) → check day file (lengthsOf tables) .verdict ≡ refusal reason k
       → OneOf (reasonNumber reason) (1 ∷ 2 ∷ 3 ∷ 4 ∷ 5 ∷ 7 ∷ 8 ∷ 9 ∷ 10 ∷ 11 ∷ 12 ∷ 13 ∷ 14 ∷ 16 ∷ [])
   -- Where a condition holds, the record is refused, and the file too, with its number or one that is given before it.
@@ -238,6 +292,7 @@ pub record Refutation (Admitted : Derivation → Type 0) (file : List ℕ) (tabl
 
 pub record Demand3 (day : ℕ) (file : List ℕ) (tables : Tables) : Type 0 where
   pub refuted : (n : ℕ) → check day file (lengthsOf tables) .verdict ≡ accepted n → (S : State) × Stands file S × Refutation (UsesInForce file day) file tables S n
-  -- All uses of the accepted clause are in force on the day.
+  -- All uses of the accepted clause are in force on the day. It follows from `refuted`, whose clause is admitted, and is stated by itself because document 02,
+  -- Q-6, asks for it by name.
   pub inForce : (n : ℕ) → check day file (lengthsOf tables) .verdict ≡ accepted n → (S : State) → Stands file S → (c : Derivation) → clauseOf S n ≡ some c
       → (u : Use) → OneOf u (uses c) → InForce file day (u .0)

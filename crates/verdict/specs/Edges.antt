@@ -13,7 +13,7 @@ use Rattle.unification.specs.Term.{Term, var, app, nil, cons}
 use Rattle.verdict.specs.Cases.{recordOf, symbolOf, variableRow, applicationRow, inputClause, resolveStep, factorStep, numbersFrom, textBytes}
 use Rattle.verdict.specs.Tables.{Tables, lengthsOf, tablesAfter}
 use Rattle.verdict.specs.Text.{decimal, signText, termText, literalText}
-use Rattle.verdict.specs.Verdict.{check, answerNumbers, named}
+use Rattle.verdict.specs.Verdict.{check, answerNumbers, leastLengths}
 
 -- Records, and the seven numbers of the answer to the file that they make: 0 open, 1 accepted, 2 refused; clause or reason; record; the
 -- counts of symbols, rows, clauses, bindings.
@@ -21,7 +21,7 @@ abbrev pub Answered : Type 0
 Answered = List Record × List ℕ
 
 abbrev pub answerOn : ℕ → List Record → List ℕ
-answerOn day rs = answerNumbers (check day (fileBytes rs) named)
+answerOn day rs = answerNumbers (check day (fileBytes rs) leastLengths)
 
 abbrev pub answerTo : List Record → List ℕ
 answerTo rs = answerOn 0 rs

@@ -1,11 +1,12 @@
 -- Document 02, Q-1: what the comparison of outlines before unification changes, and what it does not. That a clash of outlines has no unifier is in
 -- demand 2 (b), which speaks of every 10.
 use mathlib.Core.Path.{_≡_}
-use mathlib.Core.Bool.{false}
+use mathlib.Core.Logic.{_⊎_}
+use mathlib.Core.Bool.{true}
 use mathlib.Core.List.{List, [], _∷_}
-use Prim.Native.Nat.{ℕ, _≤_, _<_}
+use Prim.Native.Nat.{ℕ, _<_}
 use Rattle.record.specs.Record.{Record}
-use Rattle.unification.specs.Outlines.{outlinesClash, Compares, ClashAt}
+use Rattle.unification.specs.Outlines.{RowPair, outlinesClash, Compares, ClashAt}
 use Rattle.verdict.specs.Conditions.{OneOf, OutlinesClash}
 use Rattle.verdict.specs.Refusal.{Reason, reasonNumber}
 use Rattle.verdict.specs.State.{State, rowOf}
@@ -22,6 +23,6 @@ pub record OutlinesBeforeUnification : Type 0 where
   -- and that gives 10 now.
   pub clashFirst : (S : State) (k : ℕ) (r : Record) (reason : Reason) → stepWithoutOutlines S k r ≡ refused reason
       → OneOf (reasonNumber reason) (11 ∷ 12 ∷ 13 ∷ []) → OutlinesClash S r → (now : Reason) × (step S k r ≡ refused now) × (reasonNumber now ≡ 10)
-  -- Where no clash is found and the whole comparison takes up no more than 4,096 pairs, there is no position that clashes.
-  pub noneOverlooked : (S : State) (r q n : ℕ) → outlinesClash (rowOf S) r q ≡ false → Compares (rowOf S) n ((r, q) ∷ []) [] → n ≤ 4096
-      → (path : List ℕ) → ¬ ClashAt (rowOf S) r q path
+  -- No clash is overlooked: where some position clashes, a clash is found, or 4,096 pairs are taken up and one more would begin.
+  pub foundOrSpent : (S : State) (r q : ℕ) (path : List ℕ) → ClashAt (rowOf S) r q path
+      → (outlinesClash (rowOf S) r q ≡ true) ⊎ ((p : RowPair) × (ps : List RowPair) × Compares (rowOf S) 4096 ((r, q) ∷ []) (p ∷ ps))

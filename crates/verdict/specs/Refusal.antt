@@ -31,11 +31,6 @@ reasonNumber wrongSigns = 8
 reasonNumber tooLarge = 9
 reasonNumber (unification f) = failureNumber f
 
--- The order in which reasons are given is that of their numbers; but 14 (document 02, Q-3) and 16 (Q-6) come after 5 and before 7, where 6 was. No kind
--- has both.
-abbrev pub precedence : ℕ → ℕ
-precedence n = pick (eqb n 14) 6 (pick (eqb n 16) 6 n)
-
 -- The limits of document 01 on a clause.
 unfoldable pub mostLiterals : ℕ
 mostLiterals = 128

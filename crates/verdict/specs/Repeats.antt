@@ -107,7 +107,10 @@ replacedFile file = fileBytes (replacedFrom emptyState 0 (records file))
 -- ── What is shown ──
 -- The tables are a function of what becomes of a file (`reading`), and the answer and the readout of that and the day.
 pub record RepeatedRows (file : List ℕ) : Type 0 where
-  -- Two rows are the same expression exactly if their terms, as the file writes them, are equal: in every state that reading comes to.
+  -- In every state that reading comes to there is a row for each that the file writes, and it has the term that the file writes.
+  pub asMany : (k : ℕ) (S : State) → read emptyState 0 (take k (records file)) ≡ allStand S → length (rowsOf S) ≡ length (writtenRows (take k (records file)))
+  pub asWritten : (k : ℕ) (S : State) → read emptyState 0 (take k (records file)) ≡ allStand S → (p : ℕ) → termByNumbers (rowsOf S) p ≡ termByNumbers (writtenRows (take k (records file))) p
+  -- Two rows are the same expression exactly if their terms, as the file writes them, are equal: in every such state.
   pub sameTerm : (k : ℕ) (S : State) → read emptyState 0 (take k (records file)) ≡ allStand S → (p q : ℕ) → p < length (rowsOf S) → q < length (rowsOf S)
       → earliestOf S p ≡ earliestOf S q → termByNumbers (writtenRows (take k (records file))) p ≡ termByNumbers (writtenRows (take k (records file))) q
   pub sameRow : (k : ℕ) (S : State) → read emptyState 0 (take k (records file)) ≡ allStand S → (p q : ℕ) → p < length (rowsOf S) → q < length (rowsOf S)

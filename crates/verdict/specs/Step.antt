@@ -16,7 +16,7 @@ pub data Result : Type 0 where
   stands : State → Result
   refused : Reason → Result
 
--- Each test holds, or the record is refused for the first that does not; tests are in the order of `precedence`.
+-- Each test holds, or the record is refused for the first that does not; tests are in the order in which reasons are given.
 unfoldable pub require : Bool → Reason → Result → Result
 require true reason next = next
 require false reason next = refused reason

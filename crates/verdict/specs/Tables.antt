@@ -6,7 +6,7 @@ use Rattle.unification.specs.Environment.{Binding}
 use Rattle.derivation.specs.Derivation.{literals, Derivation, maximumIndex, ownBindings}
 use Rattle.verdict.specs.State.{State, derivations}
 use Rattle.verdict.specs.Step.{stateOf}
-use Rattle.verdict.specs.Verdict.{Lengths, named, Reading, untouched, readTo, reading}
+use Rattle.verdict.specs.Verdict.{Lengths, leastLengths, Reading, untouched, readTo, reading}
 
 -- The tables, as lists of cells.
 pub record Tables : Type 0 where
@@ -53,10 +53,10 @@ filled n cells table = cells ++ (replicate (n - length cells) 0 ++ drop n table)
 
 abbrev pub filledTables : State → Tables → Tables
 filledTables S t = record {
-  symbols = filled (named .symbols) (symbolCells S) (t .symbols);
-  rows = filled (named .rows) (rowCells S) (t .rows);
-  clauses = filled (named .clauses) (clauseCells (S .clauses)) (t .clauses);
-  bindings = filled (named .bindings) (bindingCells (derivations S)) (t .bindings);
+  symbols = filled (leastLengths .symbols) (symbolCells S) (t .symbols);
+  rows = filled (leastLengths .rows) (rowCells S) (t .rows);
+  clauses = filled (leastLengths .clauses) (clauseCells (S .clauses)) (t .clauses);
+  bindings = filled (leastLengths .bindings) (bindingCells (derivations S)) (t .bindings);
 }
 
 -- The tables after the check: untouched where no record was read, else filled with what the records read have left.

@@ -66,12 +66,12 @@ pub record Lengths : Type 0 where
   pub clauses : ℕ
   pub bindings : ℕ
 
-abbrev pub named : Lengths
-named = record { symbols = 4096; rows = 4096; clauses = 20480; bindings = 32768 }
+abbrev pub leastLengths : Lengths
+leastLengths = record { symbols = 4096; rows = 4096; clauses = 20480; bindings = 32768 }
 
 abbrev pub longEnough : Lengths → Bool
 longEnough n =
-    leb (named .symbols) (n .symbols) && leb (named .rows) (n .rows) && leb (named .clauses) (n .clauses) && leb (named .bindings) (n .bindings)
+    leb (leastLengths .symbols) (n .symbols) && leb (leastLengths .rows) (n .rows) && leb (leastLengths .clauses) (n .clauses) && leb (leastLengths .bindings) (n .bindings)
 
 -- The length is at most 65,536 and a multiple of 16.
 abbrev pub fittingLength : ℕ → Bool

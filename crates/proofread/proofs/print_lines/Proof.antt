@@ -36,11 +36,11 @@ write-unit-requires c κs =
 
 array-share-prefix-text : tie.Need-array-share-prefix-text Inv-loop μ-loop
 array-share-prefix-text c =
-    omega (arith, end-inside (after-again (c .before .before .before .before .before .before .before .before .pre) (c .before .before .before .before .loop .inv .0)) (c .before .before .before .before .loop .inv .1) (c .write-unit .ensures), c .write-unit .ensures .sized .text)
+    omega (arith, end-inside (after-again (c .before .before .before .before .before .before .before .before .pre) (c .before .before .before .before .loop .inv .0)) (c .write-unit .ensures), c .write-unit .ensures .sized .text)
 
 slice-aggregate-write-all : tie.Need-slice-aggregate-write-all Inv-loop μ-loop
 slice-aggregate-write-all c =
-    sym (length-take-le _ _ (omega (arith, end-inside (after-again (c .before .before .before .before .before .before .before .before .before .pre) (c .before .before .before .before .before .loop .inv .0)) (c .before .before .before .before .before .loop .inv .1) (c .before .write-unit .ensures), c .before .write-unit .ensures .sized .text)))
+    sym (length-take-le _ _ (omega (arith, end-inside (after-again (c .before .before .before .before .before .before .before .before .before .pre) (c .before .before .before .before .before .loop .inv .0)) (c .before .write-unit .ensures), c .before .write-unit .ensures .sized .text)))
 
 write-all-requires : tie.Need-write-all-requires Inv-loop μ-loop
 write-all-requires c κs = search needs

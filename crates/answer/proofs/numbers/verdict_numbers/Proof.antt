@@ -1,5 +1,5 @@
 use mathlib.Core.Path.{sym, ap}
-use Rattle.answer.specs.Given.{verdictGiven}
+use Rattle.answer.specs.Given.{verdictCoded}
 use borrow.Author.Needs.{needs}
 use Rattle.answer.proofs.numbers.verdict_numbers.Statement.{statement}
 use Rattle.answer.proofs.numbers.verdict_numbers.Tie as tie
@@ -18,15 +18,15 @@ cast-t6 c = search needs
 
 returns : tie.Need-returns
 returns c =
-    sym (ap verdictGiven (c .enum-told .given .1))
+    sym (ap verdictCoded (c .enum-told .given .1))
 
 returns-2 : tie.Need-returns-2
 returns-2 c =
-    sym (ap verdictGiven (c .before .v .given .1))
+    sym (ap verdictCoded (c .before .v .given .1))
 
 returns-3 : tie.Need-returns-3
 returns-3 c =
-    sym (ap verdictGiven (c .before .v2 .given .1))
+    sym (ap verdictCoded (c .before .v2 .given .1))
 
 pub verdict-numbers-spec : {M : Type 1} → statement M
 verdict-numbers-spec =

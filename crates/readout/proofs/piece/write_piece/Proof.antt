@@ -46,11 +46,11 @@ same-length c = search needs
 
 returns : tie.Need-returns Inv-loop μ-loop
 returns c =
-    written-stopped (c .before .before .before .before .before .before .loop .inv .3) (c .before .before .before .before .before .before .loop .inv .0) (c .before .before .before .before .before .before .loop .inv .1) (subst (λ (k : ℕ). c .before .before .before .before .before .before .loop .n < k) (c .before .before .before .before .before .before .before .unit-count .ensures) (c .before .before .before .before .before .loop-test .taken)) (c .before .before .write-unit .ensures) (omega (arith, c .before .if1 .taken, c .before .before .before .before .before .before .loop .inv .2)) _ refl (c .stopped .ensures)
+    written-stopped (c .before .before .before .before .before .before .loop .inv .3) (c .before .before .before .before .before .before .loop .inv .0) (subst (λ (k : ℕ). c .before .before .before .before .before .before .loop .n < k) (c .before .before .before .before .before .before .before .unit-count .ensures) (c .before .before .before .before .before .loop-test .taken)) (c .before .before .write-unit .ensures) (omega (arith, c .before .if1 .taken, c .before .before .before .before .before .before .loop .inv .2)) _ refl (c .stopped .ensures)
 
 copy-text-requires : tie.Need-copy-text-requires Inv-loop μ-loop
 copy-text-requires c κs =
-    (c .before .before .before .write-unit .ensures .sized .text, (end-inside (after-again (c .before .before .before .before .before .before .before .before .before .before .before .before .pre) (c .before .before .before .before .before .before .before .loop .inv .0)) (c .before .before .before .before .before .before .before .loop .inv .1) (c .before .before .before .write-unit .ensures), omega (arith, c .before .before .if1 .left, c .before .before .before .before .before .before .before .loop .inv .3 (c .before .before .before .before .before .before .before .before .before .before .before .before .pre) .low, c .before .before .before .before .before .before .before .loop .inv .2)))
+    (c .before .before .before .write-unit .ensures .sized .text, (end-inside (after-again (c .before .before .before .before .before .before .before .before .before .before .before .before .pre) (c .before .before .before .before .before .before .before .loop .inv .0)) (c .before .before .before .write-unit .ensures), omega (arith, c .before .before .if1 .left, c .before .before .before .before .before .before .before .loop .inv .3 (c .before .before .before .before .before .before .before .before .before .before .before .before .pre) .low, c .before .before .before .before .before .before .before .loop .inv .2)))
 
 add-written : tie.Need-add-written Inv-loop μ-loop
 add-written c =
@@ -74,10 +74,9 @@ loop-again c =
     let loop-inv-2 = c .before .before .before .before .before .before .before .before .before .before .loop .inv .2 in
     let loop-inv-3 = c .before .before .before .before .before .before .before .before .before .before .loop .inv .3 in
     let loop-inv-0 = c .before .before .before .before .before .before .before .before .before .before .loop .inv .0 in
-    let loop-inv-1 = c .before .before .before .before .before .before .before .before .before .before .loop .inv .1 in
     let if1-left = c .before .before .before .before .before .if1 .left in
     let loop-n = c .before .before .before .before .before .before .before .before .before .before .loop .n in
-    (write-unit-says-sized-values, write-unit-says-sized-text, output-given ∙ loop-inv-2, written-more loop-inv-3 loop-inv-0 loop-inv-1 (subst (λ (k : ℕ). loop-n < k) unit-count-says loop-test-taken) write-unit-says (omega (arith, if1-left, loop-inv-2)) copy-text-says)
+    (write-unit-says-sized-values, write-unit-says-sized-text, output-given ∙ loop-inv-2, written-more loop-inv-3 loop-inv-0 (subst (λ (k : ℕ). loop-n < k) unit-count-says loop-test-taken) write-unit-says (omega (arith, if1-left, loop-inv-2)) copy-text-says)
 
 same-length-2 : tie.Need-same-length-2 Inv-loop μ-loop
 same-length-2 c = search needs

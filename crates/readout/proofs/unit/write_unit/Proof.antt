@@ -1,4 +1,5 @@
 -- Each way out is one law of `UnitWriting`.
+use Rattle.readout.proofs.UnitSizes.{unit-whole}
 use Rattle.readout.proofs.UnitWriting.{line-ready, other-inside, first-inside, unit-line, unit-heading, unit-both}
 use Rattle.readout.proofs.unit.write_unit.Statement.{statement}
 use Rattle.readout.proofs.unit.write_unit.Tie as tie
@@ -13,7 +14,8 @@ write-line-requires c κs =
 
 returns : tie.Need-returns
 returns c =
-    unit-line (c .before .before .before .if1 .taken) (other-inside (c .before .before .before .before .before .before .pre) (c .before .before .before .if1 .taken)) (c .write-line .ensures)
+    unit-whole (c .before .before .before .before .before .before .pre)
+    (unit-line (c .before .before .before .if1 .taken) (other-inside (c .before .before .before .before .before .before .pre) (c .before .before .before .if1 .taken)) (c .write-line .ensures))
 
 write-verdict-requires : tie.Need-write-verdict-requires
 write-verdict-requires c κs =
@@ -21,7 +23,8 @@ write-verdict-requires c κs =
 
 returns-2 : tie.Need-returns-2
 returns-2 c =
-    unit-heading (c .before .before .before .before .if1 .left) (c .if2 .taken) (c .before .before .write-verdict .ensures) (record { nodes = c .before .before .before .before .before .before .before .pre .after .checked .nodeRoom; values = c .before .before .before .before .before .before .before .pre .after .checked .values; text = c .before .before .write-verdict .ensures .room })
+    unit-whole (c .before .before .before .before .before .before .before .pre)
+    (unit-heading (c .before .before .before .before .if1 .left) (c .if2 .taken) (c .before .before .write-verdict .ensures) (record { nodes = c .before .before .before .before .before .before .before .pre .after .checked .nodeRoom; values = c .before .before .before .before .before .before .before .pre .after .checked .values; text = c .before .before .write-verdict .ensures .room }))
 
 write-line-requires-2 : tie.Need-write-line-requires-2
 write-line-requires-2 c κs =
@@ -29,7 +32,8 @@ write-line-requires-2 c κs =
 
 returns-3 : tie.Need-returns-3
 returns-3 c =
-    unit-both (c .before .before .before .before .before .before .before .if1 .left) (first-inside (c .before .before .before .before .before .before .before .before .before .before .pre) (c .before .before .before .before .before .before .before .if1 .left) (c .before .before .before .if2 .left)) _ _ (c .before .before .before .before .before .write-verdict .ensures) (c .write-line2 .ensures)
+    unit-whole (c .before .before .before .before .before .before .before .before .before .before .pre)
+    (unit-both (c .before .before .before .before .before .before .before .if1 .left) (first-inside (c .before .before .before .before .before .before .before .before .before .before .pre) (c .before .before .before .before .before .before .before .if1 .left) (c .before .before .before .if2 .left)) _ _ (c .before .before .before .before .before .write-verdict .ensures) (c .write-line2 .ensures))
 
 pub write-unit-spec : {M : Type 1} → statement M
 write-unit-spec =
