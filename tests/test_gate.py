@@ -3,6 +3,7 @@
 import os
 import shutil
 import subprocess
+import sys
 import tempfile
 import unittest
 from pathlib import Path
@@ -17,8 +18,20 @@ def script(path, text):
     path.chmod(0o755)
 
 
-def gate(rt=f"{PROVED}; echo rt: ok; echo 3 passed, 0 failed", rust="echo Rust log", comparison="exit 0", python="True"):
-    """Runs the gate in a folder where every part is a stand-in."""
+def commands_without_python(folder):
+    """Fills a folder with links to all commands but Python's."""
+    for place in os.get_exec_path():
+        for command in Path(place).glob("*"):
+            link = folder / command.name
+            if not command.name.startswith("python") and not link.exists():
+                link.symlink_to(command)
+    return str(folder)
+
+
+def gate(
+    rt=f"{PROVED}; echo rt: ok; echo 3 passed, 0 failed", rust="echo Rust log", comparison="exit 0", python="True", installing=None
+):
+    """Runs the gate in a folder where every part is a stand-in; with `installing`, which stands in for `apt-get`, without Python."""
     with tempfile.TemporaryDirectory() as folder:
         top = Path(folder)
         shutil.copytree(ROOT / ".ci", top / ".ci")
@@ -33,8 +46,11 @@ def gate(rt=f"{PROVED}; echo rt: ok; echo 3 passed, 0 failed", rust="echo Rust l
         script(top / "rust" / "comparison" / "test.sh", comparison)
         script(top / "commands" / "rt", f"echo log of the proofs\n{rt}")
         path = f"{top / 'commands'}:{os.environ['PATH']}"
+        if installing is not None:
+            script(top / "commands" / "apt-get", f'echo "installing: $*"\n{installing}')
+            path = commands_without_python(top / "commands")
         return subprocess.run(
-            ["bash", top / ".ci" / "run"], env={**os.environ, "PATH": path}, capture_output=True, text=True
+            [shutil.which("bash"), top / ".ci" / "run"], env={**os.environ, "PATH": path}, capture_output=True, text=True
         )
 
 
@@ -63,6 +79,16 @@ class Gate(unittest.TestCase):
         run = gate(python="False")
         self.ends(run, 1, "failed: the Python tests")
         self.assertIn("FAILED (failures=1)", run.stderr)
+
+    def test_python_is_installed_first(self):
+        run = gate(installing=f'[ "$1" = update ] || ln -s {sys.executable} "$(dirname "$0")/python3"')
+        self.ends(run, 0, "3 passed, 0 failed")
+        self.assertTrue(run.stdout.startswith("installing: update\ninstalling: install --yes python3\n"))
+
+    def test_python_cannot_be_installed(self):
+        run = gate(installing="exit 100")
+        self.assertEqual(run.stdout, "installing: update\nfailed: Python 3 is missing and cannot be installed\n")
+        self.assertEqual(run.returncode, 1)
 
     def test_everything_fails(self):
         run = gate(rt="exit 1", rust="echo Rust log; exit 1", python="False")

@@ -150,35 +150,34 @@ class Output(unittest.TestCase):
 
 
 class Script(unittest.TestCase):
-    """The script of docs/READING.md, with its words in capitals replaced."""
+    """The script examples/verdict."""
 
-    def run_script(self, file, day="0", readout="READOUT"):
-        """What the script prints and what it leaves as the readout, where an earlier run has left an accepted one."""
-        guide = (ROOT / "docs" / "READING.md").read_text()
-        script = guide.split("\n    : > READOUT\n")[1].split("\n    fi\n")[0]
-        script = f"    : > READOUT\n{script}\n    fi\n"
-        for word, given in (("proofread", PROGRAM), ("FILE", file), ("READOUT", readout), ("DAY", day)):
-            self.assertIn(word, script)
-            script = script.replace(word, str(given))
+    def run_script(self, file, day="0", readout=None, program=PROGRAM):
+        """What the script says, with its exit status, and what it leaves as the readout where an earlier run has left an accepted one."""
         with tempfile.TemporaryDirectory() as folder:
             left = Path(folder, "READOUT")
             left.write_bytes(READOUT)
-            Path(folder, "ERRORS").write_bytes(b"of an earlier run\n")
-            environment = {**os.environ, "LC_ALL": "C"}
-            run = subprocess.run(["bash", "-c", script], cwd=folder, env=environment, capture_output=True)
-            self.assertEqual(run.stderr, b"")
-            return run.stdout, left.read_bytes()
+            environment = {**os.environ, "LC_ALL": "C", "PROOFREAD": str(program)}
+            script = [ROOT / "examples" / "verdict", str(file), day, str(readout or left)]
+            run = subprocess.run(script, cwd=folder, env=environment, capture_output=True)
+            return run.returncode, run.stdout, run.stderr, left.read_bytes()
 
-    def has_no_verdict(self, why, *arguments):
-        """The script tells why on its output, and leaves no readout."""
-        told, readout = self.run_script(*arguments)
-        self.assertRegex(told, why)
-        self.assertEqual(readout, b"")
+    def has_no_verdict(self, why, *arguments, **others):
+        """The script tells why, and leaves no readout."""
+        status, told, errors, readout = self.run_script(*arguments, **others)
+        self.assertEqual((status, told, readout), (3, b"", b""))
+        self.assertRegex(errors, why)
 
     def test_files_have_their_verdicts_and_readouts(self):
-        for file in (FILE, ROOT / "examples" / "refused.proof", ROOT / "examples" / "season.proof"):
-            readout = file.with_suffix(".txt").read_bytes()
-            self.assertEqual(self.run_script(file), (readout.splitlines(keepends=True)[0], readout), file.name)
+        for name, day, status in (("permit", 0, 0), ("season", 0, 1), ("season", 21000, 0), ("refused", 0, 2)):
+            readout = (ROOT / "examples" / (f"{name}-{day}.txt" if day else f"{name}.txt")).read_bytes()
+            first = readout.splitlines(keepends=True)[0]
+            run = self.run_script(ROOT / "examples" / f"{name}.proof", str(day))
+            self.assertEqual(run, (status, first, b"", readout), name)
+
+    def test_without_a_readout(self):
+        run = subprocess.run(["examples/verdict", "examples/permit.proof", "0"], cwd=ROOT, capture_output=True)
+        self.assertEqual((run.returncode, run.stdout, run.stderr), (0, READOUT.splitlines(keepends=True)[0], b""))
 
     def test_days(self):
         # A zero before a number does not make it an octal one. The bytes of some days are blanks, line feeds or signs of printf.
@@ -189,15 +188,15 @@ class Script(unittest.TestCase):
             with tempfile.NamedTemporaryFile() as file:
                 file.write(clause + window)
                 file.flush()
-                self.assertEqual(self.run_script(file.name, day)[0], b"accepted 0\n", day)
+                self.assertEqual(self.run_script(file.name, day)[:3], (0, b"accepted 0\n", b""), day)
 
     def test_an_empty_file_and_one_that_is_too_long(self):
-        for length, first in ((0, b"open\n"), (65536, b"refused 3 at 0\n"), (65552, b"refused 1 at 0\n")):
+        for length, status, first in ((0, 1, b"open\n"), (65536, 2, b"refused 3 at 0\n"), (65552, 2, b"refused 1 at 0\n")):
             with tempfile.NamedTemporaryFile() as file:
                 file.write(bytes(length))
                 file.flush()
-                self.assertEqual(self.run_script(file.name), (first, first), length)
-        self.assertEqual(self.run_script("/dev/zero")[0], b"refused 1 at 0\n")
+                self.assertEqual(self.run_script(file.name), (status, first, b"", first), length)
+        self.assertEqual(self.run_script("/dev/zero")[:2], (2, b"refused 1 at 0\n"))
 
     def test_a_missing_file(self):
         self.has_no_verdict(rb"\Ahead: .*missing.proof.*No such file or directory\n\Z", "missing.proof")
@@ -211,12 +210,38 @@ class Script(unittest.TestCase):
         self.has_no_verdict(rb"\Ahead: .*Input/output error\n\Z", "/proc/self/mem")
 
     def test_no_day(self):
-        for day in ("65536", "99999", "100000", "-1", "+1", "1.5", "0x10", "day"):
-            self.has_no_verdict(rb"\A\Z", FILE, day)
+        for day in ("65536", "99999", "100000", "-1", "+1", "1.5", "0x10", "day", ""):
+            self.has_no_verdict(rb"\Averdict: '.*' is no day: .*\n\Z", FILE, day)
 
-    def test_a_readout_that_is_not_whole(self):
-        told, _ = self.run_script(FILE, readout="/dev/full")
-        self.assertEqual(told, b"proofread: standard output: No space left on device\n")
+    def test_no_program(self):
+        self.has_no_verdict(rb"\Averdict: there is no program 'missing'\n\Z", FILE, program="missing")
+
+    def test_a_program_that_gives_no_verdict(self):
+        for text, why in (
+            ("", "the program printed no verdict"),
+            ("printf accepted", "the program printed no verdict"),
+            ("echo accepted", "the program printed 'accepted'"),
+            ("echo accepted 0; echo wrong >&2", "wrong"),
+            ("echo accepted 0; kill -9 $$", "the program was ended: "),
+        ):
+            with tempfile.TemporaryDirectory() as folder:
+                program = Path(folder, "proofread")
+                program.write_text(f"#!/bin/sh\n{text}\n")
+                program.chmod(0o755)
+                self.has_no_verdict(rf"verdict: {why}\n\Z".encode(), FILE, program=program)
+
+    def test_a_readout_that_cannot_be_kept(self):
+        status, told, errors, _ = self.run_script(FILE, readout="/dev/full")
+        self.assertEqual((status, told), (3, b""))
+        self.assertRegex(errors, rb"No space left on device\n\Z")
+
+    def test_the_file_is_no_place_for_the_readout(self):
+        with tempfile.NamedTemporaryFile() as file:
+            file.write(FILE.read_bytes())
+            file.flush()
+            status, told, errors, _ = self.run_script(file.name, readout=file.name)
+            self.assertEqual((status, told, Path(file.name).read_bytes()), (3, b"", FILE.read_bytes()))
+            self.assertRegex(errors, rb"\Averdict: the readout would overwrite .*\n\Z")
 
 
 class Guide(unittest.TestCase):

@@ -103,7 +103,8 @@ fn run_in(path: &[u8], space: &mut [u8], has_days: bool) -> bool
     print_group(path, &space[..n], has_days)
 }
 
-// The same with space for the longest pack.
+// The same with space for a pack of up to 655,359 bytes. The prover counts the cells of the array out, and with 1,048,576 it runs out of stack: a
+// group that would be longer is to be cut in two.
 fn run_group(path: &[u8], has_days: bool) -> bool
     requires { ⌜ 4 ≤ length (now path) ⌝ }
 {

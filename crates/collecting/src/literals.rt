@@ -11,8 +11,12 @@ ghost use lib.ListN.{length};
 ghost use Rattle.derivation.specs.Stored.{originCode};
 ghost use Rattle.collecting.specs.Literals.{Placed, Moved, Deleted, RightsDeleted, Collectable, Collected};
 
+// The list that the literals of a clause are collected in, two cells for each: a clause has at most 128 of them, and while it is put
+// together there are four more at each step that it has at most, the right literals that the step names.
+pub type LiteralList = [u16; 33024];
+
 // The cells of literal n.
-fn place(list: &mut [u16; 33024], n: usize, code: u16, index: u16)
+fn place(list: &mut LiteralList, n: usize, code: u16, index: u16)
     requires { ⌜ length (now list) ≡ 33024 ⌝ }
     requires { ⌜ n < 16512 ⌝ }
     ensures { λ _. ⌜ Placed (now (list .entry)) (now (list .exit)) n code index ⌝ }
@@ -22,7 +26,7 @@ fn place(list: &mut [u16; 33024], n: usize, code: u16, index: u16)
 }
 
 // Every literal after number n, as far as number `end`, gets the number before its own.
-fn move_down(list: &mut [u16; 33024], n: usize, end: usize)
+fn move_down(list: &mut LiteralList, n: usize, end: usize)
     requires { ⌜ length (now list) ≡ 33024 ⌝ }
     requires { ⌜ n ≤ end ⌝ }
     requires { ⌜ end < 16512 ⌝ }
@@ -39,7 +43,7 @@ fn move_down(list: &mut [u16; 33024], n: usize, end: usize)
 }
 
 // Of the literals after number `base`, as far as number `end`, the a-th is taken out, if there is one. Answers the number of the last one.
-fn delete(list: &mut [u16; 33024], base: usize, end: usize, a: u16) -> usize
+fn delete(list: &mut LiteralList, base: usize, end: usize, a: u16) -> usize
     requires { ⌜ length (now list) ≡ 33024 ⌝ }
     requires { ⌜ base ≤ end ⌝ }
     requires { ⌜ end < 16512 ⌝ }
@@ -60,7 +64,7 @@ fn delete(list: &mut [u16; 33024], base: usize, end: usize, a: u16) -> usize
 // the others still count. Most steps name one. Answers the number of the last literal left.
 fn delete_rights(
     origins: &Origins,
-    list: &mut [u16; 33024],
+    list: &mut LiteralList,
     base: usize,
     end: usize,
     c: u16,
@@ -84,7 +88,7 @@ fn delete_rights(
 fn collect_input(
     origins: &Origins,
     clauses: &[u16],
-    list: &mut [u16; 33024],
+    list: &mut LiteralList,
     base: usize,
     c: u16,
     offset: u16,
@@ -109,7 +113,7 @@ fn collect_input(
 pub fn collect(
     origins: &Origins,
     clauses: &[u16],
-    list: &mut [u16; 33024],
+    list: &mut LiteralList,
     base: usize,
     c: u16,
     offset: u16,

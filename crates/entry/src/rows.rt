@@ -67,6 +67,7 @@ fn taken_literal(nodes: &Nodes, n: u16) -> u16
     2 * earliest_of(nodes, n / 2) + n % 2
 }
 
+// The numbers of an input clause with each row taken so.
 pub fn taken_literals(nodes: &Nodes, numbers: &[u16; 7]) -> [u16; 7]
     requires { ⌜ RowsReady (now nodes) ⌝ }
     ensures { λ ns. ⌜ ns ≡ takenLiterals (now (nodes .entry)) (now (numbers .entry)) ⌝ }

@@ -1,5 +1,5 @@
 // A factor: the outlines of two atoms of its parent are compared, the parent's bindings are loaded once, the atoms are unified, and the clause is
-// entered.
+// entered. `Stepping` in specs/ of the crate inference has the contracts.
 use clauses::index_cell;
 use clauses::literals_cell;
 use entry::entry::Counts;

@@ -37,7 +37,7 @@ fn take_image(images: &mut Images, x: usize, y: u32) -> bool
     before == y + 1
 }
 
-// A row's code; and its part n.
+// A row's code.
 fn code_at(nodes: &Nodes, r: u32) -> u16
     requires { ⌜ length (now nodes) ≡ 32768 ⌝ }
     ensures { λ a. ⌜ a ≡ getD (now (nodes .entry)) (8 * r) 0 ⌝ }
@@ -45,6 +45,7 @@ fn code_at(nodes: &Nodes, r: u32) -> u16
     node(nodes, 8 * (r as usize))
 }
 
+// Part n of a row.
 fn part_at(nodes: &Nodes, r: u32, n: u16) -> u16
     requires { ⌜ length (now nodes) ≡ 32768 ⌝ }
     ensures { λ a. ⌜ a ≡ part (now (nodes .entry)) r n ⌝ }

@@ -1,9 +1,9 @@
 // A line of the readout: a clause written out, with its number, its maximum index and its literals.
-use super::LiteralList;
 use clauses::index_cell;
 use clauses::literal::NamedLiteral;
 use clauses::literal::literal;
 use clauses::literals_cell;
+use collecting::literals::LiteralList;
 use collecting::literals::collect;
 use following::nodes::Nodes;
 use following::nodes::Origins;

@@ -1,4 +1,5 @@
-// Records of kind 1 to 4: each is tested in the order of the numbers that it can be refused with, and then entered in the tables.
+// Records of kind 1 to 4: each is tested in the order of the numbers that it can be refused with, and then entered in the tables. `Program`
+// in specs/ of the crate entry has the contracts.
 use distinct::Heads;
 use distinct::Links;
 use entry::entry::Counts;

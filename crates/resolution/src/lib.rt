@@ -1,5 +1,5 @@
 // Records of kind 5 and 7: a resolve, on one right literal or on several. Its literals are looked up and its tests made here; on the atoms that were
-// found the crate resolvents goes on.
+// found the crate resolvents goes on. `Stepping` in specs/ of the crate inference has the contracts.
 use clauses::literal::NamedLiteral;
 use entry::entry::Counts;
 use entry::entry::Entered;

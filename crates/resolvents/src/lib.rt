@@ -1,4 +1,5 @@
-// A resolve on atoms that were found: the limits on its result, outlines, unification, and its end.
+// A resolve on atoms that were found: the limits on its result, outlines, unification, and its end. `Stepping` in specs/ of the crate inference
+// has the contracts.
 use clauses::index_cell;
 use clauses::literals_cell;
 use entry::entry::Counts;

@@ -1,4 +1,5 @@
-// A row, entered in the node table as a row of its own or as a repeat of the earliest equal one.
+// A row, entered in the node table as a row of its own or as a repeat of the earliest equal one. `Program` in specs/ of the crate entry has
+// the contracts.
 use distinct::FoundRow;
 use distinct::Heads;
 use distinct::Links;

@@ -1,4 +1,4 @@
-// The row that has given cells, found by its bucket.
+// The row that has given cells, found by its bucket. `Rows` and `Index` in specs/ of the crate distinct have the contracts.
 use distinct::FoundRow;
 use distinct::Heads;
 use distinct::Links;

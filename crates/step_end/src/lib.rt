@@ -1,4 +1,5 @@
-// The end of a step: one that went through is entered, and a refused one leaves no binding behind.
+// The end of a step: one that went through is entered, and a refused one leaves no binding behind. `Stepping` in specs/ of the crate inference
+// has the contracts.
 use entry::entry::Counts;
 use entry::entry::Entered;
 use entry::rows::put_cells;

@@ -1,4 +1,5 @@
-// The unification of a step: the atoms that it names, over the bindings of its parents, which are loaded first.
+// The unification of a step: the atoms that it names, over the bindings of its parents, which are loaded first. `Stepping` in specs/ of the crate
+// inference has the contracts.
 use clauses::index_cell;
 use entry::entry::Counts;
 use following::nodes::Nodes;

@@ -1,6 +1,6 @@
 -- Document 01, "Case sheet": one table of cases. Each case has a file, and what the definitions make of it: the answer, every cell of
--- the four tables, the work of each step that stands, and the readout. They are proved together, by computing: all 61,440 cells of the
--- named parts and a cell past each. Case L, which is no file, is in the crate unification.
+-- the four tables, the work of each step that stands, and the readout. They are proved together, all 61,440 cells of the
+-- named parts and a cell past each: the cells that are filled by computing, the zeros and the cell past them by a law. Case L, which is no file, is in the crate unification.
 use mathlib.Core.Path.{_≡_}
 use mathlib.Core.Option.{Option, none, some}
 use mathlib.Core.List.{List, [], _∷_, _++_, map}

@@ -29,7 +29,8 @@ pub enum BuildError {
     Literals(usize),
     /// The atom of a literal is a variable.
     VariableLiteral,
-    /// A symbol, row or clause that this builder has not made.
+    /// A symbol, row or clause of another builder. It is found only where its number is past what this builder has made,
+    /// or a symbol's arity is another; otherwise it names this builder's own of that number.
     Foreign,
     /// The file has no symbol of this number.
     NoSymbol {

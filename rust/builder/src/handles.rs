@@ -1,4 +1,5 @@
-//! What a file is made of, each a type of its own. A handle belongs to the builder that made it.
+//! What a file is made of, each a type of its own. A handle belongs to the builder that made it, and is a number there: whoever
+//! gives it to another builder names what that one has under this number, if it has it.
 //!
 //! One cannot be given for another:
 //!

@@ -62,4 +62,4 @@ pub use file::FileBuilder;
 pub use handles::{neg, pos, Clause, Literal, Row, Signed, Symbol};
 pub use running::RunningBuilder;
 pub use standing::{Derived, Expression, Standing, Value};
-pub use yestrwyn_types::{limits, Reason};
+pub use yestrwyn_types::{limits, record, Reason};

@@ -1,8 +1,8 @@
 //! What a check of a proof file answers, the tables that it fills, the answers to whether one clause covers another and to
 //! a merge of two files, and the numbers of the format.
 //!
-//! The packages `yestrwyn` (the proved check) and `yestrwyn-builder` give these types on; there is no
-//! need to name this package beside them.
+//! The package `yestrwyn` (the proved check) gives all of these on, and `yestrwyn-builder` the limits, records and reasons;
+//! there is no need to name this package beside them.
 
 #![forbid(unsafe_code)]
 #![warn(missing_docs)]
@@ -12,12 +12,14 @@ pub mod record;
 
 mod answer;
 mod cover;
+mod inputs;
 mod merge;
 mod reason;
 mod tables;
 
 pub use answer::{Answer, Verdict, ANSWER_CELLS};
 pub use cover::{Covering, Outcome, COVERING_CELLS};
+pub use inputs::{input_clauses, InputClause};
 pub use merge::{MergeRefusal, Merged, MERGED_CELLS};
 pub use reason::Reason;
 pub use tables::{Cells, Tables, LENGTHS};

@@ -40,7 +40,8 @@ pub use readout::{
 };
 pub use stack::{with_stack, STACK};
 pub use workspace::Workspace;
+pub use yestrwyn_types::{input_clauses, limits, record};
 pub use yestrwyn_types::{
-    limits, Answer, Cells, Covering, MergeRefusal, Merged, Outcome, Reason, Tables, Verdict,
+    Answer, Cells, Covering, InputClause, MergeRefusal, Merged, Outcome, Reason, Tables, Verdict,
 };
-pub use yestrwyn_types::{COVERING_CELLS, LENGTHS, MERGED_CELLS};
+pub use yestrwyn_types::{ANSWER_CELLS, COVERING_CELLS, LENGTHS, MERGED_CELLS};

@@ -51,7 +51,7 @@ impl Workspace {
     /// Checks a file on a day, on the caller's own stack, of which 8 MiB ([`STACK`](crate::STACK)) must be left.
     ///
     /// A check that runs out of stack ends the process. The arrays are not on the stack here, so that an
-    /// ordinary file takes some 20 KiB of it; but a file can be made that takes 2.7 MiB, and how much a call
+    /// ordinary file takes some 24 KiB of it; but a file can be made that takes 2.6 MiB, and how much a call
     /// takes is measured, not proved. A thread of Rust has 2 MiB unless told otherwise: see [`with_stack`].
     pub fn check_here(&mut self, day: u16, file: &[u8]) -> Answer {
         let Workspace { nodes, origins, values, cells } = self;

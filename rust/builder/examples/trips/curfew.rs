@@ -1,6 +1,6 @@
 //! A flight to an airfield that is closed at night. Both slots left for the departure arrive too late.
 
-use yestrwyn_builder::{neg, pos, BuildError, FileBuilder};
+use yestrwyn_builder::{neg, pos, BuildError, Clause, FileBuilder, Row, Symbol};
 
 /// The rules, the facts of the trip, and the steps to the empty clause.
 pub fn file() -> Result<Vec<u8>, BuildError> {
@@ -35,19 +35,37 @@ pub fn file() -> Result<Vec<u8>, BuildError> {
     let rule = file.clause(&[neg(arrives_xy), neg(closed_xy)])?;
 
     // The times: after either slot it is night.
-    let after_first = file.apply(after, &[first])?;
-    let night_after_first = file.apply(night, &[after_first])?;
-    let first_late = file.clause(&[pos(night_after_first)])?;
-    let after_second = file.apply(after, &[second])?;
-    let night_after_second = file.apply(night, &[after_second])?;
-    let second_late = file.clause(&[pos(night_after_second)])?;
+    let late = [
+        arrives_at_night(&mut file, after, night, first)?,
+        arrives_at_night(&mut file, after, night, second)?,
+    ];
 
-    // Steps. The clause `too_late` is derived once and used for both slots.
+    steps(&mut file, [slots, flight, curfew, rule], late)?;
+    Ok(file.finish())
+}
+
+/// The fact that it is night after a slot.
+fn arrives_at_night(
+    file: &mut FileBuilder,
+    after: Symbol,
+    night: Symbol,
+    slot: Row,
+) -> Result<Clause, BuildError> {
+    let after_slot = file.apply(after, &[slot])?;
+    let night_after_slot = file.apply(night, &[after_slot])?;
+    file.clause(&[pos(night_after_slot)])
+}
+
+/// The steps. The clause `too_late` is derived once and used for both slots.
+fn steps(
+    file: &mut FileBuilder,
+    [slots, flight, curfew, rule]: [Clause; 4],
+    [first_late, second_late]: [Clause; 2],
+) -> Result<Clause, BuildError> {
     let not_closed = file.resolve(flight.literal(2), rule.literal(1))?;
     let too_late = file.resolve(curfew.literal(2), not_closed.literal(2))?;
     let not_first = file.resolve(first_late.literal(1), too_late.literal(1))?;
     let not_second = file.resolve(second_late.literal(1), too_late.literal(1))?;
     let only_second = file.resolve(slots.literal(1), not_first.literal(1))?;
-    file.resolve(only_second.literal(1), not_second.literal(1))?;
-    Ok(file.finish())
+    file.resolve(only_second.literal(1), not_second.literal(1))
 }
