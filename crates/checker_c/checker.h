@@ -45,6 +45,39 @@ extern "C" {
  * file. */
 #define CHECKER_FILE 65536
 
+/* The first number of an answer: of a check, of which clause covers which, of a
+ * merge. Whatever is none of these names, take as a refusal. */
+enum { CHECKER_OPEN = 0, CHECKER_ACCEPTED = 1, CHECKER_REFUSED = 2 };
+enum { CHECKER_NO = 0, CHECKER_YES = 1 };
+enum { CHECKER_WRITTEN = 0 };
+
+/* The first number of the progress of a readout. */
+enum { CHECKER_COMPLETE = 0, CHECKER_MORE = 1, CHECKER_TOO_SHORT = 2 };
+
+/* Why something is refused. The format may get further numbers: treat an unknown
+ * one as a refusal too. 6 is never given. 15 is given by checker_covers alone, 17
+ * to 19 by checker_merge alone. */
+enum {
+    CHECKER_REASON_LENGTH = 1,           /* over 65,536, or no multiple of 16 */
+    CHECKER_REASON_TABLE = 2,            /* a table or an output too short */
+    CHECKER_REASON_KIND = 3,             /* a kind that there is not */
+    CHECKER_REASON_RANGE = 4,            /* out of range, or not zero */
+    CHECKER_REASON_MISSING = 5,          /* named, but not there */
+    CHECKER_REASON_VARIABLE_LITERAL = 7, /* a literal's row is a variable */
+    CHECKER_REASON_SIGNS = 8,            /* unfit signs, or one literal twice */
+    CHECKER_REASON_TOO_LARGE = 9,        /* over 128 literals or index 4,096 */
+    CHECKER_REASON_CLASH = 10,           /* two different symbols meet */
+    CHECKER_REASON_OCCURS = 11,          /* a variable in its own value */
+    CHECKER_REASON_WORK = 12,            /* a step would do over 16,384 */
+    CHECKER_REASON_BINDINGS = 13,        /* over 8,192 bindings */
+    CHECKER_REASON_ORDER = 14,           /* right literals do not rise */
+    CHECKER_REASON_NO_COMPARISON = 15,   /* nothing to compare */
+    CHECKER_REASON_CROSSED = 16,         /* first day after last */
+    CHECKER_REASON_MERGED_STEP = 17,     /* a file to be merged has a step */
+    CHECKER_REASON_MERGED_SYMBOLS = 18,  /* neither symbol list begins the other */
+    CHECKER_REASON_MERGED_LENGTH = 19    /* over 4,096 records when merged */
+};
+
 /* Checks a proof file on a day, writes the answer and fills four tables.
  *
  *   day       the day by which input clauses are in force or not: a clause
