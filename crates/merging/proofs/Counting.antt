@@ -52,8 +52,8 @@ module _ (S : State) (k : ℕ) (r : Record) (T : State) where
   of-adds (addsVariable e j q) = numbered-so 2 _ e q (omega arith) (omega arith) (omega arith)
   of-adds (addsApplication e l h j q) = numbered-so 3 _ e q (omega arith) (omega arith) (omega arith)
   of-adds (addsInput e l h q) = numbered-so 4 _ e q (omega arith) (omega arith) (omega arith)
-  of-adds (addsResolvent R q) = of-resolve _ _ (R .isResolve) q refl refl refl
-  of-adds (addsFactor F q) = numbered-so 6 _ (F .isFactor) q (omega arith) (omega arith) (omega arith)
+  of-adds (addsResolvent R H q) = of-resolve _ _ (R .isResolve) q refl refl refl
+  of-adds (addsFactor F H q) = numbered-so 6 _ (F .isFactor) q (omega arith) (omega arith) (omega arith)
   of-adds (addsWindow e q) = numbered-so 8 _ e q (omega arith) (omega arith) (omega arith)
 
   pub step-counted : length (r .fields) ≡ 7 → step S k r ≡ stands T → Counted S r T
@@ -138,8 +138,8 @@ module _ (S : State) (k : ℕ) (r : Record) (T : State) (A : List ℕ) (L : List
   listed-by (addsVariable e j q) = none-added 2 e refl (ap arities q)
   listed-by (addsApplication e l h j q) = none-added 3 e refl (ap arities q)
   listed-by (addsInput e l h q) = none-added 4 e refl (ap arities q)
-  listed-by (addsResolvent R q) = resolvent-added _ (R .isResolve) (ap arities q)
-  listed-by (addsFactor F q) = none-added 6 (F .isFactor) refl (ap arities q)
+  listed-by (addsResolvent R H q) = resolvent-added _ (R .isResolve) (ap arities q)
+  listed-by (addsFactor F H q) = none-added 6 (F .isFactor) refl (ap arities q)
   listed-by (addsWindow e q) = none-added 8 e refl (ap arities q)
 
 list-joined : (r : Record) (rs : List Record) → symbolList (r ∷ []) ++ symbolList rs ≡ symbolList (r ∷ rs)

@@ -51,8 +51,8 @@ module _ (S : State) (k : ℕ) (r : Record) (T : State) (H : WindowsThere S) (se
   by (addsVariable e j p) = same _ p refl (omega arith)
   by (addsApplication e l h j p) = same _ p refl (omega arith)
   by (addsInput e l h p) = same _ p refl (omega arith)
-  by (addsResolvent R p) = same _ p refl (omega arith)
-  by (addsFactor F p) = same _ p refl (omega arith)
+  by (addsResolvent R G p) = same _ p refl (omega arith)
+  by (addsFactor F G p) = same _ p refl (omega arith)
   by (addsWindow e p) = subst WindowsThere (sym p) (clause-there e, H)
 
   step-there : WindowsThere T
