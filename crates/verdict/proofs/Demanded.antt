@@ -428,10 +428,10 @@ module _ (day : ℕ) (file : List ℕ) (tables : Tables) where
     openIf = open-if;
   }
 
-  refutation : (S : State) → Stands file S → longEnough (lengthsOf tables) ≡ true → (n : ℕ) → firstEmpty (usesInForce S day) (derivations S) ≡ some n → Refutation (UsesInForce file day) file tables S n
-  refutation S st long n q =
+  -- Whatever clauses are admitted, the lowest of them that is empty has a refutation behind it.
+  pub refutation-of : (Admitted : Derivation → Type 0) (S : State) → Stands file S → longEnough (lengthsOf tables) ≡ true → (n : ℕ) → LowestEmpty Admitted S n → Refutation Admitted file tables S n
+  refutation-of Admitted S st long n L =
       let H = stands-ok file S st in
-      let L = lowest-empty S st n q in
       let c = L .clause in
       let O = order-of 4096 S H n c (L .isClause) in
       let law = term-of-row S H in
@@ -447,6 +447,9 @@ module _ (day : ℕ) (file : List ℕ) (tables : Tables) where
             (lookup c) mostLinks (λ x e p. known-of 4096 S H c O x e p .1) (short-le (λ r. r < length (rowsOf S)) (rowOf S) (S .total) mostLinks (lookup c) (held-links 4096 S H) (O .chains)) (valueIn (termOf S) c) v 1 (uses c) (known-uses (Under (length (rowsOf S))) c (O .known));
         unsatisfiable = refutes (rowOf S) (termOf S) law c (O .valid) (one-arity S H) (L .empty) (valueIn (termOf S) c) v;
       }
+
+  refutation : (S : State) → Stands file S → longEnough (lengthsOf tables) ≡ true → (n : ℕ) → firstEmpty (usesInForce S day) (derivations S) ≡ some n → Refutation (UsesInForce file day) file tables S n
+  refutation S st long n q = refutation-of (UsesInForce file day) S st long n (lowest-empty S st n q)
 
   pub demand3 : Demand3 day file tables
   demand3 = record {

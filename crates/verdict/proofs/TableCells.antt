@@ -85,7 +85,7 @@ module _ (named : ℕ) (cells table : List ℕ) (few : length cells ≤ named) (
   }
 
 -- The cells of a list that has the newest first.
-reversed-at : {A : Type 0} (f : A → ℕ) (xs : List A) (n : ℕ) (x : A) → entry xs n ≡ some x → getD (reverse (map f xs)) n 0 ≡ f x
+pub reversed-at : {A : Type 0} (f : A → ℕ) (xs : List A) (n : ℕ) (x : A) → entry xs n ≡ some x → getD (reverse (map f xs)) n 0 ≡ f x
 reversed-at f [] n x q = absurd (some-not-none refl q)
 reversed-at {A} f (y ∷ ys) n x q = ap (λ (l : List ℕ). getD l n 0) (reverse-cons (f y) (map f ys)) ∙ try (eqb n (length ys)) refl q (λ p. reversed-at f ys n x p)
   where

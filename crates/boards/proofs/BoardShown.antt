@@ -1,0 +1,103 @@
+-- What is promised of a board holds.
+use mathlib.Core.Path.{_≡_, sym, ap, _∙_, subst}
+use mathlib.Core.Bool.{Bool, true, false, _&&_}
+use mathlib.Core.Option.{none, some}
+use mathlib.Core.List.{List, [], _∷_}
+use Prim.Native.Nat.{ℕ, _+_, _*_, _%_, _≤_}
+use native.Mathlib.Omega.{arith}
+use lib.Dec.{eqb, leb}
+use lib.ListN.{length, getD, length-map}
+use Rattle.record.specs.Record.{records}
+use Rattle.record.proofs.Records.{records-length, records-shaped}
+use Rattle.unification.proofs.Lists.{Each}
+use Rattle.unification.proofs.Tests.{both-true}
+use Rattle.derivation.specs.Derivation.{Derivation, Use, uses, literals}
+use Rattle.verdict.specs.Conditions.{OneOf, TableShort}
+use Rattle.verdict.specs.Demands.{TablesHold, UsesInForce, InputsOf, Refutation}
+use Rattle.verdict.specs.Force.{usesInForce}
+use Rattle.verdict.specs.Refusal.{isInput}
+use Rattle.verdict.specs.State.{State, emptyState, entry, derivations, clauseOf}
+use Rattle.verdict.specs.Step.{Ending, stateOf}
+use Rattle.verdict.specs.Tables.{Tables, tablesAfter, lengthsOf}
+use Rattle.verdict.specs.Verdict.{ending, Stands}
+use Rattle.verdict.proofs.Acceptance.{first-lowest}
+use Rattle.verdict.proofs.Demanded.{demand1, long-enough, refutation-of}
+use Rattle.verdict.proofs.InForceShown.{uses-in-force, of-uses-in-force}
+use Rattle.verdict.proofs.Reading.{stands-ok}
+use Rattle.verdict.proofs.RangeTests.{at-most}
+use Rattle.verdict.proofs.Standing.{inputs-of}
+use Rattle.verdict.proofs.TableCells.{sizeOf, read-size}
+use Rattle.boards.specs.Board.{Presence, allPresent, changed, standsWith, answerAfresh, Call, afterCalls}
+use Rattle.boards.specs.Cells.{boardOf, lowestAnswer, answered}
+use Rattle.boards.specs.Promised.{UsesPresent, UsesClause, BoardPromised}
+use Rattle.boards.proofs.Calls.{all-uses, unused-same, changed-other, present-all, all-present, cell-same, answer-afresh, boards-called, refused-20, refused-21, not-refused, goes-through, answer-by, same-inputs}
+use Rattle.boards.proofs.Parents.{Kept, stands-kept}
+
+module _ (day : ℕ) (file : List ℕ) (tables : Tables) (board : List ℕ) (S : State) (st : Stands file S) (tablesLong : ¬ TableShort tables) (long : 4097 ≤ length board) where
+  abbrev C : List ℕ
+  C = tablesAfter file tables .clauses
+
+  -- The lowest standing empty clause in force, with demand 3.
+  refuted-by : (P : Presence) (n : ℕ) → answerAfresh day S P ≡ some n → Refutation (λ c. UsesInForce file day c × UsesPresent P c) file tables S n
+  refuted-by P n e =
+      let L = first-lowest (λ d. usesInForce S day d && standsWith P d) (derivations S) n e in
+      let z = both-true (usesInForce S day (L .clause)) (standsWith P (L .clause)) (L .passes) in
+      refutation-of day file tables (λ c. UsesInForce file day c × UsesPresent P c) S st (long-enough file tables tablesLong) n (record {
+        clause = L .clause;
+        isClause = L .isClause;
+        admitted = (uses-in-force file S st day (L .clause) (z .0), present-all P (uses (L .clause)) (z .1));
+        empty = L .empty;
+        lowest = λ i c l q a. L .lowest i c l q (both (usesInForce S day c) (standsWith P c) (of-uses-in-force file S st day c (a .0)) (all-present P (uses c) (a .1)));
+      })
+    where
+      both : (a b : Bool) → a ≡ true → b ≡ true → (a && b) ≡ true
+      both a b p q = λ i. p i && q i
+
+  -- What the calls rest on: the clauses, their records and their literal counts are in the table.
+  few : length (derivations S) ≤ 4096
+  unfolding ending
+  few =
+      let z = subst (λ (e : Ending). sizeOf (stateOf e) ≤ sizeOf emptyState + length (records file)) (st .reads) (read-size emptyState 0 (records file) (records-shaped file)) in
+      let n = records-length file in
+      let l = at-most (length file) 65536 (both-true (leb (length file) 65536) (eqb (length file % 16) 0) (st .fits) .0) in
+      let m = length-map (S .clauses) (λ (x : ℕ × Derivation). x .1) in
+      omega arith
+
+  held : TablesHold S tables (tablesAfter file tables)
+  held = demand1 day file tables .tablesOfStanding S st tablesLong .tablesHold
+
+  record-cells : (n k : ℕ) (c : Derivation) → entry (S .clauses) n ≡ some (k, c) → getD (tablesAfter file tables .clauses) (5 * n) 0 ≡ k
+  record-cells n k c q = held .eachClause n k c q .recordCell
+
+  literal-cells : (n k : ℕ) (c : Derivation) → entry (S .clauses) n ≡ some (k, c) → getD (tablesAfter file tables .clauses) (5 * n + 1) 0 ≡ length (literals c)
+  literal-cells n k c q = held .eachClause n k c q .literalCount
+
+  -- Every use is an input clause.
+  input-uses : (us : List Use) → InputsOf (derivations S) us → Each (λ (u : Use). isInput (clauseOf S (u .0)) ≡ true) us
+  input-uses [] h = tt
+  input-uses (u ∷ us) h = (ap isInput (h .0), input-uses us (h .1))
+
+  uses-inputs : (m : ℕ) (c : Derivation) → clauseOf S m ≡ some c → Each (λ (u : Use). isInput (clauseOf S (u .0)) ≡ true) (uses c)
+  uses-inputs m c q = input-uses (uses c) (inputs-of 4096 S (stands-ok file S st) m c q)
+
+  H : Kept file S
+  H = stands-kept file S st
+
+  pub board-promised : BoardPromised day file tables board S
+  board-promised = record {
+    cells = λ calls. boards-called day S board few long file C H record-cells literal-cells allPresent calls;
+    sameBoard = λ calls others h.
+        boards-called day S board few long file C H record-cells literal-cells allPresent calls
+        ∙ same-inputs day S board few long file C H record-cells literal-cells (afterCalls S allPresent calls) (afterCalls S allPresent others) h uses-inputs
+        ∙ sym (boards-called day S board few long file C H record-cells literal-cells allPresent others);
+    noInput = λ P n b i. answer-by day S board few long file C H record-cells literal-cells (boardOf day S P board) n b (some 20) (refused-20 day S board few long file C H record-cells literal-cells P n b i);
+    already = λ P n b i e. answer-by day S board few long file C H record-cells literal-cells (boardOf day S P board) n b (some 21) (refused-21 day S board few long file C H record-cells literal-cells P n b i e);
+    afresh = λ P n b i h.
+        answer-by day S board few long file C H record-cells literal-cells (boardOf day S P board) n b none (not-refused day S board few long file C H record-cells literal-cells P n b i h)
+        ∙ ap (λ (B : List ℕ). answered (lowestAnswer C B 4096 0)) (goes-through day S board few long file C H record-cells literal-cells P n b i)
+        ∙ ap answered (answer-afresh day S board few long file C H record-cells literal-cells (changed P n b));
+    otherClauses = λ P n b m c q h.
+        let same = all-uses (λ (u : Use). changed P n b (u .0) ≡ P (u .0)) (uses c) (λ u o. changed-other P n b (u .0) (λ e. h (u, o, e))) in
+        (unused-same (changed P n b) P (uses c) same, cell-same day S board few long file C H record-cells literal-cells (changed P n b) P m c q same);
+    refuted = refuted-by;
+  }

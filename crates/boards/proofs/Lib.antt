@@ -1,0 +1,4 @@
+pub mod Parents
+pub mod Passing
+pub mod Calls
+pub mod BoardShown

@@ -1,0 +1,107 @@
+-- Document 02, Q-9: a board as cells, 4,096 for the clauses and one for the day, and what a call does to them, whatever they, the file and the table of
+-- clauses hold.
+use mathlib.Core.Bool.{Bool, true, false, _&&_}
+use mathlib.Core.Option.{Option, none, some}
+use mathlib.Core.List.{List, [], _∷_, _++_, map, reverse}
+use Prim.Native.Nat.{ℕ, zero, suc, _+_, _-_, _*_, _/_, _%_}
+use lib.Dec.{eqb, leb, ltb}
+use lib.ListN.{length, getD, set, drop, replicate}
+use Rattle.record.specs.Record.{pick, recordPart, kindOf, fieldOf}
+use Rattle.derivation.specs.Derivation.{Derivation}
+use Rattle.verdict.specs.Force.{usesInForce}
+use Rattle.verdict.specs.State.{State, derivations}
+use Rattle.boards.specs.Board.{Presence, standsWith}
+
+-- ── The cell of a clause ──
+
+-- 4 for a clause, 2 more if all its input clauses are in force, and 1 more if it stands; 0 where there is no clause.
+abbrev pub cellWith : Bool → Bool → ℕ
+cellWith force stands = 4 + pick force 2 0 + pick stands 1 0
+
+abbrev pub isClauseCell : ℕ → Bool
+isClauseCell x = leb 4 x
+
+abbrev pub forceCell : ℕ → Bool
+forceCell x = eqb (x / 2 % 2) 1
+
+abbrev pub standsCell : ℕ → Bool
+standsCell x = eqb (x % 2) 1
+
+-- The board of a file that stands and leaves S, on a day, with the input clauses of P present: a cell for each clause, zeros up to 4,096, and the day. Cells past
+-- these are as they were.
+abbrev pub clauseCell : ℕ → State → Presence → Derivation → ℕ
+clauseCell day S P c = cellWith (usesInForce S day c) (standsWith P c)
+
+abbrev pub clauseCells : ℕ → State → Presence → List ℕ
+clauseCells day S P = reverse (map (clauseCell day S P) (derivations S))
+
+abbrev pub boardOf : ℕ → State → Presence → List ℕ → List ℕ
+boardOf day S P board = clauseCells day S P ++ (replicate (4096 - length (derivations S)) 0 ++ (day ∷ drop 4097 board))
+
+-- ── A call, on cells ──
+
+-- The record of clause n, by the table of clauses C: its kind and its parents.
+abbrev pub recordOfClause : List ℕ → List ℕ → ℕ → List ℕ
+recordOfClause F C n = recordPart F (getD C (5 * n) 0)
+
+-- The cell of clause n from those of its parents: a factor's, both of a resolve; an input clause's is its own.
+abbrev pub fromParents : ℕ → ℕ → ℕ
+fromParents x y = cellWith (forceCell x && forceCell y) (standsCell x && standsCell y)
+
+abbrev pub cellByKind : List ℕ → List ℕ → ℕ → ℕ
+cellByKind part B n =
+    pick (eqb (kindOf part) 4) (getD B n 0)
+    (pick (eqb (kindOf part) 6) (fromParents (getD B (fieldOf part 0) 0) (getD B (fieldOf part 0) 0))
+    (fromParents (getD B (fieldOf part 0) 0) (getD B (fieldOf part 2) 0)))
+
+unfoldable pub newCell : List ℕ → List ℕ → List ℕ → ℕ → ℕ
+newCell F C B n = cellByKind (recordOfClause F C n) B n
+
+-- One pass over the clauses from n on, at most k of them, each from its parents; it ends where there is no clause.
+abbrev pub passed : List ℕ → List ℕ → ℕ → ℕ → List ℕ → List ℕ
+passed F C zero n B = B
+passed F C (suc k) n B = elim (isClauseCell (getD B n 0)) [ true ↦ passed F C k (suc n) (set B n (newCell F C B n)) | false ↦ B ]
+
+-- The lowest clause from n on, of at most k, whose cell says that it stands and is in force, and that has no literals by the table of clauses.
+abbrev pub answers : List ℕ → List ℕ → ℕ → Bool
+answers C B n = eqb (getD B n 0) 7 && eqb (getD C (5 * n + 1) 0) 0
+
+abbrev pub lowestAnswer : List ℕ → List ℕ → ℕ → ℕ → Option ℕ
+lowestAnswer C B zero n = none
+lowestAnswer C B (suc k) n = elim (answers C B n) [ true ↦ some n | false ↦ lowestAnswer C B k (suc n) ]
+
+-- Whether there is an input clause of number n.
+abbrev pub isInputCell : List ℕ → List ℕ → List ℕ → ℕ → Bool
+isInputCell F C B n = ltb n 4096 && (isClauseCell (getD B n 0) && eqb (kindOf (recordOfClause F C n)) 4)
+
+-- The answer to a call: a clause or none; or refused with a number, at record 0.
+pub data Answer : Type 0 where
+  answered : Option ℕ → Answer
+  refusedWith : ℕ → Answer
+
+-- Its three numbers: 0 none, 1 a clause, 2 refused; the clause or the reason; the record, which is 0.
+abbrev pub answerNumbers : Answer → List ℕ
+answerNumbers (answered none) = 0 ∷ 0 ∷ 0 ∷ []
+answerNumbers (answered (some n)) = 1 ∷ n ∷ 0 ∷ []
+answerNumbers (refusedWith number) = 2 ∷ number ∷ 0 ∷ []
+
+-- The board after clause n is withdrawn or returned, and the answer: 2 for a board that is too short, 20 for no input clause of that number, 21 where it is in
+-- that condition already; and else its own cell changes, and those of the clauses after it.
+abbrev pub withCell : List ℕ → List ℕ → List ℕ → ℕ → Bool → List ℕ
+withCell F C B n present = passed F C (4095 - n) (suc n) (set B n (cellWith (forceCell (getD B n 0)) present))
+
+abbrev pub same : Bool → Bool → Bool
+same true b = b
+same false true = false
+same false false = true
+
+abbrev pub refusal : List ℕ → List ℕ → List ℕ → ℕ → Bool → Option ℕ
+refusal F C B n present =
+    pick (ltb (length B) 4097) (some 2)
+    (pick (isInputCell F C B n) (pick (same (standsCell (getD B n 0)) present) (some 21) none) (some 20))
+
+unfoldable pub boardAfter : List ℕ → List ℕ → List ℕ → ℕ → Bool → List ℕ
+boardAfter F C B n present = elim (refusal F C B n present) [ some number ↦ B | none ↦ withCell F C B n present ]
+
+unfoldable pub callAnswer : List ℕ → List ℕ → List ℕ → ℕ → Bool → Answer
+callAnswer F C B n present = elim (refusal F C B n present) [ some number ↦ refusedWith number | none ↦ answered (lowestAnswer C (withCell F C B n present) 4096 0) ]

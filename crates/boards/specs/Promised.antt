@@ -1,0 +1,47 @@
+-- Document 02, Q-9: what is shown of a board that was opened and then changed by calls alone, while nobody else writes board, file or tables.
+use mathlib.Core.Path.{_≡_}
+use mathlib.Core.Bool.{Bool, true, false}
+use mathlib.Core.Option.{some}
+use mathlib.Core.List.{List, [], _∷_}
+use Prim.Native.Nat.{ℕ}
+use lib.ListN.{getD}
+use Rattle.derivation.specs.Derivation.{Derivation, Use, uses}
+use Rattle.verdict.specs.Conditions.{OneOf}
+use Rattle.verdict.specs.Demands.{UsesInForce, Refutation}
+use Rattle.verdict.specs.Refusal.{isInput}
+use Rattle.verdict.specs.State.{State, clauseOf}
+use Rattle.verdict.specs.Tables.{Tables, tablesAfter}
+use Rattle.boards.specs.Board.{Presence, allPresent, changed, standsWith, answerAfresh, Call, afterCalls}
+use Rattle.boards.specs.Cells.{boardOf, answered, refusedWith, boardAfter, callAnswer}
+
+-- All input clauses that a derivation uses are present.
+abbrev pub UsesPresent : Presence → Derivation → Type 0
+UsesPresent P c = (u : Use) → OneOf u (uses c) → P (u .0) ≡ true
+
+-- A derivation uses clause n.
+abbrev pub UsesClause : Derivation → ℕ → Type 0
+UsesClause c n = (u : Use) × OneOf u (uses c) × (u .0 ≡ n)
+
+-- The board after calls, one after another.
+abbrev pub boardAfterCalls : List ℕ → List ℕ → List ℕ → List Call → List ℕ
+boardAfterCalls F C B [] = B
+boardAfterCalls F C B (call ∷ calls) = boardAfterCalls F C (boardAfter F C B (call .clause) (call .present)) calls
+
+-- S is what the file leaves, and the tables are as its check left them.
+pub record BoardPromised (day : ℕ) (file : List ℕ) (tables : Tables) (board : List ℕ) (S : State) : Type 0 where
+  -- After whatever calls the board is that of the input clauses now present,
+  pub cells : (calls : List Call) → boardAfterCalls file (tablesAfter file tables .clauses) (boardOf day S allPresent board) calls ≡ boardOf day S (afterCalls S allPresent calls) board
+  -- so that calls in any order that come to the same present clauses come to the same board.
+  pub sameBoard : (calls others : List Call) → ((n : ℕ) → isInput (clauseOf S n) ≡ true → afterCalls S allPresent calls n ≡ afterCalls S allPresent others n)
+      → boardAfterCalls file (tablesAfter file tables .clauses) (boardOf day S allPresent board) calls ≡ boardAfterCalls file (tablesAfter file tables .clauses) (boardOf day S allPresent board) others
+  -- A call is refused with 20 if there is no input clause of that number, with 21 if it is in that condition already;
+  pub noInput : (P : Presence) (n : ℕ) (present : Bool) → isInput (clauseOf S n) ≡ false → callAnswer file (tablesAfter file tables .clauses) (boardOf day S P board) n present ≡ refusedWith 20
+  pub already : (P : Presence) (n : ℕ) (present : Bool) → isInput (clauseOf S n) ≡ true → P n ≡ present → callAnswer file (tablesAfter file tables .clauses) (boardOf day S P board) n present ≡ refusedWith 21
+  -- and else its answer is the one worked out afresh from the clauses then present.
+  pub afresh : (P : Presence) (n : ℕ) (present : Bool) → isInput (clauseOf S n) ≡ true → ¬ (P n ≡ present)
+      → callAnswer file (tablesAfter file tables .clauses) (boardOf day S P board) n present ≡ answered (answerAfresh day S (changed P n present))
+  -- A call about one clause alters no clause that does not use it: neither its standing nor its cell.
+  pub otherClauses : (P : Presence) (n : ℕ) (present : Bool) (m : ℕ) (c : Derivation) → clauseOf S m ≡ some c → ¬ UsesClause c n
+      → (standsWith (changed P n present) c ≡ standsWith P c) × (getD (boardOf day S (changed P n present) board) m 0 ≡ getD (boardOf day S P board) m 0)
+  -- The clause answered has demand 3, and its instances are of present clauses in force on the day.
+  pub refuted : (P : Presence) (n : ℕ) → answerAfresh day S P ≡ some n → Refutation (λ c. UsesInForce file day c × UsesPresent P c) file tables S n
