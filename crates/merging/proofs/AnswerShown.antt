@@ -3,23 +3,25 @@ use mathlib.Core.Path.{_≡_, refl, sym, ap, _∙_, subst}
 use mathlib.Core.Logic.{_⊎_, inl, inr}
 use mathlib.Core.Bool.{Bool, true, false}
 use mathlib.Core.Option.{Option, none, some}
-use mathlib.Core.List.{List, [], _∷_}
-use Prim.Native.Nat.{ℕ, suc, _*_, _≤_, _<_}
+use mathlib.Core.List.{List, [], _∷_, _++_}
+use Prim.Native.Nat.{ℕ, suc, _+_, _-_, _*_, _≤_, _<_}
 use native.Mathlib.Omega.{arith}
 use lib.Dec.{ltb, ltb→lt, lt→ltb}
-use lib.ListN.{length, getD}
+use lib.ListN.{length, getD, drop, length-append, length-drop, List·getD-append}
+use lib.Seq.{getD-append-add, getD-drop}
 use Rattle.record.specs.Record.{records}
 use Rattle.record.proofs.Bytes.{file-length}
 use Rattle.unification.proofs.Tests.{to-T, from-T}
-use Rattle.verdict.specs.Refusal.{reasonNumber}
+use Rattle.verdict.specs.Refusal.{Reason, reasonNumber}
 use Rattle.verdict.specs.State.{State}
 use Rattle.verdict.specs.Tables.{Tables, lengthsOf, tablesAfter}
 use Rattle.verdict.specs.Verdict.{Verdict, accepted, open′, refusal, check, Stands}
 use Rattle.verdict.proofs.Demanded.{not-refused}
 use Rattle.verdict.proofs.Inversions.{not-below}
-use Rattle.merging.specs.Answer.{Merge, written, refusedWith, firstWhere, symbolList, firstOther, roomFor, symbolsCompared, afterChecks, unlessRefused, mergeAnswer}
+use Rattle.verdict.proofs.RangeTests.{not-true}
+use Rattle.merging.specs.Answer.{Merge, written, refusedWith, firstWhere, symbolList, firstOther, roomFor, symbolsCompared, afterChecks, unlessRefused, mergeAnswer, tablesUnlessRefused, tablesLeft, outputLeft}
 use Rattle.merging.specs.Merging.{isStep, merged, mergedFile}
-use Rattle.merging.specs.Promised.{Condition, shortOutput, firstRefused, secondRefused, stepInFirst, stepInSecond, otherSymbols, tooManyRecords, Merged, MergePromised}
+use Rattle.merging.specs.Promised.{Condition, shortOutput, firstRefused, secondRefused, stepInFirst, stepInSecond, otherSymbols, tooManyRecords, WrittenAt, Merged, MergePromised}
 use Rattle.merging.proofs.MergedShown.{merged-shown}
 use Rattle.merging.proofs.Searches.{step-found, step-searched, other-there, other-searched, neither-begins, some-other}
 
@@ -212,12 +214,54 @@ module _ (first second : List ℕ) (tables : Tables) (room : ℕ) where
         let G = merged-shown first second (A .0) (B .0) (A .1) (B .1) no-first no-second none-other has-room in
         (A .0, B .0, G .0, A .1, B .1, G .1)
 
+  -- What is left in the output and in the tables.
+  written-output : (n : ℕ) → mergeAnswer first second tables room ≡ written n → (output : List ℕ) → length output ≡ room
+      → WrittenAt (mergedFile first second) output (outputLeft (mergeAnswer first second tables room) (mergedFile first second) output)
+  unfolding mergedFile
+  written-output n e output l =
+      let w = written-only n (mergeAnswer first second tables room) outcome e in
+      let f = file-length (merged (records first) (records second)) in
+      let h = has-room (w .1) in
+      let r : ¬ (room < 65536) = λ s. w .1 0 2 0 0 (shortOutput s) in
+      let m = w .0 in
+      let q = length-drop n output in
+      let p = length-append (mergedFile first second) (drop n output) in
+      subst (λ (a : Merge). WrittenAt (mergedFile first second) output (outputLeft a (mergedFile first second) output)) (sym e) (record {
+        sameLength = omega (arith, p, q, m, f, h, r, l);
+        atStart = λ i x. List·getD-append (mergedFile first second) (drop n output) 0 i x;
+        restKept = λ i x.
+            let z : i ≡ length (mergedFile first second) + (i - n) = omega (arith, m) in
+            let y : n + (i - n) ≡ i = omega (arith, m) in
+            ap (λ (j : ℕ). getD (mergedFile first second ++ drop n output) j 0) z ∙ getD-append-add (mergedFile first second) (drop n output) (i - n) 0 ∙ getD-drop n output (i - n) 0 ∙ ap (λ (j : ℕ). getD output j 0) y;
+      })
+
+  kept-output : (number file k : ℕ) → mergeAnswer first second tables room ≡ refusedWith number file k → (output : List ℕ) → outputLeft (mergeAnswer first second tables room) (mergedFile first second) output ≡ output
+  kept-output number file k e output = ap (λ (a : Merge). outputLeft a (mergedFile first second) output) e
+
+  tables-by : (b : Bool) → ltb room 65536 ≡ b
+      → tablesLeft first second tables room ≡ elim b [ true ↦ tables | false ↦ tablesUnlessRefused (check 0 first (lengthsOf tables) .verdict) (tablesAfter first tables) (tablesAfter second (tablesAfter first tables)) ]
+  unfolding tablesLeft
+  tables-by b q = ap (λ (x : Bool). elim x [ true ↦ tables | false ↦ tablesUnlessRefused (check 0 first (lengthsOf tables) .verdict) (tablesAfter first tables) (tablesAfter second (tablesAfter first tables)) ]) q
+
+  not-short : ¬ (room < 65536) → ltb room 65536 ≡ false
+  not-short h = not-true (ltb room 65536) (λ t. h (ltb→lt room 65536 (to-T (ltb room 65536) t)))
+
+  stands-tables : (v : Verdict) (here next : Tables) → ((reason : Reason) (k : ℕ) → ¬ (v ≡ refusal reason k)) → tablesUnlessRefused v here next ≡ next
+  stands-tables (accepted n) here next h = refl
+  stands-tables open′ here next h = refl
+  stands-tables (refusal reason k) here next h = absurd (h reason k refl)
+
   pub merge-promised : MergePromised first second tables room
   merge-promised = record {
     refusedOnly = λ number file k e. refused-only number file k (mergeAnswer first second tables room) outcome e;
     refusedIf = λ place number file k c least. refused-if place number file k (mergeAnswer first second tables room) outcome c least;
     writtenOnly = λ n e. written-only n (mergeAnswer first second tables room) outcome e;
     writtenIf = λ h. written-if (mergeAnswer first second tables room) outcome h;
+    outputWritten = written-output;
+    outputKept = kept-output;
+    tablesKept = λ l. tables-by true (from-T (ltb room 65536) (lt→ltb room 65536 l));
+    tablesOfFirst = λ h reason k e. tables-by false (not-short h) ∙ ap (λ (v : Verdict). tablesUnlessRefused v (tablesAfter first tables) (tablesAfter second (tablesAfter first tables))) e;
+    tablesOfSecond = λ h n. tables-by false (not-short h) ∙ stands-tables (check 0 first (lengthsOf tables) .verdict) (tablesAfter first tables) (tablesAfter second (tablesAfter first tables)) n;
     neitherBegins = λ k O. (λ b. neither-begins first second k O (inl b), λ b. neither-begins first second k O (inr b));
     otherThere = λ a b. some-other first second a b;
     written = λ n e. all-merged (written-only n (mergeAnswer first second tables room) outcome e .1);

@@ -18,7 +18,7 @@ use Rattle.verdict.specs.Repeats.{termByNumbers}
 use Rattle.verdict.specs.State.{State, Window, rowsOf, derivations, clauseOf}
 use Rattle.verdict.specs.Tables.{Tables, lengthsOf, tablesAfter}
 use Rattle.verdict.specs.Verdict.{refusal, check, Stands}
-use Rattle.merging.specs.Answer.{Merge, written, refusedWith, symbolList, mergeAnswer}
+use Rattle.merging.specs.Answer.{Merge, written, refusedWith, symbolList, mergeAnswer, tablesLeft, outputLeft}
 use Rattle.merging.specs.Merging.{isSymbol, howMany, merged, mergedFile}
 
 -- ── When a merge is refused ──
@@ -92,6 +92,14 @@ pub record Merged (first second : List ℕ) (S T M : State) : Type 0 where
   -- Its symbols are the longer list.
   pub symbols : symbolList (records (mergedFile first second)) ≡ longer (symbolList (records first)) (symbolList (records second))
 
+-- ── What a merge leaves ──
+
+-- A file at the start of an output, and the rest of the output as it was.
+pub record WrittenAt (file output left : List ℕ) : Type 0 where
+  pub sameLength : length left ≡ length output
+  pub atStart : (i : ℕ) → i < length file → getD left i 0 ≡ getD file i 0
+  pub restKept : (i : ℕ) → length file ≤ i → getD left i 0 ≡ getD output i 0
+
 pub record MergePromised (first second : List ℕ) (tables : Tables) (room : ℕ) : Type 0 where
   -- A merge is refused with a number, a file and a record exactly if the condition for them holds and none before it does,
   pub refusedOnly : (number file k : ℕ) → mergeAnswer first second tables room ≡ refusedWith number file k
@@ -101,6 +109,15 @@ pub record MergePromised (first second : List ℕ) (tables : Tables) (room : ℕ
   -- and written exactly if none holds; then with the length of the merged file.
   pub writtenOnly : (n : ℕ) → mergeAnswer first second tables room ≡ written n → (n ≡ length (mergedFile first second)) × ((p m f j : ℕ) → ¬ Condition first second tables room p m f j)
   pub writtenIf : ((p n f j : ℕ) → ¬ Condition first second tables room p n f j) → mergeAnswer first second tables room ≡ written (length (mergedFile first second))
+  -- The output is written only if the merge goes through, and not past the merged file's end.
+  pub outputWritten : (n : ℕ) → mergeAnswer first second tables room ≡ written n → (output : List ℕ) → length output ≡ room
+      → WrittenAt (mergedFile first second) output (outputLeft (mergeAnswer first second tables room) (mergedFile first second) output)
+  pub outputKept : (number file k : ℕ) → mergeAnswer first second tables room ≡ refusedWith number file k → (output : List ℕ) → outputLeft (mergeAnswer first second tables room) (mergedFile first second) output ≡ output
+  -- A short output leaves the tables untouched; else they are as the last check left them, the first's if that refuses its file.
+  pub tablesKept : room < 65536 → tablesLeft first second tables room ≡ tables
+  pub tablesOfFirst : ¬ (room < 65536) → (reason : Reason) (k : ℕ) → check 0 first (lengthsOf tables) .verdict ≡ refusal reason k → tablesLeft first second tables room ≡ tablesAfter first tables
+  pub tablesOfSecond : ¬ (room < 65536) → ((reason : Reason) (k : ℕ) → ¬ (check 0 first (lengthsOf tables) .verdict ≡ refusal reason k))
+      → tablesLeft first second tables room ≡ tablesAfter second (tablesAfter first tables)
   -- 18: there is a symbol that differs exactly if neither symbol list begins the other.
   pub neitherBegins : (k : ℕ) → OtherSymbol first second k → ¬ Begins (symbolList (records first)) (symbolList (records second)) × ¬ Begins (symbolList (records second)) (symbolList (records first))
   pub otherThere : ¬ Begins (symbolList (records first)) (symbolList (records second)) → ¬ Begins (symbolList (records second)) (symbolList (records first)) → (k : ℕ) × OtherSymbol first second k
