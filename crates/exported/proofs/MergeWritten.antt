@@ -6,8 +6,8 @@ use native.Mathlib.Omega.{arith}
 use lib.ListN.{length, drop, set}
 use Rattle.verdict.specs.Tables.{Tables}
 use Rattle.merge.specs.Contract.{MergeAnswered}
-use Rattle.merge.specs.Given.{mergeGiven}
-use Rattle.merge.specs.declared.MergeOutcome.{MergeOutcome}
+use Rattle.joining.specs.Given.{mergeGiven}
+use Rattle.joining.specs.declared.MergeOutcome.{MergeOutcome}
 use Rattle.exported.specs.ExportedMerge.{ExportedMerge}
 
 -- Four stores put four numbers before the rest.

@@ -1,10 +1,10 @@
 // The answer to a merge in four numbers.
-use merge::MergeOutcome;
+use joining::MergeOutcome;
 ghost use mathlib.Core.Path.{_≡_};
 ghost use mathlib.Core.List.{[], _∷_, _++_};
 ghost use Prim.Native.Nat.{_≤_};
 ghost use lib.ListN.{length, drop};
-ghost use Rattle.merge.specs.Given.{mergeGiven};
+ghost use Rattle.joining.specs.Given.{mergeGiven};
 
 // An answer in numbers: 0 written, 2 refused; the length or the reason; the file; the record.
 struct Numbers {

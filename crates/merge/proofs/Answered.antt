@@ -26,9 +26,10 @@ use Rattle.merging.specs.Answer.{Merge, written, refusedWith, mergeNumbers, aft
 use Rattle.merging.specs.Merging.{mergedFile}
 use Rattle.merging.proofs.AnswerShown.{merge-promised}
 use Rattle.merge.specs.Contract.{MergeAnswered}
-use Rattle.merge.specs.Given.{mergeGiven}
-use Rattle.merge.specs.Going.{refusalGiven, BothStand, Joined, FirstStands, secondAnswer, SecondAnswered}
-use Rattle.merge.specs.declared.MergeOutcome as given
+use Rattle.joining.specs.Given.{mergeGiven}
+use Rattle.merge.specs.Going.{refusalGiven, FirstStands, secondAnswer, SecondAnswered}
+use Rattle.joining.specs.Joined.{BothStand, Joined}
+use Rattle.joining.specs.declared.MergeOutcome as given
 
 -- ── A verdict, and what becomes of the merge ──
 

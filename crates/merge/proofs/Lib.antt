@@ -1,2 +1,1 @@
-pub mod FileJoined
 pub mod Answered

@@ -7,8 +7,8 @@ use Rattle.verdict.specs.Tables.{Tables}
 use Rattle.merging.specs.Answer.{mergeNumbers, mergeAnswer, tablesLeft, outputLeft}
 use Rattle.merging.specs.Merging.{mergedFile}
 use Rattle.merging.specs.Promised.{MergePromised}
-use Rattle.merge.specs.Given.{mergeGiven}
-use Rattle.merge.specs.declared.MergeOutcome.{MergeOutcome}
+use Rattle.joining.specs.Given.{mergeGiven}
+use Rattle.joining.specs.declared.MergeOutcome.{MergeOutcome}
 
 pub record MergeAnswered (first second : List ℕ) (before : Tables) (outputBefore : List ℕ) (m : MergeOutcome) (after : Tables) (outputAfter : List ℕ) : Type 0 where
   -- The four numbers of the answer, each table, cell by cell, and every byte of the output.

@@ -1,3 +1,2 @@
-pub mod Given
 pub mod Going
 pub mod Contract

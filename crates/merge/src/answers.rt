@@ -1,8 +1,8 @@
 // The refusal of a file by its own check, as the answer to a merge.
-use super::MergeOutcome;
 use answer::Verdict;
+use joining::MergeOutcome;
 ghost use mathlib.Core.Path.{_≡_};
-ghost use Rattle.merge.specs.Given.{mergeGiven};
+ghost use Rattle.joining.specs.Given.{mergeGiven};
 ghost use Rattle.merge.specs.Going.{refusalGiven};
 
 // A verdict's refusal and the file's number. A verdict that is no refusal has the number 0, which nobody asks for.

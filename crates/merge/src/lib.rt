@@ -1,7 +1,6 @@
 // Two proof files merged into one: an operator's rulebook and a trip's facts. What that is, and what is shown of it, the crate merging has. In specs/,
-// `Given` and `Contract` have what this crate promises; `Going` says how the parts of this program go about it.
+// `Contract` has what this crate promises; `Going` says how the parts of this program go about it. What comes after both checks is in the crate joining.
 mod answers;
-mod joining;
 
 use answer::Answer;
 use answer::stands;
@@ -10,18 +9,13 @@ use checker::check_with;
 use following::nodes::Nodes;
 use following::nodes::Origins;
 use following::values::ValueCells;
+use joining::MergeOutcome;
 use joining::join;
 ghost use Prim.Native.Nat.{_≤_};
 ghost use lib.ListN.{length};
 ghost use Rattle.entry.specs.Progress.{tablesWith};
 ghost use Rattle.merge.specs.Contract.{MergeAnswered};
 ghost use Rattle.merge.specs.Going.{FirstStands, SecondAnswered};
-
-// Written, with the length of the file; or refused: a number, the file that it is about, 0 for neither, and a record.
-pub enum MergeOutcome {
-    Written(u32),
-    Refused(u8, u8, u16),
-}
 
 // What comes after the first file's check: the second's, and where that stands too, the merged file.
 fn merge_second(

@@ -10,7 +10,7 @@ use Rattle.merge.proofs.merge_second.Lts as lts
 use Rattle.answer.proofs.stands.Reads as stands-reads
 use Rattle.checker.proofs.check_with.Reads as check-with-reads
 use Rattle.merge.proofs.answers.refusal.Reads as refusal-reads
-use Rattle.merge.proofs.joining.join.Reads as join-reads
+use Rattle.joining.proofs.join.Reads as join-reads
 
 check-with-requires : tie.Need-check-with-requires
 check-with-requires c κs = search needs

@@ -1,5 +1,5 @@
 use mathlib.Core.Path.{sym, ap}
-use Rattle.merge.specs.Given.{mergeGiven}
+use Rattle.joining.specs.Given.{mergeGiven}
 use borrow.Author.Needs.{needs}
 use Rattle.exported.proofs.merged.merge_numbers.Statement.{statement}
 use Rattle.exported.proofs.merged.merge_numbers.Tie as tie

@@ -25,9 +25,9 @@ use Rattle.merging.specs.Merging.{isSymbol, isRow, isClause, isStep, howMany, s
 use Rattle.merging.proofs.Counting.{stands-counted}
 use Rattle.merging.proofs.ShiftedFits.{shifted-fit}
 use Rattle.shifting.specs.Shifting.{wrapped, shiftedBytes, placedAt, SecondWritable, SecondWritten}
-use Rattle.merge.specs.Given.{mergeGiven}
-use Rattle.merge.specs.Going.{tooMany, BothStand, Joinable, FileWritten, Joined}
-use Rattle.merge.specs.declared.MergeOutcome as given
+use Rattle.joining.specs.Given.{mergeGiven}
+use Rattle.joining.specs.Joined.{tooMany, BothStand, Joinable, FileWritten, Joined}
+use Rattle.joining.specs.declared.MergeOutcome as given
 
 -- ── Records that fit are written as they are ──
 small-list : (xs : List ℕ) → ((i : ℕ) → getD xs i 0 < 65536) → map (λ n. n % 65536) xs ≡ xs

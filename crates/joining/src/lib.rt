@@ -1,5 +1,5 @@
-// What comes after both checks: steps, symbols and the number of records are looked at, and then the file is written.
-use super::MergeOutcome;
+// What comes after the checks of two files that are to be merged: steps, symbols and the number of records are looked at, and then the file is written. In specs/,
+// `Given` has the numbers of the answer; `Joined` says how the parts of this program go about it.
 use shifting::search::Found;
 use shifting::search::first_other;
 use shifting::search::first_step;
@@ -9,7 +9,13 @@ ghost use lib.ListN.{length};
 ghost use Rattle.record.specs.Record.{records};
 ghost use Rattle.merging.specs.Answer.{afterChecks};
 ghost use Rattle.merging.specs.Merging.{mergedFile};
-ghost use Rattle.merge.specs.Going.{BothStand, tooMany, Joined, FileWritten, Joinable};
+ghost use Rattle.joining.specs.Joined.{BothStand, tooMany, Joined, FileWritten, Joinable};
+
+// Written, with the length of the file; or refused: a number, the file that it is about, 0 for neither, and a record.
+pub enum MergeOutcome {
+    Written(u32),
+    Refused(u8, u8, u16),
+}
 
 // Whether the merged file has over 4,096 records: the symbols that both files have are written once.
 fn too_many(first: &[u8], second: &[u8], symbols: u16, others: u16) -> bool

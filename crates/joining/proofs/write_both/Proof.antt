@@ -1,11 +1,11 @@
 -- The first file is copied, and the second's records are written behind it.
 use native.Mathlib.Omega.{arith}
-use Rattle.merge.proofs.FileJoined.{copy-room, second-writable, both-written}
+use Rattle.joining.proofs.FileJoined.{copy-room, second-writable, both-written}
 use borrow.Author.Needs.{needs}
-use Rattle.merge.proofs.joining.write_both.Statement.{statement}
-use Rattle.merge.proofs.joining.write_both.Tie as tie
-use Rattle.merge.proofs.joining.write_both.Reads as reads
-use Rattle.merge.proofs.joining.write_both.Lts as lts
+use Rattle.joining.proofs.write_both.Statement.{statement}
+use Rattle.joining.proofs.write_both.Tie as tie
+use Rattle.joining.proofs.write_both.Reads as reads
+use Rattle.joining.proofs.write_both.Lts as lts
 use Rattle.bytes.proofs.copy.Reads as copy-reads
 use Rattle.shifting.proofs.writing.write_second.Reads as write-second-reads
 

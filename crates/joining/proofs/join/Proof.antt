@@ -2,14 +2,14 @@
 use mathlib.Core.Path.{sym, ap, refl, _∙_}
 use native.Mathlib.Omega.{arith}
 use Rattle.shifting.specs.Shifting.{foundGiven}
-use Rattle.merge.proofs.FileJoined.{short-file, counted-many, to-join, short-end, step-first, step-second, other-symbol, too-many, joined-whole}
+use Rattle.joining.proofs.FileJoined.{short-file, counted-many, to-join, short-end, step-first, step-second, other-symbol, too-many, joined-whole}
 use borrow.Author.Needs.{needs}
-use Rattle.merge.proofs.joining.join.Statement.{statement}
-use Rattle.merge.proofs.joining.join.Tie as tie
-use Rattle.merge.proofs.joining.join.Reads as reads
-use Rattle.merge.proofs.joining.join.Lts as lts
-use Rattle.merge.proofs.joining.too_many.Reads as too-many-reads
-use Rattle.merge.proofs.joining.write_both.Reads as write-both-reads
+use Rattle.joining.proofs.join.Statement.{statement}
+use Rattle.joining.proofs.join.Tie as tie
+use Rattle.joining.proofs.join.Reads as reads
+use Rattle.joining.proofs.join.Lts as lts
+use Rattle.joining.proofs.too_many.Reads as too-many-reads
+use Rattle.joining.proofs.write_both.Reads as write-both-reads
 use Rattle.shifting.proofs.search.first_other.Reads as first-other-reads
 use Rattle.shifting.proofs.search.first_step.Reads as first-step-reads
 

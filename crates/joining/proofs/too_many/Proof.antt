@@ -7,10 +7,10 @@ use lib.ListN.{length}
 use borrow.Author.Tests.{lt-ltb, le-ltb}
 use Rattle.record.specs.Record.{pick}
 use borrow.Author.Needs.{needs}
-use Rattle.merge.proofs.joining.too_many.Statement.{statement}
-use Rattle.merge.proofs.joining.too_many.Tie as tie
-use Rattle.merge.proofs.joining.too_many.Reads as reads
-use Rattle.merge.proofs.joining.too_many.Lts as lts
+use Rattle.joining.proofs.too_many.Statement.{statement}
+use Rattle.joining.proofs.too_many.Tie as tie
+use Rattle.joining.proofs.too_many.Reads as reads
+use Rattle.joining.proofs.too_many.Lts as lts
 
 add-records : tie.Need-add-records
 add-records c = search needs
