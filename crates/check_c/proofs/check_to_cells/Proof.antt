@@ -1,9 +1,9 @@
 use Rattle.exported.proofs.AnswerWritten.{left-alone, answered}
 use borrow.Author.Needs.{needs}
-use Rattle.checker_c.proofs.checker_check.Statement.{statement}
-use Rattle.checker_c.proofs.checker_check.Tie as tie
-use Rattle.checker_c.proofs.checker_check.Reads as reads
-use Rattle.checker_c.proofs.checker_check.Lts as lts
+use Rattle.check_c.proofs.check_to_cells.Statement.{statement}
+use Rattle.check_c.proofs.check_to_cells.Tie as tie
+use Rattle.check_c.proofs.check_to_cells.Reads as reads
+use Rattle.check_c.proofs.check_to_cells.Lts as lts
 use Rattle.checker.proofs.check.Reads as check-reads
 use Rattle.exported.proofs.cells.put.Reads as put-reads
 
@@ -36,8 +36,8 @@ returns-2 : tie.Need-returns-2
 returns-2 c =
     answered _ _ _ _ _ _ _ (c .before .before .before .before .before .before .before .before .before .before .before .before .before .before .before .before .before .if1 .left) (c .before .before .before .before .before .before .before .before .before .before .before .before .check .ensures) (c .before .before .put .ensures)
 
-pub checker-check-spec : {M : Type 1} → statement M
-checker-check-spec =
+pub check-to-cells-spec : {M : Type 1} → statement M
+check-to-cells-spec =
     tie.close
     (tie.spec
     returns

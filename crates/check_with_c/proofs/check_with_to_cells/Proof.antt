@@ -1,10 +1,10 @@
 -- A short answer leaves everything alone; else the check's answer is put into it.
 use Rattle.exported.proofs.AnswerWritten.{left-alone-with, answered-with}
 use borrow.Author.Needs.{needs}
-use Rattle.checker_c.proofs.checker_check_with.Statement.{statement}
-use Rattle.checker_c.proofs.checker_check_with.Tie as tie
-use Rattle.checker_c.proofs.checker_check_with.Reads as reads
-use Rattle.checker_c.proofs.checker_check_with.Lts as lts
+use Rattle.check_with_c.proofs.check_with_to_cells.Statement.{statement}
+use Rattle.check_with_c.proofs.check_with_to_cells.Tie as tie
+use Rattle.check_with_c.proofs.check_with_to_cells.Reads as reads
+use Rattle.check_with_c.proofs.check_with_to_cells.Lts as lts
 use Rattle.checker.proofs.check_with.Reads as check-with-reads
 use Rattle.exported.proofs.cells.put.Reads as put-reads
 
@@ -37,8 +37,8 @@ returns-2 : tie.Need-returns-2
 returns-2 c =
     answered-with _ _ _ _ _ _ _ _ _ (c .before .before .before .before .before .before .before .before .before .before .before .before .before .before .before .before .before .before .before .before .if1 .left) (c .before .before .before .before .before .before .before .before .before .before .before .before .check-with .ensures) (c .before .before .put .ensures)
 
-pub checker-check-with-spec : {M : Type 1} → statement M
-checker-check-with-spec =
+pub check-with-to-cells-spec : {M : Type 1} → statement M
+check-with-to-cells-spec =
     tie.close
     (tie.spec
     returns

@@ -1,9 +1,9 @@
 use Rattle.exported.proofs.CoveringWritten.{covers-left-alone, covers-exported}
 use borrow.Author.Needs.{needs}
-use Rattle.checker_c.proofs.checker_covers.Statement.{statement}
-use Rattle.checker_c.proofs.checker_covers.Tie as tie
-use Rattle.checker_c.proofs.checker_covers.Reads as reads
-use Rattle.checker_c.proofs.checker_covers.Lts as lts
+use Rattle.covers_c.proofs.covers_to_cells.Statement.{statement}
+use Rattle.covers_c.proofs.covers_to_cells.Tie as tie
+use Rattle.covers_c.proofs.covers_to_cells.Reads as reads
+use Rattle.covers_c.proofs.covers_to_cells.Lts as lts
 use Rattle.exported.proofs.covering.put_covering.Reads as put-covering-reads
 use Rattle.cover.proofs.covers.Reads as covers-reads
 
@@ -36,8 +36,8 @@ returns-2 : tie.Need-returns-2
 returns-2 c =
     covers-exported _ _ _ _ _ _ _ _ (c .before .before .before .before .before .before .before .before .before .before .before .before .before .before .before .before .before .if1 .left) (c .before .before .before .before .before .before .before .before .before .before .before .before .covers .ensures) (c .before .before .put-covering .ensures)
 
-pub checker-covers-spec : {M : Type 1} → statement M
-checker-covers-spec =
+pub covers-to-cells-spec : {M : Type 1} → statement M
+covers-to-cells-spec =
     tie.close
     (tie.spec
     returns

@@ -1,9 +1,9 @@
 use Rattle.exported.proofs.ProgressWritten.{left-alone, piece-exported}
 use borrow.Author.Needs.{needs}
-use Rattle.checker_c.proofs.checker_readout.Statement.{statement}
-use Rattle.checker_c.proofs.checker_readout.Tie as tie
-use Rattle.checker_c.proofs.checker_readout.Reads as reads
-use Rattle.checker_c.proofs.checker_readout.Lts as lts
+use Rattle.readout_c.proofs.readout_to_cells.Statement.{statement}
+use Rattle.readout_c.proofs.readout_to_cells.Tie as tie
+use Rattle.readout_c.proofs.readout_to_cells.Reads as reads
+use Rattle.readout_c.proofs.readout_to_cells.Lts as lts
 use Rattle.exported.proofs.progress.put_progress.Reads as put-progress-reads
 use Rattle.readout.proofs.readout_piece.Reads as readout-piece-reads
 
@@ -39,8 +39,8 @@ returns-2 : tie.Need-returns-2
 returns-2 c =
     piece-exported _ _ _ _ _ _ _ _ _ _ (c .before .before .before .before .before .before .before .before .before .before .before .before .before .before .before .before .before .before .before .before .if1 .left) (c .before .before .before .before .before .before .before .before .before .before .before .before .before .before .readout-piece .ensures) (c .before .before .put-progress .ensures)
 
-pub checker-readout-spec : {M : Type 1} → statement M
-checker-readout-spec =
+pub readout-to-cells-spec : {M : Type 1} → statement M
+readout-to-cells-spec =
     tie.close
     (tie.spec
     returns
