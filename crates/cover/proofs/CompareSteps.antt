@@ -12,13 +12,14 @@ use Rattle.entry.specs.Progress.{tablesWith}
 use Rattle.checker.specs.Contract.{workspaceWith, CheckedWith}
 use Rattle.answer.specs.Given.{verdictStands}
 use Rattle.answer.specs.declared.Answer as answer
-use Rattle.cover.specs.Comparing.{numbersFrom, comparisonNumbers, comparisonFrom, comparison, isInput, AfterCheck, Compared}
+use Rattle.coverings.specs.Choosing.{numbersFrom, comparisonNumbers, comparisonFrom, comparison}
+use Rattle.cover.specs.Comparing.{isInput, AfterCheck, Compared}
 use Rattle.cover.specs.Given.{coveringGiven}
 use Rattle.cover.specs.Contract.{CoversAnswered}
 use Rattle.matching.specs.Pairs.{Pairs, pairsMatched, tableFilled}
 use Rattle.matching.specs.Searching.{searched}
 use Rattle.cover.specs.declared.covering.Covering as given
-use Rattle.cover.proofs.OneAnswer.{one-answer}
+use Rattle.coverings.proofs.OneAnswer.{one-answer}
 use Rattle.cover.proofs.Comparisons.{refused-covering, refused-nothing, left-nothing, right-nothing, few-left, few-right, compared}
 
 -- What the search has come to, in the tables that were filled before it.

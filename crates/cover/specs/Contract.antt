@@ -3,7 +3,7 @@ use mathlib.Core.Path.{_≡_}
 use mathlib.Core.List.{List}
 use Prim.Native.Nat.{ℕ}
 use Rattle.verdict.specs.Tables.{Tables, tablesAfter}
-use Rattle.cover.specs.Answering.{Answer, tenNumbers, AnswerPromised}
+use Rattle.coverings.specs.Answering.{Answer, tenNumbers, AnswerPromised}
 use Rattle.cover.specs.Given.{coveringGiven}
 use Rattle.cover.specs.declared.covering.Covering.{Covering}
 

@@ -1,5 +1,3 @@
-pub mod Covering
-pub mod Answering
 pub mod Given
 pub mod Comparing
 pub mod Contract

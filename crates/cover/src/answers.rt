@@ -6,7 +6,7 @@ use matching::search::chosen;
 ghost use mathlib.Core.Path.{_≡_};
 ghost use mathlib.Core.List.{_∷_, _++_};
 ghost use lib.ListN.{length, replicate};
-ghost use Rattle.cover.specs.Comparing.{numbersFrom};
+ghost use Rattle.coverings.specs.Choosing.{numbersFrom};
 ghost use Rattle.cover.specs.Given.{outcomeNumbers, coveringGiven};
 
 // A no, or a refusal.

@@ -1,5 +1,5 @@
-// Which input clause covers which. In specs/, `Covering` has what that means, and `Answering` and `Contract` what this crate promises; `Comparing` says
-// how the parts of this program go about it. Literals are matched and choices searched by the crate matching.
+// Which input clause covers which. In specs/ of the crate coverings, `Covering` has what that means, and `Answering` with `Contract` in specs/ here what is
+// promised; `Comparing` says how the parts of this program go about it. Literals are matched and choices searched by the crate matching.
 mod answers;
 mod compare;
 pub mod covering;

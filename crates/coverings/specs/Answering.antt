@@ -12,7 +12,7 @@ use Rattle.verdict.specs.Repeats.{termByNumbers}
 use Rattle.verdict.specs.State.{State, rowsOf, arityOf, clauseOf}
 use Rattle.verdict.specs.Tables.{Tables}
 use Rattle.verdict.specs.Verdict.{Stands}
-use Rattle.cover.specs.Covering.{Substitution, Works, AllInstancesTrue, NotAfter}
+use Rattle.coverings.specs.Covering.{Substitution, Works, AllInstancesTrue, NotAfter}
 
 -- Yes, with the literals of D chosen; no; or refused, with a number and a record.
 pub data Answer : Type 0 where

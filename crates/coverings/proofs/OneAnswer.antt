@@ -11,9 +11,14 @@ use Rattle.unification.proofs.Tests.{true-not-false}
 use Rattle.derivation.specs.Derivation.{RowLiteral}
 use Rattle.verdict.specs.State.{State}
 use Rattle.verdict.specs.Tables.{Tables}
-use Rattle.cover.specs.Answering.{Answer, covers, coversNot, refusedWith, Comparable, AnswerPromised}
-use Rattle.cover.specs.Covering.{NotAfter}
-use Rattle.cover.proofs.Comparisons.{not-refused-yes, not-refused-no}
+use Rattle.coverings.specs.Answering.{Answer, covers, coversNot, refusedWith, Comparable, AnswerPromised}
+use Rattle.coverings.specs.Covering.{NotAfter}
+
+pub not-refused-yes : {ns : List ℕ} {n k : ℕ} → covers ns ≡ refusedWith n k → ⊥
+not-refused-yes e = let z : _≡_ {A = ℕ} 0 1 = cc in omega arith
+
+pub not-refused-no : {n k : ℕ} → coversNot ≡ refusedWith n k → ⊥
+not-refused-no e = let z : _≡_ {A = ℕ} 0 1 = cc in omega arith
 
 -- Two choices of which neither is after the other are one.
 one-choice : (ns ms : List ℕ) → NotAfter ns ms → NotAfter ms ns → ns ≡ ms

@@ -14,10 +14,10 @@ use Rattle.unification.specs.Nodes.{isVariable, part, nodeArity, HasRow, hasRow
 use Rattle.unification.specs.Row.{argumentTerms}
 use Rattle.unification.specs.Term.{Term, Terms, var, app, nil, cons, apply, applyAll}
 use Rattle.unification.proofs.Tests.{from-T, both-true, true-not-false}
-use Rattle.cover.specs.Covering.{Substitution}
+use Rattle.coverings.specs.Covering.{Substitution}
 use Rattle.images.specs.Matching.{andThen, imaged, sameHead, argumentsImaged, Images, withNotes, withRows, rowMatched, ifImaged, rowsMatched, notesOf, atomsMatched}
 use Rattle.entry.proofs.NodeTable.{zeros-read}
-use Rattle.cover.proofs.Taking.{same-or-not, Holds, Taken, taken}
+use Rattle.coverings.proofs.Taking.{same-or-not, Holds, Taken, taken}
 
 -- The node table N has the rows whose terms, over variable numbers, `term` gives: rows name earlier rows, and equal terms are equal rows.
 pub record TermsOf (N : List ℕ) (term : ℕ → Term ℕ) : Type 0 where

@@ -11,7 +11,7 @@ use lib.Seq.{getD-set-same, getD-set-other}
 use Rattle.record.specs.Record.{pick}
 use Rattle.unification.proofs.Tests.{true-not-false}
 use Rattle.matching.specs.Searching.{pairChosen, fitsFrom, fits, orNext, tried, searched}
-use Rattle.cover.proofs.Taking.{same-or-not}
+use Rattle.coverings.proofs.Taking.{same-or-not}
 
 -- Two choices have the same numbers below i.
 abbrev pub SameTo : ℕ → List ℕ → List ℕ → Type 0

@@ -9,7 +9,7 @@ use Rattle.unification.proofs.Terms.{apply-apply}
 use Rattle.unification.proofs.Tests.{some-not-none, some-injective}
 use Rattle.derivation.specs.Derivation.{RowLiteral, numbered}
 use Rattle.derivation.specs.Ground.{Ground, WellFormed, Assignment, SomeTrue}
-use Rattle.cover.specs.Covering.{Substitution, Works, instanceBy, AllInstancesTrue}
+use Rattle.coverings.specs.Covering.{Substitution, Works, instanceBy, AllInstancesTrue}
 
 -- A term that is variable-free, over symbols that exist at their arities, once its variables have such values.
 abbrev pub Formed : (ℕ → Option ℕ) → Term ℕ → Type 0

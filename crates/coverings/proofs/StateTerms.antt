@@ -31,9 +31,9 @@ use Rattle.verdict.specs.Tables.{Tables}
 use Rattle.verdict.proofs.Inversions.{entry-below}
 use Rattle.verdict.proofs.Shared.{ArgumentsEarliest, SharedRows}
 use Rattle.verdict.proofs.WrittenRows.{number-law, equal-terms}
-use Rattle.cover.proofs.Choices.{LiteralsAs}
-use Rattle.cover.proofs.Solutions.{TermsOf}
-use Rattle.cover.proofs.Truth.{Formed}
+use Rattle.coverings.proofs.Choices.{LiteralsAs}
+use Rattle.coverings.proofs.Solutions.{TermsOf}
+use Rattle.coverings.proofs.Truth.{Formed}
 
 -- Rows name only earlier rows.
 before-all : (ws : List Row) (n : ℕ) → length ws ≡ n → (xs : List ℕ) → Each (IsEarliest ws) xs → Each (λ x. x < n) xs

@@ -16,14 +16,14 @@ use Rattle.unification.specs.Term.{Term, var}
 use Rattle.unification.proofs.Tests.{from-T, both-true, true-not-false, some-not-none, some-injective}
 use Rattle.derivation.specs.Derivation.{RowLiteral, literalOf, numbered}
 use Rattle.verdict.proofs.ExistenceTests.{numbered-within}
-use Rattle.cover.specs.Comparing.{numbersFrom}
-use Rattle.cover.specs.Covering.{Substitution, Turns, Works, NotAfter}
+use Rattle.coverings.specs.Choosing.{numbersFrom}
+use Rattle.coverings.specs.Covering.{Substitution, Turns, Works, NotAfter}
 use Rattle.matching.specs.Pairs.{bit, isPair, leftNumber, rightNumber, Pairs, agreeAt, agreeFrom, goTogether, tableFilled}
 use Rattle.matching.specs.Searching.{pairChosen, fitsFrom, fits, searched}
-use Rattle.cover.proofs.Earliest.{NotAfterFrom, FitFrom, Came, search-came}
-use Rattle.cover.proofs.PairLaws.{together, AllCame}
-use Rattle.cover.proofs.Solutions.{TermsOf}
-use Rattle.cover.proofs.Taking.{same-or-not}
+use Rattle.coverings.proofs.Earliest.{NotAfterFrom, FitFrom, Came, search-came}
+use Rattle.coverings.proofs.PairLaws.{together, AllCame}
+use Rattle.coverings.proofs.Solutions.{TermsOf}
+use Rattle.coverings.proofs.Taking.{same-or-not}
 
 -- ── The tests of the table ──
 

@@ -11,7 +11,7 @@ use lib.Seq.{getD-set-same, getD-set-other}
 use borrow.Author.Tests.{eqb-true, eqb-false}
 use Rattle.record.specs.Record.{pick}
 use Rattle.unification.proofs.Tests.{true-not-false}
-use Rattle.cover.specs.Covering.{Substitution}
+use Rattle.coverings.specs.Covering.{Substitution}
 use Rattle.images.specs.Matching.{imaged}
 
 pub same-or-not : (a b : ℕ) → (a ≡ b) ⊎ ¬ (a ≡ b)

@@ -14,11 +14,11 @@ use Rattle.unification.specs.Nodes.{part, HasRow}
 use Rattle.unification.specs.Term.{Term}
 use Rattle.unification.proofs.Tests.{to-T, from-T, both-true, true-not-false}
 use Rattle.derivation.specs.Derivation.{literalOf}
-use Rattle.cover.specs.Covering.{Substitution, Turns}
+use Rattle.coverings.specs.Covering.{Substitution, Turns}
 use Rattle.images.specs.Matching.{atomsMatched}
 use Rattle.matching.specs.Pairs.{bit, isPair, leftNumber, rightNumber, numbersMatched, pairMatched, Pairs, foundPair, pairsMatched}
-use Rattle.cover.proofs.Solutions.{TermsOf, Noted, AtomsCame, atoms-came}
-use Rattle.cover.proofs.Taking.{same-or-not, Holds}
+use Rattle.coverings.proofs.Solutions.{TermsOf, Noted, AtomsCame, atoms-came}
+use Rattle.coverings.proofs.Taking.{same-or-not, Holds}
 
 -- Tests as what they are for.
 pub together : (a b : Bool) → a ≡ true → b ≡ true → (a && b) ≡ true
