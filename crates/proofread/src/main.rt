@@ -16,11 +16,11 @@ use input::read_input;
 use libc::STDIN_FILENO;
 use program_input::day_of;
 use program_input::file_part;
-use readout::unit::unit_count;
-use readout::unit::write_unit;
+use units::unit_count;
+use units::write_unit;
 ghost use Rattle.checker.specs.Contract.{workspaceWith};
 ghost use Rattle.entry.specs.Progress.{tablesWith};
-ghost use Rattle.readout.specs.Units.{AfterCheck};
+ghost use Rattle.units.specs.Units.{AfterCheck};
 ghost use Rattle.proofread.specs.Checking.{Holds, InputChecked};
 
 // Prints line after line, the first one with that of clause 0.
