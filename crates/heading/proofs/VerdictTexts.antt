@@ -13,8 +13,8 @@ use Rattle.answer.specs.declared.Verdict as given
 use Rattle.answer.specs.declared.Verdict.the-variants.{Open, Accepted, Refused}
 use Rattle.heading.specs.Heading.{givenText, VerdictWritten}
 use Rattle.verdict.specs.Readout.{verdictText, verdictLine}
-use Rattle.terms.specs.Writing.{Wrote}
-use Rattle.terms.proofs.Positions.{wrote-then}
+use Rattle.text.specs.Buffer.{Wrote}
+use Rattle.text.proofs.Positions.{wrote-then}
 
 -- Three numbers decide the words.
 pub given-words : (v : given.Verdict) (u : Verdict) → verdictCoded v ≡ verdictNumbers u → givenText v ≡ verdictText u

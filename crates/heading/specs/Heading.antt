@@ -6,7 +6,7 @@ use lib.ListN.{length}
 use Rattle.answer.specs.declared.Verdict as given
 use Rattle.answer.specs.declared.Verdict.the-variants as given-variants
 use Rattle.verdict.specs.Readout.{acceptedText, openText, refusedText}
-use Rattle.terms.specs.Writing.{Wrote}
+use Rattle.text.specs.Buffer.{Wrote}
 
 -- The words of a verdict as the program gives it.
 abbrev pub givenText : given.Verdict → List ℕ

@@ -1,14 +1,14 @@
 // The first line of the readout: the verdict.
 use answer::Verdict;
-use terms::text::TextBuffer;
-use terms::text::put_byte;
-use terms::text::put_decimal;
-use terms::text::put_word;
+use text::TextBuffer;
+use text::put_byte;
+use text::put_decimal;
+use text::put_word;
 ghost use mathlib.Core.Path.{_≡_};
 ghost use lib.ListN.{length};
 ghost use Rattle.heading.specs.Heading.{givenText, VerdictWritten};
 ghost use Rattle.verdict.specs.Readout.{acceptedText, refusedText};
-ghost use Rattle.terms.specs.Writing.{Wrote};
+ghost use Rattle.text.specs.Buffer.{Wrote};
 
 // The number of a refusal's reason.
 fn wide(q: u8) -> u16

@@ -3,7 +3,7 @@ use answer::Answer;
 use following::nodes::Nodes;
 use following::nodes::Origins;
 use following::values::ValueCells;
-use terms::text::TextBuffer;
+use text::TextBuffer;
 use units::unit_count;
 use units::write_unit;
 ghost use mathlib.Core.Path.{_≡_};

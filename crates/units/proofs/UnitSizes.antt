@@ -19,8 +19,8 @@ use Rattle.units.specs.Pieces.{units, unitsWithin, PiecesHold}
 use Rattle.verdict.specs.Readout.{verdictLine, clauseLine, clauseLines, readoutLines}
 use Rattle.verdict.specs.Text.{decimal}
 use Rattle.units.specs.Units.{unitAt, AfterCheck, UnitReady, UnitWritten}
-use Rattle.terms.proofs.Decimals.{decimal-length}
-use Rattle.terms.proofs.Positions.{wrote-position, wrote-bytes}
+use Rattle.text.proofs.Decimals.{decimal-length}
+use Rattle.text.proofs.Positions.{wrote-position, wrote-bytes}
 use Rattle.lines.proofs.LineTexts.{line-short}
 use Rattle.units.proofs.PieceLaws.{AllWithin, pieces-hold}
 use Rattle.answer.proofs.GivenNumbers.{stateLeft, clauses-given}

@@ -20,9 +20,10 @@ use Rattle.heading.specs.Heading.{VerdictWritten}
 use Rattle.units.specs.Pieces.{unitsWithin}
 use Rattle.verdict.specs.Readout.{verdictLine, clauseLine}
 use Rattle.units.specs.Units.{unitAt, AfterCheck, UnitReady}
-use Rattle.terms.specs.Writing.{Wrote, Sized}
+use Rattle.text.specs.Buffer.{Wrote}
+use Rattle.terms.specs.Writing.{Sized}
 use Rattle.lines.proofs.LineTexts.{ClauseThere, clause-there, read-again}
-use Rattle.terms.proofs.Positions.{wrote-then}
+use Rattle.text.proofs.Positions.{wrote-then}
 use Rattle.heading.proofs.VerdictTexts.{verdict-line}
 use Rattle.answer.proofs.GivenNumbers.{stateLeft, verdict-given, clauses-given}
 use Rattle.units.proofs.UnitLaws.{unit-alone, unit-first, unit-other}

@@ -6,7 +6,7 @@ use following::nodes::Origins;
 use following::values::ValueCells;
 use heading::write_verdict;
 use lines::line::write_line;
-use terms::text::TextBuffer;
+use text::TextBuffer;
 ghost use mathlib.Core.Path.{_≡_};
 ghost use Rattle.units.specs.Pieces.{unitsWithin};
 ghost use Rattle.units.specs.Units.{UnitReady, UnitWritten};
