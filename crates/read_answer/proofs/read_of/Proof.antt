@@ -7,11 +7,11 @@ use lib.Signed.{natAbs-le}
 use mir.Syntax.{w64}
 use mir.Val.{Fits, toZ, ofZ}
 use mir.ValLaws.{toZ-ofZ}
-use Rattle.proofread.specs.Input.{readOf}
-use Rattle.proofread.specs.declared.input.Read.the-variants.{Bytes, End, Failed}
-use Rattle.proofread.proofs.Answers.{failed, came, ended, positive}
-use Rattle.proofread.proofs.input.read_of.Statement.{statement}
-use Rattle.proofread.proofs.input.read_of.Tie as tie
+use Rattle.read_answer.specs.Reading.{readOf}
+use Rattle.read_answer.specs.declared.Read.the-variants.{Bytes, End, Failed}
+use Rattle.read_answer.proofs.Answers.{failed, came, ended, positive}
+use Rattle.read_answer.proofs.read_of.Statement.{statement}
+use Rattle.read_answer.proofs.read_of.Tie as tie
 
 -- What the machine reads back of the answer's bits.
 abbrev read : tie.Start → ℤ

@@ -1,10 +1,10 @@
 -- The file lies within the space, after the day.
-use Rattle.proofread.proofs.Answers.{counted, within-space, input-checked}
+use Rattle.input_check.proofs.Parts.{counted, within-space, input-checked}
 use borrow.Author.Needs.{needs}
-use Rattle.proofread.proofs.check_input.Statement.{statement}
-use Rattle.proofread.proofs.check_input.Tie as tie
-use Rattle.proofread.proofs.check_input.Reads as reads
-use Rattle.proofread.proofs.check_input.Lts as lts
+use Rattle.input_check.proofs.check_input.Statement.{statement}
+use Rattle.input_check.proofs.check_input.Tie as tie
+use Rattle.input_check.proofs.check_input.Reads as reads
+use Rattle.input_check.proofs.check_input.Lts as lts
 use Rattle.checker.proofs.check_with.Reads as check-with-reads
 use Rattle.program_input.proofs.day_of.Reads as day-of-reads
 use Rattle.program_input.proofs.file_part.Reads as file-part-reads
