@@ -1,2 +1,1 @@
-pub mod Comparisons
-pub mod CompareSteps
+pub mod Answered

@@ -1,3 +1,1 @@
-pub mod Given
-pub mod Comparing
 pub mod Contract

@@ -10,8 +10,8 @@ use Rattle.entry.specs.Progress.{tablesWith}
 use Rattle.checker.specs.Contract.{Workspace, workspaceWith, CheckedWith}
 use Rattle.answer.specs.declared.Answer as answer
 use Rattle.coverings.specs.Answering.{Answer, tenNumbers, AnswerPromised}
-use Rattle.cover.specs.Given.{coveringGiven}
-use Rattle.cover.specs.declared.covering.Covering.{Covering}
+use Rattle.comparing.specs.Given.{coveringGiven}
+use Rattle.comparing.specs.declared.covering.Covering.{Covering}
 
 -- The tests before it.
 abbrev pub isInput : List ℕ → ℕ → ℕ → Bool

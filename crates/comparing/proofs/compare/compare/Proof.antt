@@ -1,15 +1,15 @@
 use borrow.Author.Tests.{not-true, not-false}
-use Rattle.cover.proofs.CompareSteps.{not-standing, not-input-left, not-input-right, choose-ready, both-input}
+use Rattle.comparing.proofs.CompareSteps.{not-standing, not-input-left, not-input-right, choose-ready, both-input}
 use borrow.Author.Needs.{needs}
-use Rattle.cover.proofs.compare.compare.Statement.{statement}
-use Rattle.cover.proofs.compare.compare.Tie as tie
-use Rattle.cover.proofs.compare.compare.Reads as reads
-use Rattle.cover.proofs.compare.compare.Lts as lts
+use Rattle.comparing.proofs.compare.compare.Statement.{statement}
+use Rattle.comparing.proofs.compare.compare.Tie as tie
+use Rattle.comparing.proofs.compare.compare.Reads as reads
+use Rattle.comparing.proofs.compare.compare.Lts as lts
 use Rattle.clauses.proofs.literals_cell.Reads as literals-cell-reads
-use Rattle.cover.proofs.compare.choose.Reads as choose-reads
-use Rattle.cover.proofs.compare.is_input.Reads as is-input-reads
+use Rattle.comparing.proofs.compare.choose.Reads as choose-reads
+use Rattle.comparing.proofs.compare.is_input.Reads as is-input-reads
 use Rattle.answer.proofs.stands.Reads as stands-reads
-use Rattle.cover.proofs.answers.without_choice.Reads as without-choice-reads
+use Rattle.comparing.proofs.answers.without_choice.Reads as without-choice-reads
 
 stands-requires : tie.Need-stands-requires
 stands-requires c κs = search needs

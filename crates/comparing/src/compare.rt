@@ -20,8 +20,8 @@ ghost use mathlib.Core.Path.{_≡_};
 ghost use Prim.Native.Nat.{_≤_};
 ghost use lib.ListN.{length};
 ghost use Rattle.coverings.specs.Choosing.{comparisonNumbers, comparisonFrom, comparison};
-ghost use Rattle.cover.specs.Comparing.{isInput, AfterCheck, Compared};
-ghost use Rattle.cover.specs.Given.{coveringGiven};
+ghost use Rattle.comparing.specs.Comparing.{isInput, AfterCheck, Compared};
+ghost use Rattle.comparing.specs.Given.{coveringGiven};
 
 // The literals of c against those of d, so many on the left and on the right, in tables that are lent.
 fn choose_in(

@@ -1,9 +1,9 @@
 use mathlib.Core.Path.{refl}
 use borrow.Author.Needs.{needs}
-use Rattle.cover.proofs.answers.with_choice.Statement.{statement}
-use Rattle.cover.proofs.answers.with_choice.Tie as tie
-use Rattle.cover.proofs.answers.with_choice.Reads as reads
-use Rattle.cover.proofs.answers.with_choice.Lts as lts
+use Rattle.comparing.proofs.answers.with_choice.Statement.{statement}
+use Rattle.comparing.proofs.answers.with_choice.Tie as tie
+use Rattle.comparing.proofs.answers.with_choice.Reads as reads
+use Rattle.comparing.proofs.answers.with_choice.Lts as lts
 use Rattle.matching.proofs.search.chosen.Reads as chosen-reads
 
 chosen-requires : tie.Need-chosen-requires

@@ -7,7 +7,7 @@ ghost use mathlib.Core.Path.{_≡_};
 ghost use mathlib.Core.List.{_∷_, _++_};
 ghost use lib.ListN.{length, replicate};
 ghost use Rattle.coverings.specs.Choosing.{numbersFrom};
-ghost use Rattle.cover.specs.Given.{outcomeNumbers, coveringGiven};
+ghost use Rattle.comparing.specs.Given.{outcomeNumbers, coveringGiven};
 
 // A no, or a refusal.
 pub fn without_choice(outcome: Outcome) -> Covering

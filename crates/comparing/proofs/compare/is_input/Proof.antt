@@ -1,9 +1,9 @@
-use Rattle.cover.proofs.CompareSteps.{past-last, code-looked-at}
+use Rattle.comparing.proofs.CompareSteps.{past-last, code-looked-at}
 use borrow.Author.Needs.{needs}
-use Rattle.cover.proofs.compare.is_input.Statement.{statement}
-use Rattle.cover.proofs.compare.is_input.Tie as tie
-use Rattle.cover.proofs.compare.is_input.Reads as reads
-use Rattle.cover.proofs.compare.is_input.Lts as lts
+use Rattle.comparing.proofs.compare.is_input.Statement.{statement}
+use Rattle.comparing.proofs.compare.is_input.Tie as tie
+use Rattle.comparing.proofs.compare.is_input.Reads as reads
+use Rattle.comparing.proofs.compare.is_input.Lts as lts
 use Rattle.clauses.proofs.origin_code.Reads as origin-code-reads
 
 origin-code-requires : tie.Need-origin-code-requires

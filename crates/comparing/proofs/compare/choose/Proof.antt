@@ -1,10 +1,10 @@
-use Rattle.cover.proofs.CompareSteps.{own-tables}
+use Rattle.comparing.proofs.CompareSteps.{own-tables}
 use borrow.Author.Needs.{needs}
-use Rattle.cover.proofs.compare.choose.Statement.{statement}
-use Rattle.cover.proofs.compare.choose.Tie as tie
-use Rattle.cover.proofs.compare.choose.Reads as reads
-use Rattle.cover.proofs.compare.choose.Lts as lts
-use Rattle.cover.proofs.compare.choose_in.Reads as choose-in-reads
+use Rattle.comparing.proofs.compare.choose.Statement.{statement}
+use Rattle.comparing.proofs.compare.choose.Tie as tie
+use Rattle.comparing.proofs.compare.choose.Reads as reads
+use Rattle.comparing.proofs.compare.choose.Lts as lts
+use Rattle.comparing.proofs.compare.choose_in.Reads as choose-in-reads
 
 choose-in-requires : tie.Need-choose-in-requires
 choose-in-requires c κs = search needs

@@ -8,19 +8,15 @@ use lib.Dec.{eqb, ltb, ltb→lt, lt→ltb}
 use lib.ListN.{length, replicate}
 use Rattle.unification.proofs.Tests.{to-T, from-T}
 use Rattle.derivation.specs.Stored.{originCode, literalsCell}
-use Rattle.entry.specs.Progress.{tablesWith}
-use Rattle.checker.specs.Contract.{workspaceWith, CheckedWith}
 use Rattle.answer.specs.Given.{verdictStands}
 use Rattle.answer.specs.declared.Answer as answer
 use Rattle.coverings.specs.Choosing.{numbersFrom, comparisonNumbers, comparisonFrom, comparison}
-use Rattle.cover.specs.Comparing.{isInput, AfterCheck, Compared}
-use Rattle.cover.specs.Given.{coveringGiven}
-use Rattle.cover.specs.Contract.{CoversAnswered}
+use Rattle.comparing.specs.Comparing.{isInput, AfterCheck, Compared}
+use Rattle.comparing.specs.Given.{coveringGiven}
 use Rattle.matching.specs.Pairs.{Pairs, pairsMatched, tableFilled}
 use Rattle.matching.specs.Searching.{searched}
-use Rattle.cover.specs.declared.covering.Covering as given
-use Rattle.coverings.proofs.OneAnswer.{one-answer}
-use Rattle.cover.proofs.Comparisons.{refused-covering, refused-nothing, left-nothing, right-nothing, few-left, few-right, compared}
+use Rattle.comparing.specs.declared.covering.Covering as given
+use Rattle.comparing.proofs.Comparisons.{refused-covering, refused-nothing, left-nothing, right-nothing, few-left, few-right, compared}
 
 -- What the search has come to, in the tables that were filled before it.
 pub chosen-from : (N O : List ℕ) (c d lefts rights : ℕ) (F W T X F′ W′ T′ : List ℕ) (b : Bool) (X′ : List ℕ) → record { found = F′; notes = W′ } ≡ pairsMatched N O c d lefts rights 64 (record { found = F; notes = W }) → T′ ≡ tableFilled F′ W′ 4096 T
@@ -76,20 +72,4 @@ module _ (CL N O : List ℕ) (a : answer.Answer) (c d : ℕ) (r : given.Covering
         → coveringGiven r ≡ comparisonNumbers (comparison N O c d lefts rights) → Compared CL N O a c d r
     both-input x p f y q g lefts rights k l e = record {
       covering = λ R. compared CL N O a c d R (sym t ∙ s) (sym p ∙ f) (sym q ∙ g) r (rw (k, l) at e);
-    }
-
--- What the check leaves is what comparing asks for.
-pub covers-answered : (day : ℕ) (F s₀ r₀ C₀ B₀ N₀ O₀ A₀ s₁ r₁ C₁ B₁ N₁ O₁ A₁ : List ℕ) (a : answer.Answer) (c d : ℕ) (r : given.Covering) → CheckedWith day F (tablesWith s₀ r₀ C₀ B₀) (workspaceWith N₀ O₀ A₀) a (tablesWith s₁ r₁ C₁ B₁) (workspaceWith N₁ O₁ A₁)
-    → Compared C₁ N₁ O₁ a c d r → CoversAnswered F (tablesWith s₀ r₀ C₀ B₀) c d r (tablesWith s₁ r₁ C₁ B₁)
-covers-answered day F s₀ r₀ C₀ B₀ N₀ O₀ A₀ s₁ r₁ C₁ B₁ N₁ O₁ A₁ a c d r K G =
-    let X = G .covering (record { day = day; file = F; before = tablesWith s₀ r₀ C₀ B₀; lent = workspaceWith N₀ O₀ A₀; symbols = s₁; rows = r₁; bindings = B₁; values = A₁; checked = K }) in
-    record {
-      answer = X .answer;
-      numbers = X .numbers;
-      promised = X .promised;
-      only = λ other A. one-answer F (tablesWith s₀ r₀ C₀ B₀) c d other (X .answer) A (X .promised);
-      symbols = K .checked .symbols;
-      rows = K .checked .rows;
-      clauses = K .checked .clauses;
-      bindings = K .checked .bindings;
     }

@@ -1,11 +1,11 @@
-use Rattle.cover.proofs.CompareSteps.{chosen-from, chosen-numbers, no-numbers}
+use Rattle.comparing.proofs.CompareSteps.{chosen-from, chosen-numbers, no-numbers}
 use borrow.Author.Needs.{needs}
-use Rattle.cover.proofs.compare.choose_in.Statement.{statement}
-use Rattle.cover.proofs.compare.choose_in.Tie as tie
-use Rattle.cover.proofs.compare.choose_in.Reads as reads
-use Rattle.cover.proofs.compare.choose_in.Lts as lts
-use Rattle.cover.proofs.answers.with_choice.Reads as with-choice-reads
-use Rattle.cover.proofs.answers.without_choice.Reads as without-choice-reads
+use Rattle.comparing.proofs.compare.choose_in.Statement.{statement}
+use Rattle.comparing.proofs.compare.choose_in.Tie as tie
+use Rattle.comparing.proofs.compare.choose_in.Reads as reads
+use Rattle.comparing.proofs.compare.choose_in.Lts as lts
+use Rattle.comparing.proofs.answers.with_choice.Reads as with-choice-reads
+use Rattle.comparing.proofs.answers.without_choice.Reads as without-choice-reads
 use Rattle.matching.proofs.pairs.fill_table.Reads as fill-table-reads
 use Rattle.matching.proofs.pairs.match_pairs.Reads as match-pairs-reads
 use Rattle.matching.proofs.search.search.Reads as search-reads

@@ -25,9 +25,9 @@ use Rattle.answer.proofs.GivenNumbers.{verdict-given, clauses-given, stands-not
 use Rattle.entry.specs.Progress.{ReadTo, tablesWith}
 use Rattle.coverings.specs.Answering.{Answer, covers, coversNot, refusedWith, Comparable, termIn}
 use Rattle.coverings.specs.Choosing.{numbersFrom, comparisonNumbers, comparison}
-use Rattle.cover.specs.Comparing.{isInput, AfterCheck, CoveringOf}
-use Rattle.cover.specs.Given.{coveringGiven}
-use Rattle.cover.specs.declared.covering.Covering as given
+use Rattle.comparing.specs.Comparing.{isInput, AfterCheck, CoveringOf}
+use Rattle.comparing.specs.Given.{coveringGiven}
+use Rattle.comparing.specs.declared.covering.Covering as given
 use Rattle.coverings.proofs.PairLaws.{together}
 use Rattle.coverings.proofs.StateTerms.{terms-of, row-formed, InputHere, input-here, input-found}
 use Rattle.coverings.proofs.Truth.{Formed}
