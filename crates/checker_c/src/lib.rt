@@ -1,17 +1,14 @@
 // The check of a proof file, its readout, which clause covers which and the merge of two files, for C. The definitions are in the crate exported: `Exported`
 // says what `checker_check` promises, `ExportedWith` what `checker_check_with`, `ExportedReadout` what `checker_readout`, `ExportedCovers` what
 // `checker_covers` and `ExportedMerge` what `checker_merge` does, and checker.h has their declarations.
-use checker::check;
-use checker::check_with;
-use cover::covers;
-use exported::cells::put;
-use exported::covering::put_covering;
-use exported::progress::put_progress;
+use check_c::check_to_cells;
+use check_with_c::check_with_to_cells;
+use covers_c::covers_to_cells;
 use following::nodes::Nodes;
 use following::nodes::Origins;
 use following::values::ValueCells;
 use merge_c::merge_to_cells;
-use readout::readout_piece;
+use readout_c::readout_to_cells;
 ghost use Rattle.entry.specs.Progress.{tablesWith};
 ghost use Rattle.checker.specs.Contract.{workspaceWith};
 ghost use Rattle.exported.specs.Exported.{Exported};
@@ -33,11 +30,7 @@ pub extern "C" fn checker_check(
 )
     ensures { λ _. ⌜ Exported day (now (file .entry)) (tablesWith (now (symbols .entry)) (now (rows .entry)) (now (clauses .entry)) (now (bindings .entry))) (now (answer .entry)) (tablesWith (now (symbols .exit)) (now (rows .exit)) (now (clauses .exit)) (now (bindings .exit))) (now (answer .exit)) ⌝ }
 {
-    if answer.len() < 7 {
-        return;
-    }
-    let a = check(day, file, symbols, rows, clauses, bindings);
-    put(a, answer);
+    check_to_cells(day, file, symbols, rows, clauses, bindings, answer);
 }
 
 // The same for services, with a workspace that the caller lends and keeps between files, whatever it holds.
@@ -56,10 +49,7 @@ pub extern "C" fn checker_check_with(
 )
     ensures { λ _. ⌜ ExportedWith day (now (file .entry)) (tablesWith (now (symbols .entry)) (now (rows .entry)) (now (clauses .entry)) (now (bindings .entry))) (workspaceWith (now (nodes .entry)) (now (origins .entry)) (now (values .entry))) (now (answer .entry)) (tablesWith (now (symbols .exit)) (now (rows .exit)) (now (clauses .exit)) (now (bindings .exit))) (workspaceWith (now (nodes .exit)) (now (origins .exit)) (now (values .exit))) (now (answer .exit)) ⌝ }
 {
-    if answer.len() < 7 {
-        return;
-    }
-    let a = check_with(
+    check_with_to_cells(
         day,
         file,
         symbols,
@@ -69,8 +59,8 @@ pub extern "C" fn checker_check_with(
         nodes,
         origins,
         values,
+        answer,
     );
-    put(a, answer);
 }
 
 // Whether input clause c of a file covers input clause d, with the answer in ten cells. Where `answer` has fewer, nothing is touched.
@@ -87,11 +77,7 @@ pub extern "C" fn checker_covers(
 )
     ensures { λ _. ⌜ ExportedCovers (now (file .entry)) (tablesWith (now (symbols .entry)) (now (rows .entry)) (now (clauses .entry)) (now (bindings .entry))) c d (now (answer .entry)) (tablesWith (now (symbols .exit)) (now (rows .exit)) (now (clauses .exit)) (now (bindings .exit))) (now (answer .exit)) ⌝ }
 {
-    if answer.len() < 10 {
-        return;
-    }
-    let r = covers(file, symbols, rows, clauses, bindings, c, d);
-    put_covering(r, answer);
+    covers_to_cells(file, c, d, symbols, rows, clauses, bindings, answer);
 }
 
 // A piece of the readout of a file on a day, from a clause on, with the progress in three cells. Where `progress` has fewer, nothing is touched.
@@ -109,11 +95,17 @@ pub extern "C" fn checker_readout(
 )
     ensures { λ _. ⌜ ExportedReadout day (now (file .entry)) (tablesWith (now (symbols .entry)) (now (rows .entry)) (now (clauses .entry)) (now (bindings .entry))) clause (now (output .entry)) (now (progress .entry)) (tablesWith (now (symbols .exit)) (now (rows .exit)) (now (clauses .exit)) (now (bindings .exit))) (now (output .exit)) (now (progress .exit)) ⌝ }
 {
-    if progress.len() < 3 {
-        return;
-    }
-    let p = readout_piece(day, file, symbols, rows, clauses, bindings, clause, output);
-    put_progress(p, progress);
+    readout_to_cells(
+        day,
+        file,
+        symbols,
+        rows,
+        clauses,
+        bindings,
+        clause,
+        output,
+        progress,
+    );
 }
 
 // Two files merged into one, with the answer in four cells. Where `answer` has fewer, nothing is touched.

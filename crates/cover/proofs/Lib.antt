@@ -1,10 +1,1 @@
-pub mod Taking
-pub mod Solutions
-pub mod Earliest
-pub mod PairLaws
-pub mod Choices
-pub mod Truth
-pub mod StateTerms
-pub mod Comparisons
-pub mod OneAnswer
-pub mod CompareSteps
+pub mod Answered

@@ -3,9 +3,9 @@ use mathlib.Core.Path.{_≡_}
 use mathlib.Core.List.{List}
 use Prim.Native.Nat.{ℕ}
 use Rattle.verdict.specs.Tables.{Tables, tablesAfter}
-use Rattle.cover.specs.Answering.{Answer, tenNumbers, AnswerPromised}
-use Rattle.cover.specs.Given.{coveringGiven}
-use Rattle.cover.specs.declared.covering.Covering.{Covering}
+use Rattle.coverings.specs.Answering.{Answer, tenNumbers, AnswerPromised}
+use Rattle.comparing.specs.Given.{coveringGiven}
+use Rattle.comparing.specs.declared.covering.Covering.{Covering}
 
 pub record CoversAnswered (file : List ℕ) (before : Tables) (c d : ℕ) (r : Covering) (after : Tables) : Type 0 where
   -- The answer, by its ten numbers, and what is promised of it.

@@ -1,12 +1,8 @@
-// Which input clause covers which. In specs/, `Covering` has what that means, and `Answering` and `Contract` what this crate promises; `Comparing` says
-// how the parts of this program go about it. Literals are matched and choices searched by the crate matching.
-mod answers;
-mod compare;
-pub mod covering;
-
+// Which input clause covers which. In specs/ of the crate coverings, `Covering` has what that means, and `Answering` with `Contract` in specs/ here what is
+// promised. The clauses are compared by the crate comparing.
 use checker::check_with;
-use compare::compare;
-use covering::Covering;
+use comparing::compare::compare;
+use comparing::covering::Covering;
 ghost use Rattle.entry.specs.Progress.{tablesWith};
 ghost use Rattle.cover.specs.Contract.{CoversAnswered};
 

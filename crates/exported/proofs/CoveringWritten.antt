@@ -5,11 +5,11 @@ use Prim.Native.Nat.{ℕ, _<_, _≤_}
 use native.Mathlib.Omega.{arith}
 use lib.ListN.{length, drop, set, length-set}
 use Rattle.verdict.specs.Tables.{Tables}
-use Rattle.cover.specs.Given.{outcomeNumbers, coveringGiven}
+use Rattle.comparing.specs.Given.{outcomeNumbers, coveringGiven}
 use Rattle.cover.specs.Contract.{CoversAnswered}
-use Rattle.cover.specs.declared.covering.Covering.{Covering}
-use Rattle.cover.specs.declared.covering.Outcome.{Outcome}
-use Rattle.cover.specs.declared.covering.Outcome.the-variants.{Yes, No, Refused}
+use Rattle.comparing.specs.declared.covering.Covering.{Covering}
+use Rattle.comparing.specs.declared.covering.Outcome.{Outcome}
+use Rattle.comparing.specs.declared.covering.Outcome.the-variants.{Yes, No, Refused}
 use Rattle.exported.specs.ExportedCovers.{ExportedCovers}
 use Rattle.exported.proofs.ProgressWritten.{stored}
 

@@ -6,9 +6,9 @@ use native.Mathlib.Omega.{arith}
 use lib.ListN.{length, drop, set}
 use Rattle.verdict.specs.Tables.{Tables, lengthsOf}
 use Rattle.readout.specs.Contract.{PieceWritten}
-use Rattle.readout.specs.Pieces.{Progress, progress}
-use Rattle.readout.specs.Units.{restGiven}
-use Rattle.readout.specs.declared.piece.Piece.{Piece}
+use Rattle.units.specs.Pieces.{Progress, progress}
+use Rattle.pieces.specs.Placed.{restGiven}
+use Rattle.pieces.specs.declared.Piece.{Piece}
 use Rattle.exported.specs.ExportedReadout.{progressNumbers, pieceNumbers, ExportedReadout}
 
 -- Three stores put three numbers before the rest.

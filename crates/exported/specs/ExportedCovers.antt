@@ -5,7 +5,7 @@ use mathlib.Core.List.{List, _++_}
 use Prim.Native.Nat.{ℕ, _<_, _≤_}
 use lib.ListN.{length, drop}
 use Rattle.verdict.specs.Tables.{Tables, tablesAfter}
-use Rattle.cover.specs.Answering.{Answer, tenNumbers, AnswerPromised}
+use Rattle.coverings.specs.Answering.{Answer, tenNumbers, AnswerPromised}
 
 -- The ten numbers of an answer of which all is true that is promised, and the cells past the tenth as they were.
 pub record AnswerIn (file : List ℕ) (before : Tables) (c d : ℕ) (answerBefore answerAfter : List ℕ) : Type 0 where

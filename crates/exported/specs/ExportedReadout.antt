@@ -5,7 +5,7 @@ use mathlib.Core.List.{List, [], _∷_, _++_}
 use Prim.Native.Nat.{ℕ, _<_, _≤_}
 use lib.ListN.{length, drop}
 use Rattle.verdict.specs.Tables.{Tables, lengthsOf, tablesAfter}
-use Rattle.readout.specs.Pieces.{Progress, complete, goOnWith, tooShortFor, pieceBytes, progress, PiecesHold}
+use Rattle.units.specs.Pieces.{Progress, complete, goOnWith, tooShortFor, pieceBytes, progress, PiecesHold}
 
 -- The three numbers of a piece that wrote so many bytes: 0 and no clause where all is written, 1 and the clause to go on with, 2 and the
 -- clause whose line there was no room for.

@@ -1,11 +1,11 @@
 // Whether a clause covers another, in ten numbers.
-use cover::covering::Covering;
-use cover::covering::Outcome;
+use comparing::covering::Covering;
+use comparing::covering::Outcome;
 ghost use mathlib.Core.Path.{_≡_};
 ghost use mathlib.Core.List.{[], _∷_, _++_};
 ghost use Prim.Native.Nat.{_≤_};
 ghost use lib.ListN.{length, drop};
-ghost use Rattle.cover.specs.Given.{outcomeNumbers, coveringGiven};
+ghost use Rattle.comparing.specs.Given.{outcomeNumbers, coveringGiven};
 
 // An outcome in numbers: 0 no, 1 yes, 2 refused; the reason; the record.
 struct Numbers {

@@ -1,11 +1,11 @@
 // The progress of a readout in three numbers.
-use readout::piece::Piece;
-use readout::piece::Rest;
+use pieces::Piece;
+use pieces::Rest;
 ghost use mathlib.Core.Path.{_≡_};
 ghost use mathlib.Core.List.{[], _∷_, _++_};
 ghost use Prim.Native.Nat.{_≤_};
 ghost use lib.ListN.{length, drop};
-ghost use Rattle.readout.specs.Units.{restGiven};
+ghost use Rattle.pieces.specs.Placed.{restGiven};
 ghost use Rattle.exported.specs.ExportedReadout.{progressNumbers};
 
 // A piece in numbers: 0 all is written, 1 there is more, 2 too short; the bytes written; the clause to go on with or that it is too

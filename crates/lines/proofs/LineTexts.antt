@@ -37,10 +37,11 @@ use Rattle.lines.specs.Lines.{AllWritable, NumberedReady, LiteralsReady,
 use Rattle.collecting.specs.Literals.{listed, Collectable, Collected}
 use Rattle.verdict.specs.Readout.{clauseLine}
 use Rattle.verdict.specs.Text.{decimal, literalText, literalsText}
-use Rattle.terms.specs.Writing.{Wrote, Sized, WritingReady, WritesLiteral}
-use Rattle.terms.proofs.Decimals.{decimal-length}
-use Rattle.terms.proofs.LiteralTexts.{literals-text-short}
-use Rattle.terms.proofs.Positions.{wrote-nothing, wrote-then}
+use Rattle.text.specs.Buffer.{Wrote}
+use Rattle.terms.specs.Writing.{Sized, WritingReady, WritesLiteral}
+use Rattle.text.proofs.Decimals.{decimal-length}
+use Rattle.literal_text.proofs.LiteralTexts.{literals-text-short}
+use Rattle.text.proofs.Positions.{wrote-nothing, wrote-then}
 
 -- The literal that the program found is the one with the number.
 module _ (O C N A T : List ℕ) (at c n : ℕ) (r : NamedLiteral) (G : (B : List ℕ) (d : Derivation) → Stored O C B c d → r ≡ namedLiteral (numbered (literals d) n)) where

@@ -20,7 +20,8 @@ use Rattle.entry.specs.Progress.{ReadTo, tablesWith}
 use Rattle.collecting.specs.Literals.{Collectable}
 use Rattle.verdict.specs.Readout.{clauseLine}
 use Rattle.verdict.specs.Text.{literalsText}
-use Rattle.terms.specs.Writing.{Wrote, Sized, WritingReady, LiteralWritten, WritesLiteral}
+use Rattle.text.specs.Buffer.{Wrote}
+use Rattle.terms.specs.Writing.{Sized, WritingReady, LiteralWritten, WritesLiteral}
 
 -- Every literal of a list can be written out, as `Writable` has it for one expression.
 pub record AllWritable (N : List ℕ) (top : ℕ) (A : List ℕ) (ρ : Environment) (row : ℕ → Row) (term : ℕ → Term ℕ) (σ : Variable → Term Variable) (ls : List Literal) : Type 0 where

@@ -8,17 +8,18 @@ use lib.Seq.{take-at}
 use Rattle.verdict.specs.Tables.{lengthsOf}
 use Rattle.verdict.specs.Verdict.{Lengths}
 use Rattle.answer.specs.declared.Answer.{Answer}
-use Rattle.readout.specs.Pieces.{progress, pieceBytes, Pieces, lastPiece, piece}
+use Rattle.units.specs.Pieces.{progress, pieceBytes, Pieces, lastPiece, piece}
 use Rattle.verdict.specs.Readout.{readout}
-use Rattle.readout.specs.Units.{AfterCheck, PieceAt, PieceOf, restGiven}
-use Rattle.readout.specs.declared.piece.Piece.{Piece}
-use Rattle.readout.specs.declared.piece.Rest.{Rest}
-use Rattle.readout.specs.declared.piece.Rest.the-variants.{Complete, GoOn, TooShort}
-use Rattle.readout.proofs.piece.Rest.{the-type}
+use Rattle.units.specs.Units.{AfterCheck}
+use Rattle.pieces.specs.Placed.{PieceAt, PieceOf, restGiven}
+use Rattle.pieces.specs.declared.Piece.{Piece}
+use Rattle.pieces.specs.declared.Rest.{Rest}
+use Rattle.pieces.specs.declared.Rest.the-variants.{Complete, GoOn, TooShort}
+use Rattle.pieces.proofs.Rest.{the-type}
 use denote.Enum.Declared.{tagOf}
 use mathlib.Core.Logic.{_⊎_, inl, inr}
-use Rattle.readout.proofs.PieceWriting.{pieces-always}
-use Rattle.readout.proofs.UnitWriting.{after-again}
+use Rattle.units.proofs.UnitSizes.{pieces-always}
+use Rattle.units.proofs.UnitWriting.{after-again}
 use Rattle.outcomes.specs.Digest.{DigestOf, DigestAfter}
 use Rattle.hash.specs.Hash.{start, hashBytes}
 use Rattle.outcomes.specs.declared.digest.Digest.{Digest}

@@ -7,7 +7,7 @@ use Rattle.verdict.specs.Tables.{lengthsOf}
 use Rattle.verdict.specs.Verdict.{Lengths}
 use Rattle.answer.specs.declared.Answer.{Answer}
 use Rattle.verdict.specs.Readout.{readout}
-use Rattle.readout.specs.Units.{AfterCheck}
+use Rattle.units.specs.Units.{AfterCheck}
 use Rattle.hash.specs.Hash.{start, hashBytes}
 use Rattle.outcomes.specs.declared.digest.Digest.{Digest}
 

@@ -4,9 +4,9 @@ use following::nodes::Nodes;
 use following::nodes::Origins;
 use following::values::ValueCells;
 use hash::with_bytes;
-use readout::piece::Rest;
-use readout::piece::write_piece;
-ghost use Rattle.readout.specs.Units.{AfterCheck};
+use pieces::Rest;
+use pieces::write_piece;
+ghost use Rattle.units.specs.Units.{AfterCheck};
 ghost use Rattle.outcomes.specs.Digest.{DigestAfter};
 
 // How many bytes there are, and their hash.

@@ -1,18 +1,11 @@
--- What the answer of a read says, as POSIX has it, and what is known of an input.
+-- What is known of a read and of an input.
 use mathlib.Core.List.{List}
-use Prim.Native.Nat.{ℕ, zero, suc, _≤_}
-use lib.IntN.{ℤ, pos, negsuc}
+use Prim.Native.Nat.{ℕ, _≤_}
 use Rattle.io.specs.Counts.{Counts}
-use Rattle.proofread.specs.declared.input.Read.{Read}
-use Rattle.proofread.specs.declared.input.Read.the-variants.{Bytes, End, Failed}
+use Rattle.read_answer.specs.declared.Read.{Read}
+use Rattle.read_answer.specs.declared.Read.the-variants.{Bytes, End, Failed}
 use Rattle.proofread.specs.declared.input.Input.{Input}
 use Rattle.proofread.specs.declared.input.Input.the-variants.{Whole, Broken}
-
--- A number above zero is how many bytes came, zero is the end of the input, and a number below zero a failure.
-abbrev pub readOf : ℤ → Read
-readOf (pos zero) = End
-readOf (pos (suc n)) = Bytes (suc n)
-readOf (negsuc n) = Failed
 
 -- Bytes that came are at least one, and no more than there was room for.
 abbrev pub Room : Read → ℕ → Type 0

@@ -7,21 +7,17 @@ mod output;
 mod report;
 
 use answer::Answer;
-use checker::check_with;
 use following::nodes::Nodes;
 use following::nodes::Origins;
 use following::values::ValueCells;
 use input::Input;
 use input::read_input;
+use input_check::check_input;
 use libc::STDIN_FILENO;
-use program_input::day_of;
-use program_input::file_part;
-use readout::unit::unit_count;
-use readout::unit::write_unit;
-ghost use Rattle.checker.specs.Contract.{workspaceWith};
-ghost use Rattle.entry.specs.Progress.{tablesWith};
-ghost use Rattle.readout.specs.Units.{AfterCheck};
-ghost use Rattle.proofread.specs.Checking.{Holds, InputChecked};
+use units::unit_count;
+use units::write_unit;
+ghost use Rattle.units.specs.Units.{AfterCheck};
+ghost use Rattle.input_check.specs.Checking.{Holds};
 
 // Prints line after line, the first one with that of clause 0.
 fn print_lines(
@@ -44,38 +40,6 @@ fn print_lines(
         }
         n += 1;
     }
-}
-
-// Checks the file that the first n bytes of a space hold, on the day that stands before it.
-fn check_input(
-    space: &[u8],
-    n: usize,
-    symbols: &mut [u16],
-    rows: &mut [u16],
-    clauses: &mut [u16],
-    bindings: &mut [u16],
-    nodes: &mut Nodes,
-    origins: &mut Origins,
-    values: &mut ValueCells,
-) -> Answer
-    requires { ⌜ Holds (now space) n ⌝ }
-    ensures { λ a. ⌜ InputChecked (now (space .entry)) n (tablesWith (now (symbols .entry)) (now (rows .entry)) (now (clauses .entry)) (now (bindings .entry))) (workspaceWith (now (nodes .entry)) (now (origins .entry)) (now (values .entry))) a (tablesWith (now (symbols .exit)) (now (rows .exit)) (now (clauses .exit)) (now (bindings .exit))) (workspaceWith (now (nodes .exit)) (now (origins .exit)) (now (values .exit))) ⌝ }
-{
-    let day = day_of(&space[..n]);
-    let part = file_part(n);
-    let first = part.first;
-    let end = part.end;
-    check_with(
-        day,
-        &space[first..end],
-        symbols,
-        rows,
-        clauses,
-        bindings,
-        nodes,
-        origins,
-        values,
-    )
 }
 
 // Checks the file of an input once, on its day, and prints its readout by what the check left.

@@ -1,7 +1,1 @@
-pub mod VerdictTexts
-pub mod PieceLaws
-pub mod UnitLaws
-pub mod UnitWriting
-pub mod UnitSizes
-pub mod PieceRuns
-pub mod PieceWriting
+pub mod PieceChecked

@@ -4,9 +4,9 @@ use mathlib.Core.Path.{_≡_}
 use mathlib.Core.List.{List}
 use Prim.Native.Nat.{ℕ}
 use Rattle.verdict.specs.Tables.{Tables, lengthsOf, tablesAfter}
-use Rattle.readout.specs.Pieces.{PiecesHold}
-use Rattle.readout.specs.Units.{PieceAt}
-use Rattle.readout.specs.declared.piece.Piece.{Piece}
+use Rattle.units.specs.Pieces.{PiecesHold}
+use Rattle.pieces.specs.Placed.{PieceAt}
+use Rattle.pieces.specs.declared.Piece.{Piece}
 
 pub record PieceWritten (day : ℕ) (file : List ℕ) (before : Tables) (clause : ℕ) (output : List ℕ) (p : Piece) (after : Tables) (output′ : List ℕ) : Type 0 where
   -- The bytes at the start of the output are those of the piece, the rest of it is untouched; and the two numbers that are answered.

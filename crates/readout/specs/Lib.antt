@@ -1,4 +1,1 @@
-pub mod Heading
-pub mod Pieces
-pub mod Units
 pub mod Contract

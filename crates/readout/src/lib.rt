@@ -1,12 +1,8 @@
-// The readout of a proof file. What it is, `Text` and `Readout` have in the crate verdict. In specs/, `Pieces` has what a piece of it is,
-// and `Contract` what this crate promises; `Units` says how the parts of this program go about it.
-mod heading;
-pub mod piece;
-pub mod unit;
-
+// The readout of a proof file. What it is, `Text` and `Readout` have in the crate verdict; what a piece of it is, `Pieces` in the crate units. In specs/,
+// `Contract` has what this crate promises.
 use checker::check_with;
-use piece::Piece;
-use piece::write_piece;
+use pieces::Piece;
+use pieces::write_piece;
 ghost use Rattle.entry.specs.Progress.{tablesWith};
 ghost use Rattle.readout.specs.Contract.{PieceWritten};
 

@@ -15,9 +15,10 @@ use Rattle.unification.specs.Term.{Term, Terms, cons, applyAll, occurrences, al
 use Rattle.unification.specs.ValueArray.{Models}
 use Rattle.following.proofs.Occurrence.{arg-good, args-eq}
 use Rattle.verdict.specs.Text.{termText, argumentsText, furtherText}
-use Rattle.terms.specs.Writing.{Wrote, markBefore, closingText, Writable, WritingReady, WritingArgumentsReady, WritesTerm, argumentsOut, WritesArguments}
-use Rattle.terms.specs.declared.term.Written.the-variants.{Done, TooMany}
-use Rattle.terms.proofs.Positions.{kept-then, wrote-nothing, wrote-onward, wrote-then}
+use Rattle.text.specs.Buffer.{Wrote}
+use Rattle.terms.specs.Writing.{markBefore, closingText, Writable, WritingReady, WritingArgumentsReady, WritesTerm, argumentsOut, WritesArguments}
+use Rattle.terms.specs.declared.Written.the-variants.{Done, TooMany}
+use Rattle.text.proofs.Positions.{kept-then, wrote-nothing, wrote-onward, wrote-then}
 use Rattle.terms.proofs.TermTexts.{writable-at}
 
 -- What is to be written where argument n is the next one.

@@ -17,10 +17,11 @@ use Rattle.unification.proofs.Meaning.{writtenView, expressionOf, Ended, writte
 use Rattle.following.specs.declared.follow.Followed.{Followed}
 use Rattle.following.specs.declared.follow.Followed.the-variants.{Variable, Application}
 use Rattle.verdict.specs.Text.{decimal, variableNumber, termText, argumentsText}
-use Rattle.terms.specs.Writing.{Wrote, Writable, WritingReady, WritingArgumentsReady, Came, Writing, WritesTerm, argumentsOut, WritesArguments, FewerOccurrencesLeft, NoMoreOccurrencesLeft}
-use Rattle.terms.specs.declared.term.Written.{Written}
-use Rattle.terms.specs.declared.term.Written.the-variants.{Done, TooMany}
-use Rattle.terms.proofs.Positions.{kept-same, kept-then, wrote-onward, wrote-then}
+use Rattle.text.specs.Buffer.{Wrote}
+use Rattle.terms.specs.Writing.{Writable, WritingReady, WritingArgumentsReady, Came, Writing, WritesTerm, argumentsOut, WritesArguments, FewerOccurrencesLeft, NoMoreOccurrencesLeft}
+use Rattle.terms.specs.declared.Written.{Written}
+use Rattle.terms.specs.declared.Written.the-variants.{Done, TooMany}
+use Rattle.text.proofs.Positions.{kept-same, kept-then, wrote-onward, wrote-then}
 
 -- Following sees the node table as it sees the rows.
 module _ (N : List ℕ) (top : ℕ) (ρ : Environment) (row : ℕ → Row) (kept : (e d : Expression) → ρ e ≡ some d → InStep N top e → InStep N top d) (rows : (r : ℕ) → HasRow N r → nodeRow N r ≡ row r) where

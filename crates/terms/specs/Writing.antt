@@ -1,11 +1,11 @@
--- The contracts of the functions that write text into the buffer. What a text is stands in `Text` of the crate verdict; this file only
+-- The contracts of the functions that write terms and literals into the buffer. What their text is stands in `Text` of the crate verdict; this file only
 -- says how the parts of the program fit together. Of it `Sized` stands in the contract of `write_unit`.
 use mathlib.Core.Path.{_≡_}
 use mathlib.Core.Bool.{Bool, false}
-use mathlib.Core.List.{List, [], _∷_, _++_}
-use Prim.Native.Nat.{ℕ, _+_, _-_, _%_, _≤_, _<_}
+use mathlib.Core.List.{List, [], _∷_}
+use Prim.Native.Nat.{ℕ, _+_, _≤_, _<_}
 use lib.Dec.{eqb}
-use lib.ListN.{length, take}
+use lib.ListN.{length}
 use Rattle.record.specs.Record.{pick}
 use Rattle.unification.specs.Environment.{Environment}
 use Rattle.unification.specs.Nodes.{isVariable, nodeArity, HasRow, argumentsFrom, nodeRow}
@@ -14,34 +14,15 @@ use Rattle.unification.specs.Term.{Term, Terms, applyAll, occurrences, allOccur
 use Rattle.unification.specs.ValueArray.{InStep, Models}
 use Rattle.derivation.specs.Written.{WritesOut}
 use Rattle.verdict.specs.Text.{termText, argumentsText, literalText}
-use Rattle.terms.specs.declared.term.Written.{Written}
-use Rattle.terms.specs.declared.term.Written.the-variants.{Done, TooMany}
-
--- The buffer is as it was up to a position, and as long as it was.
-pub record KeptBefore (T T′ : List ℕ) (at : ℕ) : Type 0 where
-  pub room : length T′ ≡ length T
-  pub before : take at T′ ≡ take at T
-
--- The part of a text that fits into the buffer from a position on.
-abbrev pub fittingPart : List ℕ → ℕ → List ℕ → List ℕ
-fittingPart T at text = take (length T - at) text
-
--- As much of the text as fits was written at a position, and `end` is the position after it. Nothing is said of the bytes from `end` on:
--- after a literal that was broken off and became `~` they hold what was written of it.
-pub record Wrote (T T′ : List ℕ) (at end : ℕ) (text : List ℕ) : Type 0 where
-  pub kept : KeptBefore T T′ at
-  pub position : end ≡ at + length (fittingPart T at text)
-  pub bytes : take end T′ ≡ take at T ++ fittingPart T at text
+use Rattle.text.specs.Buffer.{KeptBefore, Wrote}
+use Rattle.terms.specs.declared.Written.{Written}
+use Rattle.terms.specs.declared.Written.the-variants.{Done, TooMany}
 
 -- The node table, the array of values and the buffer have their lengths.
 pub record Sized (N A T : List ℕ) : Type 0 where
   pub nodes : length N ≡ 32768
   pub values : length A ≡ 524416
   pub text : length T ≡ 131072
-
--- The last digit of a number; nothing for 0, which is what is before the first digit of a number.
-abbrev pub digitText : ℕ → List ℕ
-digitText n = pick (eqb n 0) [] ((48 + n % 10) ∷ [])
 
 -- The first argument has a parenthesis before it and every other one a comma. After the last one comes a parenthesis; where the
 -- next argument would still be the first, there is none.

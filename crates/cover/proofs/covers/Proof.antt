@@ -1,12 +1,12 @@
 -- What the check leaves is what comparing asks for.
-use Rattle.cover.proofs.CompareSteps.{covers-answered}
+use Rattle.cover.proofs.Answered.{covers-answered}
 use borrow.Author.Needs.{needs}
 use Rattle.cover.proofs.covers.Statement.{statement}
 use Rattle.cover.proofs.covers.Tie as tie
 use Rattle.cover.proofs.covers.Reads as reads
 use Rattle.cover.proofs.covers.Lts as lts
 use Rattle.checker.proofs.check_with.Reads as check-with-reads
-use Rattle.cover.proofs.compare.compare.Reads as compare-reads
+use Rattle.comparing.proofs.compare.compare.Reads as compare-reads
 
 check-with-requires : tie.Need-check-with-requires
 check-with-requires c κs = search needs

@@ -4,16 +4,16 @@ use Prim.Native.Nat.{ℕ, _-_, _<_}
 use native.Mathlib.Omega.{arith}
 use lib.ListN.{length, length-replicate}
 use lib.Seq.{length-take-le}
-use Rattle.readout.proofs.PieceWriting.{end-inside}
-use Rattle.readout.proofs.UnitWriting.{after-again}
+use Rattle.units.proofs.UnitSizes.{end-inside}
+use Rattle.units.proofs.UnitWriting.{after-again}
 use borrow.Author.Needs.{needs}
 use Rattle.proofread.proofs.print_lines.Statement.{statement}
 use Rattle.proofread.proofs.print_lines.Tie as tie
 use Rattle.proofread.proofs.print_lines.Reads as reads
 use Rattle.proofread.proofs.print_lines.Lts as lts
 use Rattle.proofread.proofs.output.write_all.Reads as write-all-reads
-use Rattle.readout.proofs.unit.unit_count.Reads as unit-count-reads
-use Rattle.readout.proofs.unit.write_unit.Reads as write-unit-reads
+use Rattle.units.proofs.unit_count.Reads as unit-count-reads
+use Rattle.units.proofs.write_unit.Reads as write-unit-reads
 
 abbrev Inv-loop : tie.InvT-loop
 Inv-loop clauses bindings nodes origins values₀ a text₀ count n₀ values text n =

@@ -4,7 +4,7 @@ use Rattle.proofread.proofs.print_with.Statement.{statement}
 use Rattle.proofread.proofs.print_with.Tie as tie
 use Rattle.proofread.proofs.print_with.Reads as reads
 use Rattle.proofread.proofs.print_with.Lts as lts
-use Rattle.proofread.proofs.check_input.Reads as check-input-reads
+use Rattle.input_check.proofs.check_input.Reads as check-input-reads
 use Rattle.proofread.proofs.print_lines.Reads as print-lines-reads
 
 check-input-requires : tie.Need-check-input-requires

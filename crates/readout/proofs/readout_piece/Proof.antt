@@ -1,12 +1,12 @@
 -- What the check leaves is what a piece asks for.
-use Rattle.readout.proofs.PieceWriting.{piece-written}
+use Rattle.readout.proofs.PieceChecked.{piece-written}
 use borrow.Author.Needs.{needs}
 use Rattle.readout.proofs.readout_piece.Statement.{statement}
 use Rattle.readout.proofs.readout_piece.Tie as tie
 use Rattle.readout.proofs.readout_piece.Reads as reads
 use Rattle.readout.proofs.readout_piece.Lts as lts
 use Rattle.checker.proofs.check_with.Reads as check-with-reads
-use Rattle.readout.proofs.piece.write_piece.Reads as write-piece-reads
+use Rattle.pieces.proofs.write_piece.Reads as write-piece-reads
 
 check-with-requires : tie.Need-check-with-requires
 check-with-requires c κs = search needs

@@ -1,5 +1,5 @@
 use mathlib.Core.Path.{sym, ap}
-use Rattle.cover.specs.Given.{outcomeNumbers}
+use Rattle.comparing.specs.Given.{outcomeNumbers}
 use borrow.Author.Needs.{needs}
 use Rattle.exported.proofs.covering.outcome_numbers.Statement.{statement}
 use Rattle.exported.proofs.covering.outcome_numbers.Tie as tie

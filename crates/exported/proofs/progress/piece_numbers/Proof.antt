@@ -1,6 +1,6 @@
 use mathlib.Core.Path.{sym, ap}
-use Rattle.readout.specs.Units.{restGiven}
-use Rattle.readout.specs.declared.piece.Rest.{Rest}
+use Rattle.pieces.specs.Placed.{restGiven}
+use Rattle.pieces.specs.declared.Rest.{Rest}
 use Rattle.exported.specs.ExportedReadout.{progressNumbers}
 use borrow.Author.Needs.{needs}
 use Rattle.exported.proofs.progress.piece_numbers.Statement.{statement}

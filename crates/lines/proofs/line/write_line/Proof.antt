@@ -10,8 +10,8 @@ use Rattle.clauses.proofs.index_cell.Reads as index-cell-reads
 use Rattle.following.proofs.values.clear.Reads as clear-reads
 use Rattle.lines.proofs.line.write_literals.Reads as write-literals-reads
 use Rattle.loading.proofs.load.Reads as load-reads
-use Rattle.terms.proofs.text.put_byte.Reads as put-byte-reads
-use Rattle.terms.proofs.text.put_decimal.Reads as put-decimal-reads
+use Rattle.text.proofs.put_byte.Reads as put-byte-reads
+use Rattle.text.proofs.put_decimal.Reads as put-decimal-reads
 
 index-cell-requires : tie.Need-index-cell-requires
 index-cell-requires c κs = search needs

@@ -4,7 +4,7 @@ use Rattle.lines.proofs.line.write_listed.Statement.{statement}
 use Rattle.lines.proofs.line.write_listed.Tie as tie
 use Rattle.lines.proofs.line.write_listed.Reads as reads
 use Rattle.lines.proofs.line.write_listed.Lts as lts
-use Rattle.terms.proofs.literal.write_literal.Reads as write-literal-reads
+use Rattle.literal_text.proofs.write_literal.Reads as write-literal-reads
 
 mul-code : tie.Need-mul-code
 mul-code c = search needs

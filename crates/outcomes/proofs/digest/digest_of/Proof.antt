@@ -4,7 +4,7 @@ use Prim.Native.Nat.{ℕ, _-_, _*_, _≤_}
 use native.Mathlib.Omega.{arith}
 use lib.ListN.{length, length-replicate}
 use lib.Seq.{length-take-le}
-use Rattle.readout.proofs.UnitWriting.{after-again}
+use Rattle.units.proofs.UnitWriting.{after-again}
 use Rattle.outcomes.proofs.DigestLaws.{TakenAfter, after-none, after-more, after-all, short, onwards, never-short, last-piece}
 use borrow.Author.Needs.{needs}
 use Rattle.outcomes.proofs.digest.digest_of.Statement.{statement}
@@ -12,7 +12,7 @@ use Rattle.outcomes.proofs.digest.digest_of.Tie as tie
 use Rattle.outcomes.proofs.digest.digest_of.Reads as reads
 use Rattle.outcomes.proofs.digest.digest_of.Lts as lts
 use Rattle.hash.proofs.with_bytes.Reads as with-bytes-reads
-use Rattle.readout.proofs.piece.write_piece.Reads as write-piece-reads
+use Rattle.pieces.proofs.write_piece.Reads as write-piece-reads
 
 abbrev Inv-loop : tie.InvT-loop
 Inv-loop clauses bindings nodes origins values₀ a output₀ total₀ hash₀ clause₀ values output total hash clause =

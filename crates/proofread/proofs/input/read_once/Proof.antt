@@ -4,8 +4,9 @@ use lib.ListN.{length}
 use mir.Syntax.{w64}
 use mir.ValLaws.{toZ-ofZ}
 use borrow.Author.Needs.{needs}
-use Rattle.proofread.specs.Input.{readOf, Room}
-use Rattle.proofread.specs.declared.input.Read.{Read}
+use Rattle.read_answer.specs.Reading.{readOf}
+use Rattle.proofread.specs.Input.{Room}
+use Rattle.read_answer.specs.declared.Read.{Read}
 use Rattle.proofread.proofs.Answers.{room}
 use Rattle.proofread.proofs.input.read_once.Statement.{statement}
 use Rattle.proofread.proofs.input.read_once.Tie as tie

@@ -1,0 +1,9 @@
+pub mod Taking
+pub mod Solutions
+pub mod Earliest
+pub mod PairLaws
+pub mod Choices
+pub mod Truth
+pub mod StateTerms
+pub mod OneAnswer
+pub mod Settling

@@ -1,0 +1,2 @@
+pub mod PieceRuns
+pub mod PieceWriting

@@ -1,0 +1,88 @@
+// A piece of the readout: as many whole units as fit into an output.
+use answer::Answer;
+use following::nodes::Nodes;
+use following::nodes::Origins;
+use following::values::ValueCells;
+use text::TextBuffer;
+use units::unit_count;
+use units::write_unit;
+ghost use mathlib.Core.Path.{_≡_};
+ghost use Prim.Native.Nat.{_+_, _≤_};
+ghost use lib.ListN.{length};
+ghost use lib.Seq.{paste};
+ghost use Rattle.units.specs.Units.{AfterCheck};
+ghost use Rattle.pieces.specs.Placed.{PieceOf, restGiven, stoppedAt};
+
+// What comes after a piece: nothing, all is written; the clause that the next piece begins with; or there was no room for the line of
+// this clause, with which the piece was to begin.
+pub enum Rest {
+    Complete,
+    GoOn(u16),
+    TooShort(u16),
+}
+
+// How many bytes were written, and what comes after them.
+pub struct Piece {
+    pub written: usize,
+    pub rest: Rest,
+}
+
+// The first n bytes of the text go to the output, from a position on.
+fn copy_text(text: &TextBuffer, output: &mut [u8], at: usize, n: usize)
+    requires { ⌜ length (now text) ≡ 131072 ⌝ }
+    requires { ⌜ (n ≤ 131072) × (at + n ≤ length (now output)) ⌝ }
+    ensures { λ _. ⌜ now (output .exit) ≡ paste (now (output .entry)) at (now (text .entry)) n ⌝ }
+{
+    let mut i: usize = 0;
+    while i < n {
+        output[at + i] = text[i];
+        i += 1;
+    }
+}
+
+// Where a piece that began with a clause stopped before clause n.
+fn stopped(begin: u16, n: u16) -> Rest
+    ensures { λ r. ⌜ restGiven r ≡ stoppedAt begin n ⌝ }
+{
+    if n == begin {
+        Rest::TooShort(begin)
+    } else {
+        Rest::GoOn(n)
+    }
+}
+
+// Writes the piece that begins with a clause. A line that does not fit any more is not begun.
+pub fn write_piece(
+    clauses: &[u16],
+    bindings: &[u16],
+    nodes: &Nodes,
+    origins: &Origins,
+    values: &mut ValueCells,
+    a: Answer,
+    begin: u16,
+    output: &mut [u8],
+) -> Piece
+    requires { ⌜ AfterCheck (now clauses) (now bindings) (now nodes) (now origins) (now values) a ⌝ }
+    ensures { λ p. ⌜ PieceOf (now (clauses .entry)) (now (bindings .entry)) (now (nodes .entry)) (now (origins .entry)) (now (values .entry)) (now (values .exit)) a begin (now (output .entry)) (now (output .exit)) p ⌝ }
+{
+    let mut text = [0u8; 131072];
+    let count = unit_count(a.clauses);
+    let mut n = begin;
+    let mut written: usize = 0;
+    while n < count {
+        let end = write_unit(clauses, bindings, nodes, origins, values, &mut text, a, n);
+        if output.len() - written < end {
+            return Piece {
+                written,
+                rest: stopped(begin, n),
+            };
+        }
+        copy_text(&text, output, written, end);
+        written += end;
+        n += 1;
+    }
+    Piece {
+        written,
+        rest: Rest::Complete,
+    }
+}

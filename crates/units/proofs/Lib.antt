@@ -1,0 +1,4 @@
+pub mod PieceLaws
+pub mod UnitLaws
+pub mod UnitWriting
+pub mod UnitSizes
