@@ -9,7 +9,7 @@ ghost use mathlib.Core.Path.{_≡_};
 ghost use Prim.Native.Nat.{_≤_, _<_};
 ghost use lib.ListN.{length};
 ghost use Rattle.derivation.specs.Stored.{originCode};
-ghost use Rattle.collecting.specs.Literals.{Placed, Moved, Deleted, RightsDeleted, Collectable, Collected};
+ghost use Rattle.collecting.specs.Literals.{Placed, Moved, Deleted, RightsDeletable, RightsDeleted, Collectable, Collected};
 
 // The cells of literal n.
 fn place(list: &mut [u16; 33024], n: usize, code: u16, index: u16)
@@ -65,10 +65,7 @@ fn delete_rights(
     end: usize,
     c: u16,
 ) -> usize
-    requires { ⌜ length (now origins) ≡ 32768 ⌝ }
-    requires { ⌜ length (now list) ≡ 33024 ⌝ }
-    requires { ⌜ base ≤ end ⌝ }
-    requires { ⌜ end < 16512 ⌝ }
+    requires { ⌜ RightsDeletable (now origins) (now list) base end c ⌝ }
     ensures { λ r. ⌜ RightsDeleted (now (origins .entry)) (now (list .entry)) (now (list .exit)) base end c r ⌝ }
 {
     if origin_code(origins, c) == 3 {
