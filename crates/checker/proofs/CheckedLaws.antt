@@ -15,7 +15,7 @@ use Rattle.derivation.specs.Stored.{originTableOf}
 use Rattle.entry.specs.Progress.{nodeTableOf}
 use Rattle.inference.proofs.KeptClauses.{nodes-room, origins-room}
 use Rattle.verdict.specs.Tables.{Tables, lengthsOf, tablesAfter}
-use Rattle.verdict.specs.Verdict.{check, answerNumbers, longEnough, fittingLength}
+use Rattle.verdict.specs.Verdict.{check, answerNumbers, longEnough, fittingLength, Reading, untouched, readTo, reading}
 use Rattle.verdict.specs.Verdict as verdicts
 use Rattle.verdict.proofs.OutlinesShown.{outlines-shown}
 use Rattle.verdict.proofs.RepeatsShown.{repeats-shown}
@@ -71,13 +71,18 @@ module _ (day : ℕ) (F : List ℕ) (t : Tables) (a : Answer) (b : Bool) (isFitt
         let l : longEnough (lengthsOf t) ≡ true = sym isLong ∙ not-false d q in
         checked day F t a here (R .numbers ∙ sym (ap answerNumbers (check-reads day F t fits l))) (R .tables ∙ sym (tables-read F t fits l))
 
+-- Whether records were read.
+abbrev isRead : Reading → Bool
+isRead (untouched reason) = false
+isRead (readTo e) = true
+
 -- The same with a lent workspace, in each of the three ways.
 module _ (day : ℕ) (F : List ℕ) (t : Tables) (w : Workspace) (a : Answer) (b : Bool) (isFitting : b ≡ fittingLength (length F))
     (nodes : length (w .nodes) ≡ 32768) (origins : length (w .origins) ≡ 32768) (values : length (w .values) ≡ 524416) where
   pub checked-length-with : not b ≡ true → answerGiven a ≡ untouchedNumbers 1 → CheckedWith day F t w a t w
   checked-length-with q p =
       let f : fittingLength (length F) ≡ false = sym isFitting ∙ not-true b q in
-      record { checked = checked-length day F t a b isFitting q p; nodes = rw f refl; origins = rw f refl; nodeRoom = nodes; originRoom = origins; values = values; read = λ g l. absurd (true-not-false g f) }
+      record { checked = checked-length day F t a b isFitting q p; nodes = rw f refl; origins = rw f refl; nodeRoom = nodes; originRoom = origins; values = values; valuesLeft = λ reason m. refl; read = λ g l. absurd (true-not-false g f) }
 
   module _ (fit : not b ≡ false) (d : Bool) (isLong : d ≡ longEnough (lengthsOf t)) where
     isFit : fittingLength (length F) ≡ true
@@ -86,11 +91,12 @@ module _ (day : ℕ) (F : List ℕ) (t : Tables) (w : Workspace) (a : Answer) (b
     pub checked-tables-with : not d ≡ true → answerGiven a ≡ untouchedNumbers 2 → CheckedWith day F t w a t w
     checked-tables-with q p =
         let s : longEnough (lengthsOf t) ≡ false = sym isLong ∙ not-true d q in
-        record { checked = checked-tables day F t a b isFitting fit d isLong q p; nodes = rw (isFit, s) refl; origins = rw (isFit, s) refl; nodeRoom = nodes; originRoom = origins; values = values; read = λ f l. absurd (true-not-false l s) }
+        record { checked = checked-tables day F t a b isFitting fit d isLong q p; nodes = rw (isFit, s) refl; origins = rw (isFit, s) refl; nodeRoom = nodes; originRoom = origins; values = values; valuesLeft = λ reason m. refl; read = λ f l. absurd (true-not-false l s) }
 
     pub checked-read-with : not d ≡ false → (here : Tables) (N O A : List ℕ) → FileReadWith day F t a here N O A → CheckedWith day F t w a here (workspaceWith N O A)
     checked-read-with q here N O A R =
         let s : longEnough (lengthsOf t) ≡ true = sym isLong ∙ not-false d q in
+        let was-read : isRead (reading F (lengthsOf t)) ≡ true = rw (isFit, s) refl in
         record {
           checked = checked-read day F t a b isFitting fit d isLong q here (R .file);
           nodes = rw (isFit, s) (R .left .kept .nodes);
@@ -98,6 +104,7 @@ module _ (day : ℕ) (F : List ℕ) (t : Tables) (w : Workspace) (a : Answer) (b
           nodeRoom = nodes-room (R .left .kept) (R .left .few);
           originRoom = origins-room (R .left .kept) (R .left .few);
           values = R .left .kept .values;
+          valuesLeft = λ reason m. absurd (true-not-false was-read (ap isRead m));
           read = λ f l. R .left;
         }
 

@@ -10,6 +10,7 @@ use Rattle.verdict.specs.Days.{DaysOnlyChoose}
 use Rattle.verdict.specs.Demands.{Demand1, Demand2, Demand3}
 use Rattle.verdict.specs.Lifting.{NothingLost}
 use Rattle.verdict.specs.Outlines.{OutlinesBeforeUnification}
+use Rattle.verdict.specs.Refusal.{Reason}
 use Rattle.verdict.specs.Repeats.{RepeatedRows}
 use Rattle.verdict.specs.Several.{SeveralLiterals}
 use Rattle.verdict.specs.Total.{BindingsHeld}
@@ -64,7 +65,7 @@ originsGiven (untouched reason) O = O
 originsGiven (readTo e) O = originTableOf (derivations (stateOf e))
 
 -- The same promise with a workspace that the caller lends. Where records were read, the node table and the table of origins then have the
--- rows and the clauses of the state left; for reasons 1 and 2 they are untouched. What the array holds is left to the program.
+-- rows and the clauses of the state left, and what the array holds is left to the program; for reasons 1 and 2 all three are untouched.
 pub record CheckedWith (day : ℕ) (file : List ℕ) (before : Tables) (lent : Workspace) (a : Answer) (after : Tables) (left : Workspace) : Type 0 where
   pub checked : Checked day file before a after
   pub nodes : left .nodes ≡ nodesGiven (reading file (lengthsOf before)) (lent .nodes)
@@ -72,5 +73,6 @@ pub record CheckedWith (day : ℕ) (file : List ℕ) (before : Tables) (lent : W
   pub nodeRoom : length (left .nodes) ≡ 32768
   pub originRoom : length (left .origins) ≡ 32768
   pub values : length (left .values) ≡ 524416
+  pub valuesLeft : (reason : Reason) → reading file (lengthsOf before) ≡ untouched reason → left .values ≡ lent .values
   -- Where records were read, what the program keeps of them: the readout goes on from there.
   pub read : fittingLength (length file) ≡ true → longEnough (lengthsOf before) ≡ true → ReadTo file before (stateOf (ending file)) after (left .nodes) (left .origins) (left .values)

@@ -15,7 +15,7 @@ use Rattle.clauses.specs.Named.{leftOver, passed, NamesRights, raiseNamed}
 use Rattle.derivation.specs.Stored.{originCode, originNumbers, rightCells, literalsCell, indexCell, Stored, storedInput, storedResolve, storedFactor}
 use Rattle.clauses.proofs.Numbers.{length-without, numbered-without, passed-in, numbered-left, numbered-right, numbered-raised, raise-named-twice, input-few, input-numbered}
 use Rattle.clauses.proofs.Origins.{stored-cells}
-use Rattle.collecting.specs.Literals.{literalWith, listed, Holds, Placed, Deleted, RightsDeleted, Collectable, Collected}
+use Rattle.collecting.specs.Literals.{literalWith, listed, Holds, Placed, Deleted, RightsDeletable, RightsDeleted, Collectable, Collected}
 
 -- The first n numbers of an input clause's origin are in the list.
 pub record FieldsPlaced (L L′ O : List ℕ) (c base o n : ℕ) : Type 0 where
@@ -259,11 +259,17 @@ module _ {O C : List ℕ} {base c o : ℕ} (K : Collectable O C base c o) where
                 )
 
         module _ {L₃ : List ℕ} {final : ℕ} (J : Collected O C L₂ L₃ kept q (o + m) final) where
-          pub second-room : (kept ≤ final) × (final < 16512)
-          second-room =
+          pub to-rights : RightsDeletable O L₃ kept final c
+          to-rights =
               let x = to-second in
               let e = J .last (x .1 .bindings) (x .1 .derivation) (x .1 .stored) in
-              (omega (arith, e), omega (arith, e, x .1 .few))
+              let names = named (K .derivation) (K .stored) in
+              record { originRoom = K .originRoom; room = J .room; inside = omega (arith, e); few = omega (arith, e, x .1 .few); numbers = names .0; names = names .1 }
+            where
+              named : (d : Derivation) → Stored O C (K .bindings) c d → (ns : List ℕ) × NamesRights O c ns
+              named d (storedInput k e s) = absurd (no₁ (isKind ∙ k))
+              named d (storedFactor k l t qa qb s) = absurd (no₂ (isKind ∙ k))
+              named d (storedResolve {ns = ns} k low high la sa qa lb sb qb s) = (ns, record { code = k; some = low; few = high; cells = qb })
 
           pub from-both : {end : ℕ} {L₄ : List ℕ} → RightsDeleted O L₃ L₄ kept final c end → Collected O C L L₄ base c o end
           from-both {end} {L₄} E =

@@ -41,6 +41,16 @@ pub record Deleted (L L′ : List ℕ) (base end a r : ℕ) : Type 0 where
   pub last : (count : ℕ) → end ≡ base + count → r ≡ base + leftOver count a
   pub left : (count : ℕ) → end ≡ base + count → (n : ℕ) → 1 ≤ n → n ≤ leftOver count a → listed L′ (base + n) ≡ listed L (base + passed n a)
 
+-- What taking out the right literals that clause c's step names asks: whole arrays, literals after number `base` as far as number `end`, and that the
+-- step names some.
+pub record RightsDeletable (O L : List ℕ) (base end c : ℕ) : Type 0 where
+  pub originRoom : length O ≡ 32768
+  pub room : length L ≡ 33024
+  pub inside : base ≤ end
+  pub few : end < 16512
+  pub numbers : List ℕ
+  pub names : NamesRights O c numbers
+
 -- Of the literals after number `base`, as far as number `end`, those are left that the resolve c does not name on its right, whichever
 -- literals they are; the last one has number r.
 pub record RightsDeleted (O L L′ : List ℕ) (base end c r : ℕ) : Type 0 where

@@ -9,7 +9,7 @@ ghost use mathlib.Core.Path.{_≡_};
 ghost use Prim.Native.Nat.{_≤_, _<_};
 ghost use lib.ListN.{length};
 ghost use Rattle.derivation.specs.Stored.{originCode};
-ghost use Rattle.collecting.specs.Literals.{Placed, Moved, Deleted, RightsDeleted, Collectable, Collected};
+ghost use Rattle.collecting.specs.Literals.{Placed, Moved, Deleted, RightsDeletable, RightsDeleted, Collectable, Collected};
 
 // The list that the literals of a clause are collected in, two cells for each: a clause has at most 128 of them, and while it is put
 // together there are four more at each step that it has at most, the right literals that the step names.
@@ -69,10 +69,7 @@ fn delete_rights(
     end: usize,
     c: u16,
 ) -> usize
-    requires { ⌜ length (now origins) ≡ 32768 ⌝ }
-    requires { ⌜ length (now list) ≡ 33024 ⌝ }
-    requires { ⌜ base ≤ end ⌝ }
-    requires { ⌜ end < 16512 ⌝ }
+    requires { ⌜ RightsDeletable (now origins) (now list) base end c ⌝ }
     ensures { λ r. ⌜ RightsDeleted (now (origins .entry)) (now (list .entry)) (now (list .exit)) base end c r ⌝ }
 {
     if origin_code(origins, c) == 3 {

@@ -64,6 +64,7 @@ left-alone-with day file before w answer l = record {
   nodes = λ m. absurd (omega arith);
   origins = λ m. absurd (omega arith);
   values = λ m. absurd (omega arith);
+  valuesLeft = λ m reason q. absurd (omega arith);
 }
 
 pub answered-with : (day : ℕ) (file : List ℕ) (before : Tables) (w : Workspace) (answer : List ℕ) (a : Answer) (after : Tables) (left : Workspace) (answer′ : List ℕ) → 7 ≤ length answer → CheckedWith day file before w a after left → answer′ ≡ answerGiven a ++ drop 7 answer
@@ -74,4 +75,5 @@ answered-with day file before w answer a after left answer′ l X q = record {
   nodes = λ _. X .nodes;
   origins = λ _. X .origins;
   values = λ _. X .values;
+  valuesLeft = λ _. X .valuesLeft;
 }

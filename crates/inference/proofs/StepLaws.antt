@@ -241,21 +241,21 @@ module _ {F : List ℕ} {k : ℕ} {n : Counts} {C B N O A : List ℕ} (E : Befor
         let o = w .0 .1 in
         (h, record { row = there (e .0) (w .0 .0); low = omega arith; high = omega arith }, all-in raised top g h es (w .1))
 
-    pub resolve-facing : (raised top : ℕ) → raised ≡ indexCell C a → top ≡ raised + indexCell C d → (A₁ A₂ A₃ : List ℕ) → Cleared A A₁ (128 * (top + 1)) → Loaded O C B N A₁ A₂ a 0 → Loaded O C B N A₂ A₃ d raised
-        → Facing N top A₃ (n .bindings) (joined (maximumIndex (x .clause)) (lookup (x .clause)) (lookup (y .clause))) (pairsFrom (b, c) raised L′ 0 many)
-    resolve-facing raised top pr pt A₁ A₂ A₃ K U W =
+    pub resolve-facing : (raised top at : ℕ) → at ≤ raised → raised ≡ indexCell C a → top ≡ raised + indexCell C d → (A₁ A₂ A₃ : List ℕ) → Cleared A A₁ (128 * (top + 1)) → Loaded O C B N A₁ A₂ a 0 → Loaded O C B N A₂ A₃ d raised
+        → Facing N top A₃ (n .bindings) (joined (maximumIndex (x .clause)) (lookup (x .clause)) (lookup (y .clause))) (pairsFrom (b, c) at L′ 0 many)
+    resolve-facing raised top at low pr pt A₁ A₂ A₃ K U W =
         let pl : raised ≡ maximumIndex l = pr ∙ index-of a l (x .isClause) in
         let pq : top ≡ maximumIndex l + maximumIndex r = pt ∙ ap₂ _+_ pl (index-of d r (y .isClause)) in
         let kx = atom-known a b c x in
         let xr = x .isRow in
         let xi = x .isIndex in
         let xin = kx .1 in
-        facing ρ top A₃ (pairsFrom (b, c) raised L′ 0 many)
+        facing ρ top A₃ (pairsFrom (b, c) at L′ 0 many)
         (resolve-models nodes-fine (stored-of a l (x .isClause)) (bindings-in a l (x .isClause)) (stored-of d r (y .isClause)) (bindings-in d r (y .isClause)) pl (sym pq) (omega arith) (cleared-free N A A₁ top nodes-fine K) U W
         (λ g h. short-le-node g h))
         both-known both-chains
-        (subst (λ (es : List Expression). EachInStep N top (map (λ e. ((b, c), (e .0, raised + e .1))) es)) (sym listed-atoms)
-        (all-in raised top (omega arith) (record { row = there b (rw (← xr) (kx .0)); low = omega arith; high = omega arith }) (atoms (y .named)) (rights-known d ns L′ y)))
+        (subst (λ (es : List Expression). EachInStep N top (map (λ e. ((b, c), (e .0, at + e .1))) es)) (sym listed-atoms)
+        (all-in at top (omega arith) (record { row = there b (rw (← xr) (kx .0)); low = omega arith; high = omega arith }) (atoms (y .named)) (rights-known d ns L′ y)))
       where
         short-le-node : (g : Expression) → HasRow N (g .0) → Ends (follow (nodeRow N) mostLinks (joined (maximumIndex (x .clause)) (lookup (x .clause)) (lookup (y .clause))) g)
         short-le-node g h = node-ends mostLinks ρ both-known (short-le (λ r. r < L) (rowOf S) (S .total) mostLinks ρ (held-links 4096 S ok-of) both-chains) g h
@@ -353,15 +353,16 @@ module _ {k : ℕ} {n : Counts} {C B N O A : List ℕ} {x : Atom} {right : ℕ} 
   pub resolve-load-right : (R : Resolving k n C B N O A x right L many) (raised : ℕ) → raised ≡ indexCell C (x .clause) → (A₂ : List ℕ) → length A₂ ≡ 524416 → Loadable O C B N A₂ right raised
   resolve-load-right R raised p A₂ l = load-ready (R .step) right raised (R .rights .clause) (R .rights .isClause) (omega (arith, p ∙ index-of (R .step) (x .clause) (R .left .clause) (R .left .isClause), R .fits)) A₂ l
 
-  resolve-faces : (R : Resolving k n C B N O A x right L many) (raised other : ℕ) → raised ≡ indexCell C (x .clause) → other ≡ indexCell C right → (A₁ A₂ A₃ : List ℕ) → Cleared A A₁ (128 * ((raised + other) + 1)) → Loaded O C B N A₁ A₂ (x .clause) 0 → Loaded O C B N A₂ A₃ right raised
-      → Facing N (raised + other) A₃ (n .bindings) (joined (maximumIndex (R .left .clause)) (lookup (R .left .clause)) (lookup (R .rights .clause))) (pairsFrom (x .row, x .index) raised L 0 many)
-  resolve-faces R raised other p q A₁ A₂ A₃ K U M =
-      resolve-facing (R .step) (x .clause) (x .row) (x .index) (R .left) right (R .numbers) L (R .rights) many (R .count) (R .fits) raised (raised + other) p (ap (λ (z : ℕ). raised + z) q) A₁ A₂ A₃ K U M
+  -- The right literals may be listed at any offset up to the left maximum index; that it is this one matters to the outcome alone.
+  resolve-faces : (R : Resolving k n C B N O A x right L many) (raised other at : ℕ) → at ≤ raised → raised ≡ indexCell C (x .clause) → other ≡ indexCell C right → (A₁ A₂ A₃ : List ℕ) → Cleared A A₁ (128 * ((raised + other) + 1)) → Loaded O C B N A₁ A₂ (x .clause) 0 → Loaded O C B N A₂ A₃ right raised
+      → Facing N (raised + other) A₃ (n .bindings) (joined (maximumIndex (R .left .clause)) (lookup (R .left .clause)) (lookup (R .rights .clause))) (pairsFrom (x .row, x .index) at L 0 many)
+  resolve-faces R raised other at low p q A₁ A₂ A₃ K U M =
+      resolve-facing (R .step) (x .clause) (x .row) (x .index) (R .left) right (R .numbers) L (R .rights) many (R .count) (R .fits) raised (raised + other) at low p (ap (λ (z : ℕ). raised + z) q) A₁ A₂ A₃ K U M
 
-  pub resolve-ready : (R : Resolving k n C B N O A x right L many) (raised other : ℕ) → raised ≡ indexCell C (x .clause) → other ≡ indexCell C right → (A₁ A₂ A₃ : List ℕ) → Cleared A A₁ (128 * ((raised + other) + 1)) → Loaded O C B N A₁ A₂ (x .clause) 0 → Loaded O C B N A₂ A₃ right raised
-      → ReadyForEach N A₃ B (n .bindings) (x .row, x .index) L many raised
-  resolve-ready R raised other p q A₁ A₂ A₃ K U M = record {
-    ready = ready (R .step) (joined (maximumIndex (R .left .clause)) (lookup (R .left .clause)) (lookup (R .rights .clause))) (raised + other) A₃ (pairsFrom (x .row, x .index) raised L 0 many) (resolve-faces R raised other p q A₁ A₂ A₃ K U M);
+  pub resolve-ready : (R : Resolving k n C B N O A x right L many) (raised other at : ℕ) → at ≤ raised → raised ≡ indexCell C (x .clause) → other ≡ indexCell C right → (A₁ A₂ A₃ : List ℕ) → Cleared A A₁ (128 * ((raised + other) + 1)) → Loaded O C B N A₁ A₂ (x .clause) 0 → Loaded O C B N A₂ A₃ right raised
+      → ReadyForEach N A₃ B (n .bindings) (x .row, x .index) L many at
+  resolve-ready R raised other at low p q A₁ A₂ A₃ K U M = record {
+    ready = ready (R .step) (joined (maximumIndex (R .left .clause)) (lookup (R .left .clause)) (lookup (R .rights .clause))) (raised + other) A₃ (pairsFrom (x .row, x .index) at L 0 many) (resolve-faces R raised other at low p q A₁ A₂ A₃ K U M);
     cells = R .room;
     listed = R .few;
   }
@@ -370,7 +371,7 @@ module _ {k : ℕ} {n : Counts} {C B N O A : List ℕ} {x : Atom} {right : ℕ} 
       → Answered N A₃ A₄ B B′ (n .bindings) (pairsFrom (x .row, x .index) raised L 0 many) u
       → ((R : Resolving k n C B N O A x right L many) → unifyResolve (R .step .state) (atomNamed (R .left)) (rightsNamed (R .rights)) ≡ outcomeOf B′ (n .bindings) u) × UnifiedTables B B′ A₄ (n .bindings) u
   resolve-unified raised other p q A₁ A₂ A₃ A₄ B′ u K U M W = (
-    λ R. resolve-outcome (R .step) (x .clause) (x .row) (x .index) (R .left) right (R .numbers) L (R .rights) many (R .count) (R .fits) raised p (outcomeOf B′ (n .bindings) u) (W .outcome (raised + other) (joined (maximumIndex (R .left .clause)) (lookup (R .left .clause)) (lookup (R .rights .clause))) (resolve-faces R raised other p q A₁ A₂ A₃ K U M)),
+    λ R. resolve-outcome (R .step) (x .clause) (x .row) (x .index) (R .left) right (R .numbers) L (R .rights) many (R .count) (R .fits) raised p (outcomeOf B′ (n .bindings) u) (W .outcome (raised + other) (joined (maximumIndex (R .left .clause)) (lookup (R .left .clause)) (lookup (R .rights .clause))) (resolve-faces R raised other raised (omega arith) p q A₁ A₂ A₃ K U M)),
     unified-tables N A₃ A₄ B B′ (n .bindings) (pairsFrom (x .row, x .index) raised L 0 many) u W,
   )
 

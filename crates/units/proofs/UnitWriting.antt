@@ -14,6 +14,7 @@ use Rattle.verdict.specs.Step.{stateOf}
 use Rattle.verdict.specs.Tables.{lengthsOf}
 use Rattle.verdict.specs.Verdict.{check, longEnough, fittingLength, ending}
 use Rattle.entry.specs.Progress.{ReadTo, tablesWith}
+use Rattle.checker.specs.Contract.{workspaceWith}
 use Rattle.answer.specs.declared.Answer.{Answer}
 use Rattle.lines.specs.Lines.{LineReady, LineWritten}
 use Rattle.heading.specs.Heading.{VerdictWritten}
@@ -72,13 +73,13 @@ module _ {C B N O A : List ℕ} {a : Answer} (R : AfterCheck C B N O A a) where
   there : (n : ℕ) → n < a .clauses → ClauseThere (stateLeft (R .file) (lengthsOf (R .before))) n
   there n l = clause-there (stateLeft (R .file) (lengthsOf (R .before))) n (omega (arith, count, l))
 
--- Any array in the array's place.
+-- Any array in the array's place, as if it had been lent.
 unfoldable pub after-again : {C B N O A A′ : List ℕ} {a : Answer} → AfterCheck C B N O A a → length A′ ≡ 524416 → AfterCheck C B N O A′ a
 after-again {C} {B} {N} {O} {A} {A′} {a} R v = record {
   day = R .day;
   file = R .file;
   before = R .before;
-  lent = R .lent;
+  lent = workspaceWith (R .lent .nodes) (R .lent .origins) A′;
   symbols = R .symbols;
   rows = R .rows;
   checked = record {
@@ -88,6 +89,7 @@ after-again {C} {B} {N} {O} {A} {A′} {a} R v = record {
     nodeRoom = R .checked .nodeRoom;
     originRoom = R .checked .originRoom;
     values = v;
+    valuesLeft = λ reason m. refl;
     read = λ f l. read-again (R .file) (R .before) (stateOf (ending (R .file))) (tablesWith (R .symbols) (R .rows) C B) N O A A′ (R .checked .read f l) v;
   };
 }

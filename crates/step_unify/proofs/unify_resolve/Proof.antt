@@ -34,7 +34,7 @@ load-requires-2 c κs =
 
 unify-with-each-requires : tie.Need-unify-with-each-requires
 unify-with-each-requires c κs =
-    resolve-ready (c .before .before .before .before .before .before .before .before .before .before .before .before .before .before .pre) _ _ (c .before .before .before .before .before .before .before .before .before .before .before .index-cell .ensures) (c .before .before .before .before .before .before .before .before .before .before .index-cell2 .ensures) _ _ _ (c .before .before .before .before .before .before .before .before .clear .ensures .0) (c .before .before .before .before .before .load .ensures) (c .before .before .load2 .ensures)
+    resolve-ready (c .before .before .before .before .before .before .before .before .before .before .before .before .before .before .pre) (c .before .before .before .before .before .before .before .before .before .before .before .index-cell .result) _ (c .before .before .before .before .before .before .before .before .before .before .before .index-cell .result) (omega arith) (c .before .before .before .before .before .before .before .before .before .before .before .index-cell .ensures) (c .before .before .before .before .before .before .before .before .before .before .index-cell2 .ensures) _ _ _ (c .before .before .before .before .before .before .before .before .clear .ensures .0) (c .before .before .before .before .before .load .ensures) (c .before .before .load2 .ensures)
 
 same-length : tie.Need-same-length
 same-length c = search needs

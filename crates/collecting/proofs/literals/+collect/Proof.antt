@@ -1,7 +1,7 @@
 -- A parent has a smaller number, so the measure is the clause's number. Each way out is one law of `CollectedLiterals`.
 use mathlib.Core.Path.{sym, _∙_}
 use native.Mathlib.Omega.{arith}
-use Rattle.collecting.proofs.CollectedLiterals.{to-first, first-room, from-first, to-second, second-room, from-both}
+use Rattle.collecting.proofs.CollectedLiterals.{to-first, first-room, from-first, to-second, to-rights, from-both}
 use borrow.Author.Needs.{needs}
 use Prim.Native.Nat.{ℕ, _<_}
 use borrow.Fn.Kinds.{In}
@@ -90,8 +90,7 @@ collect-collect-requires-2 t c κs =
 
 collect-delete-rights-requires : (t : ℕ) → collect-lts.Need-delete-rights-requires (collect-told t) (collect-at t) collect.Post
 collect-delete-rights-requires t c κs =
-    let d = second-room (c .before .before .before .before .before .before .before .before .before .before .before .before .before .before .before .pre .1 .1) (c .before .before .before .before .before .before .before .before .before .before .before .before .before .origin-code .ensures) (c .before .before .before .before .before .before .before .before .before .before .before .before .if1 .left) (c .before .before .before .before .before .before .before .before .before .before .before .part-of .ensures) (c .before .before .before .before .before .before .before .before .before .before .part-of2 .ensures) (c .before .before .before .before .before .before .before .before .collect .ensures) (c .before .before .before .before .before .before .before .if2 .left) (c .before .before .before .before .before .part-of3 .ensures) (c .before .before .before .before .delete2 .ensures) (c .before .before .before .index-cell .ensures) (c .before .collect2 .ensures) in
-    (c .before .before .before .before .before .before .before .before .before .before .before .before .before .before .before .pre .1 .1 .originRoom, (c .before .collect2 .ensures .room, (d .0, d .1)))
+    to-rights (c .before .before .before .before .before .before .before .before .before .before .before .before .before .before .before .pre .1 .1) (c .before .before .before .before .before .before .before .before .before .before .before .before .before .origin-code .ensures) (c .before .before .before .before .before .before .before .before .before .before .before .before .if1 .left) (c .before .before .before .before .before .before .before .before .before .before .before .part-of .ensures) (c .before .before .before .before .before .before .before .before .before .before .part-of2 .ensures) (c .before .before .before .before .before .before .before .before .collect .ensures) (c .before .before .before .before .before .before .before .if2 .left) (c .before .before .before .before .before .part-of3 .ensures) (c .before .before .before .before .delete2 .ensures) (c .before .before .before .index-cell .ensures) (c .before .collect2 .ensures)
 
 collect-returns-3 : (t : ℕ) → collect-lts.Need-returns-3 (collect-told t) (collect-at t) collect.Post
 collect-returns-3 t c =

@@ -13,15 +13,15 @@ use Rattle.collecting.proofs.literals.delete.Reads as delete-reads
 
 origin-code-requires : tie.Need-origin-code-requires
 origin-code-requires c κs =
-    c .pre .0
+    c .pre .originRoom
 
 part-of-requires : tie.Need-part-of-requires
 part-of-requires c κs =
-    c .before .before .before .pre .0
+    c .before .before .before .pre .originRoom
 
 delete-requires : tie.Need-delete-requires
 delete-requires c κs =
-    (c .before .before .before .before .pre .1 .0, (c .before .before .before .before .pre .1 .1 .0, c .before .before .before .before .pre .1 .1 .1))
+    (c .before .before .before .before .pre .room, (c .before .before .before .before .pre .inside, c .before .before .before .before .pre .few))
 
 returns : tie.Need-returns
 returns c =
@@ -29,38 +29,38 @@ returns c =
 
 part-of-requires-2 : tie.Need-part-of-requires-2
 part-of-requires-2 c κs =
-    c .before .before .before .pre .0
+    c .before .before .before .pre .originRoom
 
 delete-requires-2 : tie.Need-delete-requires-2
 delete-requires-2 c κs =
-    (c .before .before .before .before .pre .1 .0, (c .before .before .before .before .pre .1 .1 .0, c .before .before .before .before .pre .1 .1 .1))
+    (c .before .before .before .before .pre .room, (c .before .before .before .before .pre .inside, c .before .before .before .before .pre .few))
 
 part-of-requires-3 : tie.Need-part-of-requires-3
 part-of-requires-3 c κs =
-    c .before .before .before .before .before .before .pre .0
+    c .before .before .before .before .before .before .pre .originRoom
 
 delete-requires-3 : tie.Need-delete-requires-3
 delete-requires-3 c κs =
-    let d = deleted-room (c .before .before .before .before .before .before .before .pre .1 .1 .0) (c .before .before .before .before .before .before .before .pre .1 .1 .1) (c .before .before .delete2 .ensures) in
+    let d = deleted-room (c .before .before .before .before .before .before .before .pre .inside) (c .before .before .before .before .before .before .before .pre .few) (c .before .before .delete2 .ensures) in
     (c .before .before .delete2 .ensures .room, (d .0, d .1))
 
 part-of-requires-4 : tie.Need-part-of-requires-4
 part-of-requires-4 c κs =
-    c .before .before .before .before .before .before .before .before .before .pre .0
+    c .before .before .before .before .before .before .before .before .before .pre .originRoom
 
 delete-requires-4 : tie.Need-delete-requires-4
 delete-requires-4 c κs =
-    let d = deleted-room (c .before .before .before .before .before .before .before .before .before .before .pre .1 .1 .0) (c .before .before .before .before .before .before .before .before .before .before .pre .1 .1 .1) (c .before .before .before .before .before .delete2 .ensures) in
+    let d = deleted-room (c .before .before .before .before .before .before .before .before .before .before .pre .inside) (c .before .before .before .before .before .before .before .before .before .before .pre .few) (c .before .before .before .before .before .delete2 .ensures) in
     let e = deleted-room (d .0) (d .1) (c .before .before .delete3 .ensures) in
     (c .before .before .delete3 .ensures .room, (e .0, e .1))
 
 part-of-requires-5 : tie.Need-part-of-requires-5
 part-of-requires-5 c κs =
-    c .before .before .before .before .before .before .before .before .before .before .before .before .pre .0
+    c .before .before .before .before .before .before .before .before .before .before .before .before .pre .originRoom
 
 delete-requires-5 : tie.Need-delete-requires-5
 delete-requires-5 c κs =
-    let d = deleted-room (c .before .before .before .before .before .before .before .before .before .before .before .before .before .pre .1 .1 .0) (c .before .before .before .before .before .before .before .before .before .before .before .before .before .pre .1 .1 .1) (c .before .before .before .before .before .before .before .before .delete2 .ensures) in
+    let d = deleted-room (c .before .before .before .before .before .before .before .before .before .before .before .before .before .pre .inside) (c .before .before .before .before .before .before .before .before .before .before .before .before .before .pre .few) (c .before .before .before .before .before .before .before .before .delete2 .ensures) in
     let e = deleted-room (d .0) (d .1) (c .before .before .before .before .before .delete3 .ensures) in
     let f = deleted-room (e .0) (e .1) (c .before .before .delete4 .ensures) in
     (c .before .before .delete4 .ensures .room, (f .0, f .1))
