@@ -4,8 +4,8 @@ use Prim.Native.Nat.{ℕ, _≤_}
 use Rattle.io.specs.Counts.{Counts}
 use Rattle.read_answer.specs.declared.Read.{Read}
 use Rattle.read_answer.specs.declared.Read.the-variants.{Bytes, End, Failed}
-use Rattle.proofread.specs.declared.input.Input.{Input}
-use Rattle.proofread.specs.declared.input.Input.the-variants.{Whole, Broken}
+use Rattle.read_answer.specs.declared.Input.{Input}
+use Rattle.read_answer.specs.declared.Input.the-variants.{Whole, Broken}
 
 -- Bytes that came are at least one, and no more than there was room for.
 abbrev pub Room : Read → ℕ → Type 0

@@ -1,14 +1,11 @@
 // The input, read to its end. A part of a file is no file: where a read fails there is no input, and so no verdict.
+use read_answer::Input;
 use read_answer::Read;
+use read_answer::Turn;
 use read_answer::read_of;
+use read_answer::taken;
 ghost use lib.ListN.{length};
 ghost use Rattle.proofread.specs.Input.{Room, Inside};
-
-// How many bytes an input has that was read to its end or filled its space; or that a read of it failed.
-pub enum Input {
-    Whole(usize),
-    Broken,
-}
 
 // Reads once, into the start of `space`.
 fn read_once(fd: i32, space: &mut [u8]) -> Read
@@ -23,10 +20,9 @@ pub fn read_input(fd: i32, space: &mut [u8]) -> Input
 {
     let mut done = 0;
     while done < space.len() {
-        match read_once(fd, &mut space[done..]) {
-            Read::Bytes(n) => done += n,
-            Read::End => return Input::Whole(done),
-            Read::Failed => return Input::Broken,
+        match taken(done, read_once(fd, &mut space[done..])) {
+            Turn::More(n) => done += n,
+            Turn::Ended(input) => return input,
         }
     }
     Input::Whole(done)
