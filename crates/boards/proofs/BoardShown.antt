@@ -28,9 +28,9 @@ use Rattle.verdict.proofs.RangeTests.{at-most}
 use Rattle.verdict.proofs.Standing.{inputs-of}
 use Rattle.verdict.proofs.TableCells.{sizeOf, read-size}
 use Rattle.boards.specs.Board.{Presence, allPresent, changed, standsWith, answerAfresh, Call, afterCalls}
-use Rattle.boards.specs.Cells.{boardOf, lowestAnswer, answered}
+use Rattle.boards.specs.Cells.{boardOf, callAnswer}
 use Rattle.boards.specs.Promised.{UsesPresent, UsesClause, BoardPromised}
-use Rattle.boards.proofs.Calls.{all-uses, unused-same, changed-other, present-all, all-present, cell-same, answer-afresh, boards-called, refused-20, refused-21, not-refused, goes-through, answer-by, same-inputs}
+use Rattle.boards.proofs.Calls.{all-uses, unused-same, changed-other, present-all, all-present, cell-same, boards-called, call-answered, same-inputs}
 use Rattle.boards.proofs.Parents.{Kept, stands-kept}
 
 module _ (day : ℕ) (file : List ℕ) (tables : Tables) (board : List ℕ) (S : State) (st : Stands file S) (tablesLong : ¬ TableShort tables) (long : 4097 ≤ length board) where
@@ -90,12 +90,9 @@ module _ (day : ℕ) (file : List ℕ) (tables : Tables) (board : List ℕ) (S :
         boards-called day S board few long file C H record-cells literal-cells allPresent calls
         ∙ same-inputs day S board few long file C H record-cells literal-cells (afterCalls S allPresent calls) (afterCalls S allPresent others) h uses-inputs
         ∙ sym (boards-called day S board few long file C H record-cells literal-cells allPresent others);
-    noInput = λ P n b i. answer-by day S board few long file C H record-cells literal-cells (boardOf day S P board) n b (some 20) (refused-20 day S board few long file C H record-cells literal-cells P n b i);
-    already = λ P n b i e. answer-by day S board few long file C H record-cells literal-cells (boardOf day S P board) n b (some 21) (refused-21 day S board few long file C H record-cells literal-cells P n b i e);
-    afresh = λ P n b i h.
-        answer-by day S board few long file C H record-cells literal-cells (boardOf day S P board) n b none (not-refused day S board few long file C H record-cells literal-cells P n b i h)
-        ∙ ap (λ (B : List ℕ). answered (lowestAnswer C B 4096 0)) (goes-through day S board few long file C H record-cells literal-cells P n b i)
-        ∙ ap answered (answer-afresh day S board few long file C H record-cells literal-cells (changed P n b));
+    answers = λ calls call.
+        ap (λ (B : List ℕ). callAnswer file C B (call .clause) (call .present)) (boards-called day S board few long file C H record-cells literal-cells allPresent calls)
+        ∙ call-answered day S board few long file C H record-cells literal-cells (afterCalls S allPresent calls) call;
     otherClauses = λ P n b m c q h.
         let same = all-uses (λ (u : Use). changed P n b (u .0) ≡ P (u .0)) (uses c) (λ u o. changed-other P n b (u .0) (λ e. h (u, o, e))) in
         (unused-same (changed P n b) P (uses c) same, cell-same day S board few long file C H record-cells literal-cells (changed P n b) P m c q same);

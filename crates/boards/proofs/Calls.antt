@@ -27,8 +27,8 @@ use Rattle.verdict.proofs.InForceShown.{uses-in-force, of-uses-in-force}
 use Rattle.verdict.proofs.Inversions.{entry-below, entry-some, entry-none, not-below}
 use Rattle.verdict.proofs.RangeTests.{not-true, equal, unequal}
 use Rattle.verdict.proofs.Sources.{SourceOf, earlier, source-of, number-of}
-use Rattle.boards.specs.Board.{Presence, allPresent, changed, allStand, standsWith, answerAfresh, Call, afterCall, afterCalls}
-use Rattle.boards.specs.Cells.{cellWith, isClauseCell, forceCell, standsCell, clauseCell, boardOf, recordOfClause, passed, answers, lowestAnswer, isInputCell, Answer, answered, refusedWith, withCell, same, refusal, boardAfter, callAnswer}
+use Rattle.boards.specs.Board.{Presence, allPresent, changed, allStand, standsWith, answerAfresh, answered, refusedWith, Call, afterCall, afterCalls, same, answerToCall}
+use Rattle.boards.specs.Cells.{cellWith, isClauseCell, forceCell, standsCell, clauseCell, boardOf, recordOfClause, passed, answers, lowestAnswer, isInputCell, withCell, refusal, boardAfter, callAnswer}
 use Rattle.boards.specs.Promised.{UsesPresent, UsesClause, boardAfterCalls, BoardPromised}
 use Rattle.boards.proofs.Parents.{Recorded, Kept, with-record}
 use Rattle.boards.proofs.Passing.{force-of, stands-of, clause-of, board-cell, past-cell, no-cell, board-length, recorded, older, pass-right}
@@ -307,9 +307,23 @@ module _ (day : ℕ) (S : State) (board : List ℕ) (few : length (derivations S
   boards-called P [] = refl
   boards-called P (call ∷ calls) = ap (λ (B : List ℕ). boardAfterCalls F C B calls) (board-called P call) ∙ boards-called (afterCall S P call) calls
 
-  pub answer-by : (B : List ℕ) (n : ℕ) (b : Bool) (o : Option ℕ) → refusal F C B n b ≡ o → callAnswer F C B n b ≡ elim o [ some number ↦ refusedWith number | none ↦ answered (lowestAnswer C (withCell F C B n b) 4096 0) ]
+  pub answer-by : (B : List ℕ) (n : ℕ) (b : Bool) (o : Option ℕ) → refusal F C B n b ≡ o → callAnswer F C B n b ≡ elim o [ some number ↦ refusedWith number 0 | none ↦ answered (lowestAnswer C (withCell F C B n b) 4096 0) ]
   unfolding callAnswer
-  answer-by B n b o e = ap (λ (x : Option ℕ). elim x [ some number ↦ refusedWith number | none ↦ answered (lowestAnswer C (withCell F C B n b) 4096 0) ]) e
+  answer-by B n b o e = ap (λ (x : Option ℕ). elim x [ some number ↦ refusedWith number 0 | none ↦ answered (lowestAnswer C (withCell F C B n b) 4096 0) ]) e
+
+  -- The answer to one call is the one worked out afresh.
+  pub call-answered : (P : Presence) (call : Call) → callAnswer F C (boardOf day S P board) (call .clause) (call .present) ≡ answerToCall day S P call
+  call-answered P call = try (isInput (clauseOf S (call .clause))) refl (same (P (call .clause)) (call .present)) refl
+    where
+      try : (x : Bool) → isInput (clauseOf S (call .clause)) ≡ x → (y : Bool) → same (P (call .clause)) (call .present) ≡ y
+          → callAnswer F C (boardOf day S P board) (call .clause) (call .present)
+          ≡ pick x (pick y (refusedWith 21 0) (answered (answerAfresh day S (changed P (call .clause) (call .present))))) (refusedWith 20 0)
+      try false i y s = answer-by (boardOf day S P board) (call .clause) (call .present) (some 20) (refused-20 P (call .clause) (call .present) i)
+      try true i true s = answer-by (boardOf day S P board) (call .clause) (call .present) (some 21) (by-condition P (call .clause) (call .present) i ∙ ap (λ (x : Bool). pick x (some 21) none) s)
+      try true i false s =
+          answer-by (boardOf day S P board) (call .clause) (call .present) none (by-condition P (call .clause) (call .present) i ∙ ap (λ (x : Bool). pick x (some 21) none) s)
+          ∙ ap (λ (B : List ℕ). answered (lowestAnswer C B 4096 0)) (goes-through P (call .clause) (call .present) i)
+          ∙ ap answered (answer-afresh (changed P (call .clause) (call .present)))
 
   -- Every use of a clause is an input clause, so that boards go by the presence of these alone.
   pub same-inputs : (P Q : Presence) → ((n : ℕ) → isInput (clauseOf S n) ≡ true → P n ≡ Q n) → ((m : ℕ) (c : Derivation) → clauseOf S m ≡ some c → Each (λ (u : Use). isInput (clauseOf S (u .0)) ≡ true) (uses c)) → boardOf day S P board ≡ boardOf day S Q board

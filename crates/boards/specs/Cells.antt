@@ -10,7 +10,7 @@ use Rattle.record.specs.Record.{pick, recordPart, kindOf, fieldOf}
 use Rattle.derivation.specs.Derivation.{Derivation}
 use Rattle.verdict.specs.Force.{usesInForce}
 use Rattle.verdict.specs.State.{State, derivations}
-use Rattle.boards.specs.Board.{Presence, standsWith}
+use Rattle.boards.specs.Board.{Presence, standsWith, Answer, answered, refusedWith, same}
 
 -- ── The cell of a clause ──
 
@@ -74,26 +74,10 @@ lowestAnswer C B (suc k) n = elim (answers C B n) [ true ↦ some n | false ↦ 
 abbrev pub isInputCell : List ℕ → List ℕ → List ℕ → ℕ → Bool
 isInputCell F C B n = ltb n 4096 && (isClauseCell (getD B n 0) && eqb (kindOf (recordOfClause F C n)) 4)
 
--- The answer to a call: a clause or none; or refused with a number, at record 0.
-pub data Answer : Type 0 where
-  answered : Option ℕ → Answer
-  refusedWith : ℕ → Answer
-
--- Its three numbers: 0 none, 1 a clause, 2 refused; the clause or the reason; the record, which is 0.
-abbrev pub answerNumbers : Answer → List ℕ
-answerNumbers (answered none) = 0 ∷ 0 ∷ 0 ∷ []
-answerNumbers (answered (some n)) = 1 ∷ n ∷ 0 ∷ []
-answerNumbers (refusedWith number) = 2 ∷ number ∷ 0 ∷ []
-
 -- The board after clause n is withdrawn or returned, and the answer: 2 for a board that is too short, 20 for no input clause of that number, 21 where it is in
 -- that condition already; and else its own cell changes, and those of the clauses after it.
 abbrev pub withCell : List ℕ → List ℕ → List ℕ → ℕ → Bool → List ℕ
 withCell F C B n present = passed F C (4095 - n) (suc n) (set B n (cellWith (forceCell (getD B n 0)) present))
-
-abbrev pub same : Bool → Bool → Bool
-same true b = b
-same false true = false
-same false false = true
 
 abbrev pub refusal : List ℕ → List ℕ → List ℕ → ℕ → Bool → Option ℕ
 refusal F C B n present =
@@ -104,4 +88,4 @@ unfoldable pub boardAfter : List ℕ → List ℕ → List ℕ → ℕ → Bool 
 boardAfter F C B n present = elim (refusal F C B n present) [ some number ↦ B | none ↦ withCell F C B n present ]
 
 unfoldable pub callAnswer : List ℕ → List ℕ → List ℕ → ℕ → Bool → Answer
-callAnswer F C B n present = elim (refusal F C B n present) [ some number ↦ refusedWith number | none ↦ answered (lowestAnswer C (withCell F C B n present) 4096 0) ]
+callAnswer F C B n present = elim (refusal F C B n present) [ some number ↦ refusedWith number 0 | none ↦ answered (lowestAnswer C (withCell F C B n present) 4096 0) ]

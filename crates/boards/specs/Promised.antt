@@ -11,8 +11,8 @@ use Rattle.verdict.specs.Demands.{UsesInForce, Refutation}
 use Rattle.verdict.specs.Refusal.{isInput}
 use Rattle.verdict.specs.State.{State, clauseOf}
 use Rattle.verdict.specs.Tables.{Tables, tablesAfter}
-use Rattle.boards.specs.Board.{Presence, allPresent, changed, standsWith, answerAfresh, Call, afterCalls}
-use Rattle.boards.specs.Cells.{boardOf, answered, refusedWith, boardAfter, callAnswer}
+use Rattle.boards.specs.Board.{Presence, allPresent, changed, standsWith, answerAfresh, Call, afterCalls, answerToCall}
+use Rattle.boards.specs.Cells.{boardOf, boardAfter, callAnswer}
 
 -- All input clauses that a derivation uses are present.
 abbrev pub UsesPresent : Presence → Derivation → Type 0
@@ -34,12 +34,10 @@ pub record BoardPromised (day : ℕ) (file : List ℕ) (tables : Tables) (board 
   -- so that calls in any order that come to the same present clauses come to the same board.
   pub sameBoard : (calls others : List Call) → ((n : ℕ) → isInput (clauseOf S n) ≡ true → afterCalls S allPresent calls n ≡ afterCalls S allPresent others n)
       → boardAfterCalls file (tablesAfter file tables .clauses) (boardOf day S allPresent board) calls ≡ boardAfterCalls file (tablesAfter file tables .clauses) (boardOf day S allPresent board) others
-  -- A call is refused with 20 if there is no input clause of that number, with 21 if it is in that condition already;
-  pub noInput : (P : Presence) (n : ℕ) (present : Bool) → isInput (clauseOf S n) ≡ false → callAnswer file (tablesAfter file tables .clauses) (boardOf day S P board) n present ≡ refusedWith 20
-  pub already : (P : Presence) (n : ℕ) (present : Bool) → isInput (clauseOf S n) ≡ true → P n ≡ present → callAnswer file (tablesAfter file tables .clauses) (boardOf day S P board) n present ≡ refusedWith 21
-  -- and else its answer is the one worked out afresh from the clauses then present.
-  pub afresh : (P : Presence) (n : ℕ) (present : Bool) → isInput (clauseOf S n) ≡ true → ¬ (P n ≡ present)
-      → callAnswer file (tablesAfter file tables .clauses) (boardOf day S P board) n present ≡ answered (answerAfresh day S (changed P n present))
+  -- Each answer is the one worked out afresh from the clauses present before the call.
+  pub answers : (calls : List Call) (call : Call)
+      → callAnswer file (tablesAfter file tables .clauses) (boardAfterCalls file (tablesAfter file tables .clauses) (boardOf day S allPresent board) calls) (call .clause) (call .present)
+      ≡ answerToCall day S (afterCalls S allPresent calls) call
   -- A call about one clause alters no clause that does not use it: neither its standing nor its cell.
   pub otherClauses : (P : Presence) (n : ℕ) (present : Bool) (m : ℕ) (c : Derivation) → clauseOf S m ≡ some c → ¬ UsesClause c n
       → (standsWith (changed P n present) c ≡ standsWith P c) × (getD (boardOf day S (changed P n present) board) m 0 ≡ getD (boardOf day S P board) m 0)

@@ -1,0 +1,3 @@
+pub mod CellSteps
+pub mod PassSteps
+pub mod AnswerSteps

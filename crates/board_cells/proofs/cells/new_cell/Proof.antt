@@ -1,0 +1,87 @@
+use Rattle.board_cells.proofs.CellSteps.{own-cell, factor-cell, resolve-cell}
+use borrow.Author.Needs.{needs}
+use Rattle.board_cells.proofs.cells.new_cell.Statement.{statement}
+use Rattle.board_cells.proofs.cells.new_cell.Tie as tie
+use Rattle.board_cells.proofs.cells.new_cell.Reads as reads
+use Rattle.board_cells.proofs.cells.new_cell.Lts as lts
+use Rattle.board_cells.proofs.cells.from_parents.Reads as from-parents-reads
+use Rattle.record.proofs.field.Reads as field-reads
+use Rattle.record.proofs.kind.Reads as kind-reads
+use Rattle.record.proofs.record_part.Reads as record-part-reads
+use Rattle.tables.proofs.cell.Reads as cell-reads
+
+mul-cell : tie.Need-mul-cell
+mul-cell c = search needs
+
+cell-requires : tie.Need-cell-requires
+cell-requires c κs = search needs
+
+cast-record-part : tie.Need-cast-record-part
+cast-record-part c = search needs
+
+record-part-requires : tie.Need-record-part-requires
+record-part-requires c κs = search needs
+
+kind-requires : tie.Need-kind-requires
+kind-requires c κs = search needs
+
+cell-requires-2 : tie.Need-cell-requires-2
+cell-requires-2 c κs = search needs
+
+returns : tie.Need-returns
+returns c =
+    own-cell (c .before .before .before .before .before .before .before .before .args .file .now) (c .before .before .before .before .before .before .before .before .args .clauses .now) (c .before .before .before .before .before .before .before .before .args .board .now) (c .before .before .before .before .before .before .before .before .args .n) (c .before .before .before .before .cell .ensures) (c .before .before .before .record-part .ensures) (c .before .before .kind .ensures) (c .before .if1 .taken) (c .cell2 .ensures)
+
+field-requires : tie.Need-field-requires
+field-requires c κs = search needs
+
+cast-cell : tie.Need-cast-cell
+cast-cell c = search needs
+
+cell-requires-3 : tie.Need-cell-requires-3
+cell-requires-3 c κs = search needs
+
+from-parents-requires : tie.Need-from-parents-requires
+from-parents-requires c κs = search needs
+
+returns-2 : tie.Need-returns-2
+returns-2 c =
+    factor-cell (c .before .before .before .before .before .before .before .before .before .before .before .args .file .now) (c .before .before .before .before .before .before .before .before .before .before .before .args .clauses .now) (c .before .before .before .before .before .before .before .before .before .before .before .args .board .now) (c .before .before .before .before .before .before .before .before .before .before .before .args .n) (c .before .before .before .before .before .before .before .cell .ensures) (c .before .before .before .before .before .before .record-part .ensures) (c .before .before .before .before .before .kind .ensures) (c .before .if2 .taken) (c .before .before .before .field .ensures) (c .before .before .cell3 .ensures) (c .from-parents .ensures)
+
+field-requires-2 : tie.Need-field-requires-2
+field-requires-2 c κs = search needs
+
+cast-cell-2 : tie.Need-cast-cell-2
+cast-cell-2 c = search needs
+
+cell-requires-4 : tie.Need-cell-requires-4
+cell-requires-4 c κs = search needs
+
+from-parents-requires-2 : tie.Need-from-parents-requires-2
+from-parents-requires-2 c κs = search needs
+
+returns-3 : tie.Need-returns-3
+returns-3 c =
+    resolve-cell (c .before .before .before .before .before .before .before .before .before .before .before .before .before .args .file .now) (c .before .before .before .before .before .before .before .before .before .before .before .before .before .args .clauses .now) (c .before .before .before .before .before .before .before .before .before .before .before .before .before .args .board .now) (c .before .before .before .before .before .before .before .before .before .before .before .before .before .args .n) (c .before .before .before .before .before .before .before .before .before .cell .ensures) (c .before .before .before .before .before .before .before .before .record-part .ensures) (c .before .before .before .before .before .before .before .kind .ensures) (c .before .before .before .before .before .before .if1 .left) (c .before .before .before .if2 .left) (c .before .before .before .before .before .field .ensures) (c .before .before .before .before .cell3 .ensures) (c .before .before .field2 .ensures) (c .before .cell4 .ensures) (c .from-parents2 .ensures)
+
+pub new-cell-spec : {M : Type 1} → statement M
+new-cell-spec =
+    tie.close
+    (tie.spec
+    mul-cell
+    cell-requires
+    cast-record-part
+    record-part-requires
+    kind-requires
+    cell-requires-2
+    returns
+    field-requires
+    cast-cell
+    cell-requires-3
+    from-parents-requires
+    returns-2
+    field-requires-2
+    cast-cell-2
+    cell-requires-4
+    from-parents-requires-2
+    returns-3)
