@@ -3,7 +3,7 @@ use mathlib.Core.Path.{_≡_, refl, sym, ap, _∙_}
 use mathlib.Core.Bool.{Bool, true, false, _&&_}
 use mathlib.Core.Option.{Option, none, some}
 use mathlib.Core.List.{List}
-use Prim.Native.Nat.{ℕ, suc, _+_, _-_, _*_, _≤_, _<_}
+use Prim.Native.Nat.{ℕ, suc, _+_, _-_, _*_, _%_, _≤_, _<_}
 use native.Mathlib.Numerals.{add-one}
 use native.Mathlib.Omega.{arith}
 use lib.Dec.{eqb}
@@ -15,11 +15,14 @@ use Rattle.board_cells.specs.Given.{boardGiven}
 use Rattle.board_cells.specs.declared.lowest.BoardAnswer.the-variants as answer
 
 module _ (C B : List ℕ) (n : ℕ) {x : ℕ} (isCell : x ≡ getD B n 0) where
-  pub literals-decide : x ≡ 7 → {y : ℕ} → y ≡ getD C (5 * n + 1) 0 → eqb y 0 ≡ answers C B n
-  literals-decide z e = sym (ap (λ (b : Bool). b && eqb (getD C (5 * n + 1) 0) 0) (eq-eqb (getD B n 0) 7 (sym isCell ∙ z)) ∙ ap (λ (i : ℕ). eqb i 0) (sym e))
+  rest : x % 8 ≡ getD B n 0 % 8
+  rest = ap (λ (i : ℕ). i % 8) isCell
 
-  pub no-answer : ¬ (x ≡ 7) → false ≡ answers C B n
-  no-answer h = sym (ap (λ (b : Bool). b && eqb (getD C (5 * n + 1) 0) 0) (ne-eqb (getD B n 0) 7 (λ q. h (isCell ∙ q))))
+  pub literals-decide : x % 8 ≡ 7 → {y : ℕ} → y ≡ getD C (5 * n + 1) 0 → eqb y 0 ≡ answers C B n
+  literals-decide z e = sym (ap (λ (b : Bool). b && eqb (getD C (5 * n + 1) 0) 0) (eq-eqb (getD B n 0 % 8) 7 (sym rest ∙ z)) ∙ ap (λ (i : ℕ). eqb i 0) (sym e))
+
+  pub no-answer : ¬ (x % 8 ≡ 7) → false ≡ answers C B n
+  no-answer h = sym (ap (λ (b : Bool). b && eqb (getD C (5 * n + 1) 0) 0) (ne-eqb (getD B n 0 % 8) 7 (λ q. h (rest ∙ q))))
 
 module _ (C B : List ℕ) (most : ℕ) where
   abbrev onward : ℕ → ℕ → Bool → Option ℕ

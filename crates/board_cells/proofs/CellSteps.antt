@@ -6,11 +6,12 @@ use Prim.Native.Nat.{ℕ, _*_}
 use lib.ListN.{getD}
 use borrow.Author.Tests.{ne-eqb}
 use Rattle.record.specs.Record.{recordPart, kindOf, fieldOf}
-use Rattle.boards.specs.Cells.{cellWith, forceCell, standsCell, fromParents, cellByKind, newCell}
+use Rattle.boards.specs.Cells.{cellWith, childCell, forceCell, standsCell, fromParents, cellByKind, newCell}
 
 -- A cell of both parents' parts.
-pub of-parts : (x y : ℕ) {f g s t force stands : Bool} → f ≡ forceCell x → g ≡ forceCell y → force ≡ (f && g) → s ≡ standsCell x → t ≡ standsCell y → stands ≡ (s && t) → (r : ℕ) → r ≡ cellWith force stands → r ≡ fromParents x y
-of-parts x y a b p c d q r e = e ∙ ap₂ cellWith (p ∙ ap₂ _&&_ a b) (q ∙ ap₂ _&&_ c d)
+pub of-parts : (x left right : ℕ) {f g s t force stands : Bool} → f ≡ forceCell left → g ≡ forceCell right → force ≡ (f && g) → s ≡ standsCell left → t ≡ standsCell right → stands ≡ (s && t)
+    → {r : ℕ} → r ≡ cellWith (childCell x) force stands → r ≡ fromParents x left right
+of-parts x left right a b p c d q e = e ∙ ap₂ (cellWith (childCell x)) (p ∙ ap₂ _&&_ a b) (q ∙ ap₂ _&&_ c d)
 
 module _ (F C B : List ℕ) (n : ℕ) {k : ℕ} (isNumber : k ≡ getD C (5 * n) 0) {part : List ℕ} (isPart : part ≡ recordPart F k) {x : ℕ} (isKind : x ≡ kindOf part) where
   by-record : newCell F C B n ≡ cellByKind part B n
@@ -23,17 +24,17 @@ module _ (F C B : List ℕ) (n : ℕ) {k : ℕ} (isNumber : k ≡ getD C (5 * n)
       own : kindOf part ≡ 4 → cellByKind part B n ≡ getD B n 0
       own q = rw q refl
 
-  pub factor-cell : x ≡ 6 → {a left : ℕ} → a ≡ fieldOf part 0 → left ≡ getD B a 0 → {r : ℕ} → r ≡ fromParents left left → r ≡ newCell F C B n
-  factor-cell z {a} {left} f l e = e ∙ ap (λ (y : ℕ). fromParents y y) (l ∙ ap (λ (i : ℕ). getD B i 0) f) ∙ sym (by-record ∙ one (sym isKind ∙ z))
+  pub factor-cell : x ≡ 6 → {own a left : ℕ} → own ≡ getD B n 0 → a ≡ fieldOf part 0 → left ≡ getD B a 0 → {r : ℕ} → r ≡ fromParents own left left → r ≡ newCell F C B n
+  factor-cell z {own} {a} {left} o f l e = e ∙ ap₂ (λ (x y : ℕ). fromParents x y y) o (l ∙ ap (λ (i : ℕ). getD B i 0) f) ∙ sym (by-record ∙ one (sym isKind ∙ z))
     where
-      one : kindOf part ≡ 6 → cellByKind part B n ≡ fromParents (getD B (fieldOf part 0) 0) (getD B (fieldOf part 0) 0)
+      one : kindOf part ≡ 6 → cellByKind part B n ≡ fromParents (getD B n 0) (getD B (fieldOf part 0) 0) (getD B (fieldOf part 0) 0)
       one q = rw q refl
 
-  pub resolve-cell : ¬ (x ≡ 4) → ¬ (x ≡ 6) → {a b left right : ℕ} → a ≡ fieldOf part 0 → left ≡ getD B a 0 → b ≡ fieldOf part 2 → right ≡ getD B b 0
-      → {r : ℕ} → r ≡ fromParents left right → r ≡ newCell F C B n
-  resolve-cell h i {a} {b} {left} {right} f l g m e =
-      e ∙ ap₂ fromParents (l ∙ ap (λ (j : ℕ). getD B j 0) f) (m ∙ ap (λ (j : ℕ). getD B j 0) g)
+  pub resolve-cell : ¬ (x ≡ 4) → ¬ (x ≡ 6) → {own a b left right : ℕ} → own ≡ getD B n 0 → a ≡ fieldOf part 0 → left ≡ getD B a 0 → b ≡ fieldOf part 2 → right ≡ getD B b 0
+      → {r : ℕ} → r ≡ fromParents own left right → r ≡ newCell F C B n
+  resolve-cell h i {own} {a} {b} {left} {right} o f l g m e =
+      e ∙ ap (λ (x : ℕ). fromParents x left right) o ∙ ap₂ (fromParents (getD B n 0)) (l ∙ ap (λ (j : ℕ). getD B j 0) f) (m ∙ ap (λ (j : ℕ). getD B j 0) g)
       ∙ sym (by-record ∙ two (λ q. h (isKind ∙ q)) (λ q. i (isKind ∙ q)))
     where
-      two : ¬ (kindOf part ≡ 4) → ¬ (kindOf part ≡ 6) → cellByKind part B n ≡ fromParents (getD B (fieldOf part 0) 0) (getD B (fieldOf part 2) 0)
+      two : ¬ (kindOf part ≡ 4) → ¬ (kindOf part ≡ 6) → cellByKind part B n ≡ fromParents (getD B n 0) (getD B (fieldOf part 0) 0) (getD B (fieldOf part 2) 0)
       two p q = rw (ne-eqb (kindOf part) 4 p, ne-eqb (kindOf part) 6 q) refl

@@ -1,5 +1,5 @@
 -- One clause of the pass: what is left of it does the same as the whole.
-use mathlib.Core.Path.{_≡_, refl, sym, ap, _∙_}
+use mathlib.Core.Path.{_≡_, refl, sym, ap, ap₂, _∙_}
 use mathlib.Core.Bool.{Bool, true, false}
 use mathlib.Core.List.{List}
 use Prim.Native.Nat.{ℕ, zero, suc, _+_, _-_, _≤_, _<_}
@@ -7,25 +7,40 @@ use native.Mathlib.Numerals.{add-one}
 use native.Mathlib.Omega.{arith}
 use lib.Dec.{leb}
 use lib.ListN.{getD, set}
-use borrow.Author.Tests.{le-leb, lt-leb}
-use Rattle.boards.specs.Cells.{isClauseCell, newCell, passed}
+use borrow.Author.Tests.{eq-eqb, ne-eqb, le-leb, lt-leb, lt-ltb, le-ltb}
+use Rattle.record.specs.Record.{pick}
+use Rattle.boards.specs.Cells.{childCell, newCell, larger, lastAfter, passed}
+
+-- The last child of the clauses that have changed.
+pub last-stays : (last before after : ℕ) → before ≡ after → last ≡ lastAfter last before after
+last-stays last before after e = sym (ap (λ (b : Bool). pick b last (larger last (childCell before))) (eq-eqb before after e))
+
+pub last-moves : (last before after : ℕ) {child : ℕ} → ¬ (before ≡ after) → child ≡ childCell before → last < child → child ≡ lastAfter last before after
+last-moves last before after {child} h e l =
+    sym (ap (λ (b : Bool). pick b last (larger last (childCell before))) (ne-eqb before after h)
+    ∙ ap (larger last) (sym e) ∙ ap (λ (b : Bool). pick b child last) (lt-ltb last child l))
+
+pub last-kept : (last before after : ℕ) {child : ℕ} → ¬ (before ≡ after) → child ≡ childCell before → child ≤ last → last ≡ lastAfter last before after
+last-kept last before after {child} h e l =
+    sym (ap (λ (b : Bool). pick b last (larger last (childCell before))) (ne-eqb before after h)
+    ∙ ap (larger last) (sym e) ∙ ap (λ (b : Bool). pick b child last) (le-ltb last child l))
 
 module _ (F C : List ℕ) (most : ℕ) where
-  abbrev onward : ℕ → ℕ → List ℕ → Bool → List ℕ
-  onward k n B b = elim b [ true ↦ passed F C k (suc n) (set B n (newCell F C B n)) | false ↦ B ]
+  abbrev onward : ℕ → ℕ → ℕ → List ℕ → Bool → List ℕ
+  onward k n last B b = elim b [ true ↦ passed F C k (suc n) (lastAfter last (getD B n 0) (newCell F C B n)) (set B n (newCell F C B n)) | false ↦ B ]
 
-  one-more : (n : ℕ) → n < most → (B : List ℕ) → passed F C (most - n) n B ≡ onward (most - suc n) n B (isClauseCell (getD B n 0))
-  one-more n l B = let z : most - n ≡ suc (most - suc n) = omega arith in ap (λ (k : ℕ). passed F C k n B) z
+  one-more : (n last : ℕ) → n < most → (B : List ℕ) → passed F C (most - n) n last B ≡ onward (most - suc n) n last B (leb n last)
+  one-more n last l B = let z : most - n ≡ suc (most - suc n) = omega arith in ap (λ (k : ℕ). passed F C k n last B) z
 
-  pub pass-ends : (B : List ℕ) (n : ℕ) {x : ℕ} → n < most → x ≡ getD B n 0 → x < 4 → passed F C (most - n) n B ≡ B
-  pass-ends B n {x} l e s = one-more n l B ∙ ap (onward (most - suc n) n B) (ap (leb 4) (sym e) ∙ lt-leb 4 x s)
+  pub pass-ends : (B : List ℕ) (n last : ℕ) → n < most → last < n → passed F C (most - n) n last B ≡ B
+  pass-ends B n last l s = one-more n last l B ∙ ap (onward (most - suc n) n last B) (lt-leb n last s)
 
-  pub pass-goes : (B : List ℕ) (n : ℕ) {x y : ℕ} {B' : List ℕ} → n < most → x ≡ getD B n 0 → 4 ≤ x → y ≡ newCell F C B n → B' ≡ set B n y
-      → passed F C (most - n) n B ≡ passed F C (most - (n + 1)) (n + 1) B'
-  pass-goes B n {x} {y} {B'} l e s p q =
-      one-more n l B ∙ ap (onward (most - suc n) n B) (ap (leb 4) (sym e) ∙ le-leb 4 x s)
-      ∙ ap (λ (m : ℕ). passed F C (most - m) m (set B n (newCell F C B n))) (sym (add-one n))
-      ∙ ap (passed F C (most - (n + 1)) (n + 1)) (sym (q ∙ ap (set B n) p))
+  pub pass-goes : (B : List ℕ) (n last : ℕ) {before after last′ : ℕ} {B′ : List ℕ} → n < most → n ≤ last → before ≡ getD B n 0 → after ≡ newCell F C B n → B′ ≡ set B n after → last′ ≡ lastAfter last before after
+      → passed F C (most - n) n last B ≡ passed F C (most - (n + 1)) (n + 1) last′ B′
+  pass-goes B n last {before} {after} {last′} {B′} l s e p q r =
+      one-more n last l B ∙ ap (onward (most - suc n) n last B) (le-leb n last s)
+      ∙ ap (λ (m : ℕ). passed F C (most - m) m (lastAfter last (getD B n 0) (newCell F C B n)) (set B n (newCell F C B n))) (sym (add-one n))
+      ∙ ap₂ (passed F C (most - (n + 1)) (n + 1)) (sym (r ∙ ap₂ (lastAfter last) e p)) (sym (q ∙ ap (set B n) p))
 
-  pub pass-done : (B : List ℕ) (n : ℕ) → most ≤ n → passed F C (most - n) n B ≡ B
-  pass-done B n l = let z : most - n ≡ 0 = omega arith in ap (λ (k : ℕ). passed F C k n B) z
+  pub pass-done : (B : List ℕ) (n last : ℕ) → most ≤ n → passed F C (most - n) n last B ≡ B
+  pass-done B n last l = let z : most - n ≡ 0 = omega arith in ap (λ (k : ℕ). passed F C k n last B) z

@@ -1,19 +1,28 @@
-// The cell of a clause: 4, 2 more if its input clauses are in force, 1 more if it stands.
+// The cell of a clause: 4, 2 more if its input clauses are in force, 1 more if it stands, and eight times its last child.
 use record::field;
 use record::kind;
 use record::record_part;
 use tables::cell;
 ghost use mathlib.Core.Path.{_≡_};
 ghost use mathlib.Core.Bool.{_&&_};
-ghost use Rattle.boards.specs.Cells.{cellWith, forceCell, standsCell, fromParents, newCell};
+ghost use Rattle.boards.specs.Cells.{cellWith, childCell, forceCell, standsCell, fromParents, newCell};
 
-pub fn cell_with(force: bool, stands: bool) -> u16
-    ensures { λ r. ⌜ r ≡ cellWith force stands ⌝ }
+// A cell with the last child of x, for a clause that is in force or not and stands or not.
+pub fn cell_like(x: u16, force: bool, stands: bool) -> u16
+    ensures { λ r. ⌜ r ≡ cellWith (childCell x) force stands ⌝ }
 {
+    let child = 8 * (x / 8);
     if force {
-        return if stands { 7 } else { 6 };
+        return if stands { child + 7 } else { child + 6 };
     }
-    if stands { 5 } else { 4 }
+    if stands { child + 5 } else { child + 4 }
+}
+
+// The last child of a clause, by its cell.
+pub fn child_cell(x: u16) -> u16
+    ensures { λ r. ⌜ r ≡ childCell x ⌝ }
+{
+    x / 8
 }
 
 // Whether all input clauses of a clause are in force, by its cell.
@@ -36,13 +45,13 @@ fn both(a: bool, b: bool) -> bool
     if a { b } else { false }
 }
 
-// The cell of a clause whose parents have these: in force and standing if both are.
-fn from_parents(x: u16, y: u16) -> u16
-    ensures { λ r. ⌜ r ≡ fromParents x y ⌝ }
+// The cell of a clause that has x, and whose parents have these: in force and standing if both are.
+fn from_parents(x: u16, left: u16, right: u16) -> u16
+    ensures { λ r. ⌜ r ≡ fromParents x left right ⌝ }
 {
-    let force = both(force_cell(x), force_cell(y));
-    let stands = both(stands_cell(x), stands_cell(y));
-    cell_with(force, stands)
+    let force = both(force_cell(left), force_cell(right));
+    let stands = both(stands_cell(left), stands_cell(right));
+    cell_like(x, force, stands)
 }
 
 // The cell of clause n, by its record: an input clause's is its own, a factor has one parent and a resolve two.
@@ -50,14 +59,15 @@ pub fn new_cell(file: &[u8], clauses: &[u16], board: &[u16], n: u16) -> u16
     ensures { λ r. ⌜ r ≡ newCell (now (file .entry)) (now (clauses .entry)) (now (board .entry)) n ⌝ }
 {
     let part = record_part(file, cell(clauses, 5 * (n as usize)) as usize);
+    let own = cell(board, n as usize);
     let k = kind(part);
     if k == 4 {
-        return cell(board, n as usize);
+        return own;
     }
     let left = cell(board, field(part, 0) as usize);
     if k == 6 {
-        return from_parents(left, left);
+        return from_parents(own, left, left);
     }
     let right = cell(board, field(part, 2) as usize);
-    from_parents(left, right)
+    from_parents(own, left, right)
 }

@@ -16,7 +16,7 @@ pub enum BoardAnswer {
 fn is_answer(clauses: &[u16], board: &[u16], n: u16) -> bool
     ensures { λ b. ⌜ b ≡ answers (now (clauses .entry)) (now (board .entry)) n ⌝ }
 {
-    if cell(board, n as usize) == 7 {
+    if cell(board, n as usize) % 8 == 7 {
         cell(clauses, 5 * (n as usize) + 1) == 0
     } else {
         false

@@ -1,23 +1,38 @@
 // One pass over the clauses, from parents to children.
+use super::cells::child_cell;
 use super::cells::new_cell;
 use tables::cell;
 use tables::set_cell;
 ghost use mathlib.Core.Path.{_≡_};
 ghost use Prim.Native.Nat.{_-_, _≤_};
-ghost use Rattle.boards.specs.Cells.{passed};
+ghost use Rattle.boards.specs.Cells.{lastAfter, passed};
 
-// Each clause from `from` on gets its cell from those of its parents, up to the first number that has no clause.
-pub fn pass(file: &[u8], clauses: &[u16], board: &mut [u16], from: u16)
+// The last child of the clauses that have changed, after one whose cell was `before` and now is `after`.
+fn last_after(last: u16, before: u16, after: u16) -> u16
+    ensures { λ r. ⌜ r ≡ lastAfter last before after ⌝ }
+{
+    if before == after {
+        return last;
+    }
+    let child = child_cell(before);
+    if last < child { child } else { last }
+}
+
+// Each clause from `from` on gets its cell from those of its parents, up to the last child of those that have changed: `child` at first.
+pub fn pass(file: &[u8], clauses: &[u16], board: &mut [u16], from: u16, child: u16)
     requires { ⌜ from ≤ 4096 ⌝ }
-    ensures { λ _. ⌜ now (board .exit) ≡ passed (now (file .entry)) (now (clauses .entry)) (4096 - from) from (now (board .entry)) ⌝ }
+    ensures { λ _. ⌜ now (board .exit) ≡ passed (now (file .entry)) (now (clauses .entry)) (4096 - from) from child (now (board .entry)) ⌝ }
 {
     let mut n = from;
+    let mut last = child;
     while n < 4096 {
-        if cell(board, n as usize) < 4 {
+        if last < n {
             return;
         }
-        let x = new_cell(file, clauses, board, n);
-        set_cell(board, n as usize, x);
+        let before = cell(board, n as usize);
+        let after = new_cell(file, clauses, board, n);
+        set_cell(board, n as usize, after);
+        last = last_after(last, before, after);
         n += 1;
     }
 }

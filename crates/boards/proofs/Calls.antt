@@ -4,12 +4,12 @@ use mathlib.Core.Logic.{_⊎_, inl, inr}
 use mathlib.Core.Bool.{Bool, true, false, _&&_}
 use mathlib.Core.Option.{Option, none, some}
 use mathlib.Core.List.{List, [], _∷_, _++_}
-use Prim.Native.Nat.{ℕ, zero, suc, _+_, _-_, _*_, _≤_, _<_}
+use Prim.Native.Nat.{ℕ, zero, suc, _+_, _-_, _*_, _%_, _≤_, _<_}
 use native.Mathlib.Omega.{arith}
 use lib.Dec.{eqb, leb, ltb, eqb-refl, ltb→lt, lt→ltb}
 use lib.ListN.{length, getD, set, length-set, length-map}
 use lib.Seq.{getD-set-same, getD-set-other, ext-getD}
-use borrow.Author.Tests.{lt-ltb, le-ltb}
+use borrow.Author.Tests.{eq-eqb, ne-eqb, lt-ltb, le-ltb}
 use Rattle.record.specs.Record.{pick, kindOf}
 use Rattle.unification.proofs.Lists.{Each, each-append, each-more}
 use Rattle.unification.proofs.Tests.{to-T, from-T, both-true, true-not-false, some-not-none, some-injective}
@@ -28,10 +28,10 @@ use Rattle.verdict.proofs.Inversions.{entry-below, entry-some, entry-none, not-
 use Rattle.verdict.proofs.RangeTests.{not-true, equal, unequal}
 use Rattle.verdict.proofs.Sources.{SourceOf, earlier, source-of, number-of}
 use Rattle.boards.specs.Board.{Presence, allPresent, changed, allStand, standsWith, answerAfresh, answered, refusedWith, Call, afterCall, afterCalls, same, answerToCall}
-use Rattle.boards.specs.Cells.{cellWith, isClauseCell, forceCell, standsCell, clauseCell, boardOf, recordOfClause, passed, answers, lowestAnswer, isInputCell, withCell, refusal, boardAfter, callAnswer}
+use Rattle.boards.specs.Cells.{lastChild, cellWith, childCell, isClauseCell, forceCell, standsCell, clauseCell, boardOf, recordOfClause, passed, answers, lowestAnswer, isInputCell, withCell, refusal, boardAfter, callAnswer}
 use Rattle.boards.specs.Promised.{UsesPresent, UsesClause, boardAfterCalls, BoardPromised}
 use Rattle.boards.proofs.Parents.{Recorded, Kept, with-record}
-use Rattle.boards.proofs.Passing.{force-of, stands-of, clause-of, board-cell, past-cell, no-cell, board-length, recorded, older, pass-right}
+use Rattle.boards.proofs.Passing.{force-of, stands-of, child-of, clause-of, child-below, board-cell, past-cell, no-cell, board-length, recorded, older, cell-child, pass-right}
 
 -- ── Presence ──
 pub changed-other : (P : Presence) (n : ℕ) (b : Bool) (m : ℕ) → ¬ (m ≡ n) → changed P n b m ≡ P m
@@ -74,11 +74,11 @@ module _ (C B : List ℕ) where
   answer-none zero m h = refl
   answer-none (suc k) m h = ap (λ (x : Bool). elim x [ true ↦ some m | false ↦ lowestAnswer C B k (suc m) ]) (h m (omega arith) (omega arith)) ∙ answer-none k (suc m) (λ i a b. h i (omega arith) (omega arith))
 
-seven-cell : (f s : Bool) → eqb (cellWith f s) 7 ≡ (f && s)
-seven-cell true true = refl
-seven-cell true false = refl
-seven-cell false true = refl
-seven-cell false false = refl
+seven-cell : (r : ℕ) (f s : Bool) → eqb (cellWith r f s % 8) 7 ≡ (f && s)
+seven-cell r true true = eq-eqb ((8 * r + 7) % 8) 7 (omega arith)
+seven-cell r true false = ne-eqb ((8 * r + 6) % 8) 7 (λ q. omega arith)
+seven-cell r false true = ne-eqb ((8 * r + 5) % 8) 7 (λ q. omega arith)
+seven-cell r false false = ne-eqb ((8 * r + 4) % 8) 7 (λ q. omega arith)
 
 empty-cell : (ls : List Literal) → eqb (length ls) 0 ≡ isEmpty ls
 empty-cell [] = refl
@@ -115,7 +115,7 @@ module _ (day : ℕ) (S : State) (board : List ℕ) (few : length (derivations S
 
   -- Equal presences of the input clauses have equal boards, and a clause's cell goes by its own uses alone.
   pub cell-same : (P Q : Presence) (m : ℕ) (c : Derivation) → clauseOf S m ≡ some c → Each (λ (u : Use). P (u .0) ≡ Q (u .0)) (uses c) → getD (boardOf day S P board) m 0 ≡ getD (boardOf day S Q board) m 0
-  cell-same P Q m c q h = board-cell day S board few long P m c q ∙ ap (cellWith (usesInForce S day c)) (unused-same P Q (uses c) h) ∙ sym (board-cell day S board few long Q m c q)
+  cell-same P Q m c q h = board-cell day S board few long P m c q ∙ ap (cellWith (lastChild (derivations S) (clauseNumber c)) (usesInForce S day c)) (unused-same P Q (uses c) h) ∙ sym (board-cell day S board few long Q m c q)
 
   -- The cells before the clause of a call.
   before-same : (P : Presence) (n : ℕ) (b : Bool) (i : ℕ) → i < n → n < length (derivations S) → getD (boardOf day S P board) i 0 ≡ getD (boardOf day S (changed P n b) board) i 0
@@ -140,45 +140,62 @@ module _ (day : ℕ) (S : State) (board : List ℕ) (few : length (derivations S
         by (resolve number l a r ns bs) p t = absurd (true-not-false refl (sym t))
         by (factor number d a x bs) p t = absurd (true-not-false refl (sym t))
 
-    changed-cell : cellWith (forceCell (getD (boardOf day S P board) n 0)) b ≡ clauseCell day S (changed P n b) c
+    abbrev own₁ : ℕ
+    own₁ = cellWith (childCell (getD (boardOf day S P board) n 0)) (forceCell (getD (boardOf day S P board) n 0)) b
+
+    changed-cell : cellWith (childCell (getD (boardOf day S P board) n 0)) (forceCell (getD (boardOf day S P board) n 0)) b ≡ clauseCell day S (changed P n b) c
     changed-cell =
-        ap (λ (x : ℕ). cellWith (forceCell x) b) (board-cell day S board few long P n c q)
-        ∙ ap₂ cellWith (force-of (usesInForce S day c) (standsWith P c)) (sym (changed-own P n b) ∙ sym (own-stands (changed P n b)))
+        let r = lastChild (derivations S) (clauseNumber c) in
+        ap (λ (x : ℕ). cellWith (childCell x) (forceCell x) b) (board-cell day S board few long P n c q)
+        ∙ ap (λ (x : ℕ). cellWith x (forceCell (clauseCell day S P c)) b) (child-of r (usesInForce S day c) (standsWith P c))
+        ∙ ap₂ (cellWith r) (force-of r (usesInForce S day c) (standsWith P c)) (sym (changed-own P n b) ∙ sym (own-stands (changed P n b)))
 
     pub call-goes : withCell F C (boardOf day S P board) n b ≡ boardOf day S (changed P n b) board
     call-goes =
-        let B = boardOf day S P board in
-        let w = cellWith (forceCell (getD B n 0)) b in
         let l = there in
-        pass-right day S board few long F C H records-in P (changed P n b) (4095 - n) (suc n) (set B n w) (omega arith) (length-set B n w ∙ board-length day S board few long P)
-        (λ j x. sym (changed-other P n b j (λ e. omega arith))) before from
+        let z = cell-child day S board few long F C H records-in P n c q in
+        let y = child-below (derivations S) n (omega arith) in
+        pass-right day S board few long F C H records-in P (changed P n b) (4095 - n) (suc n) (childCell (getD (boardOf day S P board) n 0)) (set (boardOf day S P board) n own₁) (omega arith)
+        (length-set (boardOf day S P board) n own₁ ∙ board-length day S board few long P)
+        (λ j x. sym (changed-other P n b j (λ e. omega arith))) (omega arith) reach before from
       where
         inside : n < length (boardOf day S P board)
         inside = let e = board-length day S board few long P in let l = there in omega arith
 
-        before : (j : ℕ) → j < suc n → getD (set (boardOf day S P board) n (cellWith (forceCell (getD (boardOf day S P board) n 0)) b)) j 0 ≡ getD (boardOf day S (changed P n b) board) j 0
-        before j x = try (ltb j n) refl
+        reach : (j : ℕ) → j < suc n → (getD (boardOf day S P board) j 0 ≡ getD (boardOf day S (changed P n b) board) j 0) ⊎ (lastChild (derivations S) j ≤ childCell (getD (boardOf day S P board) n 0))
+        reach j x = try (ltb j n) refl
           where
-            try : (y : Bool) → ltb j n ≡ y → getD (set (boardOf day S P board) n (cellWith (forceCell (getD (boardOf day S P board) n 0)) b)) j 0 ≡ getD (boardOf day S (changed P n b) board) j 0
-            try true p = let z = ltb→lt j n (to-T (ltb j n) p) in getD-set-other (boardOf day S P board) n j (cellWith (forceCell (getD (boardOf day S P board) n 0)) b) 0 (λ e. omega arith) ∙ before-same P n b j z there
+            try : (y : Bool) → ltb j n ≡ y → (getD (boardOf day S P board) j 0 ≡ getD (boardOf day S (changed P n b) board) j 0) ⊎ (lastChild (derivations S) j ≤ childCell (getD (boardOf day S P board) n 0))
+            try true p = inl (before-same P n b j (ltb→lt j n (to-T (ltb j n) p)) there)
             try false p =
                 let z = not-below j n p in
                 let e : j ≡ n = omega arith in
-                ap (λ (m : ℕ). getD (set (boardOf day S P board) n (cellWith (forceCell (getD (boardOf day S P board) n 0)) b)) m 0) e ∙ getD-set-same (boardOf day S P board) n (cellWith (forceCell (getD (boardOf day S P board) n 0)) b) 0 inside ∙ changed-cell
+                let w : lastChild (derivations S) j ≡ childCell (getD (boardOf day S P board) n 0) = ap (lastChild (derivations S)) e ∙ sym (cell-child day S board few long F C H records-in P n c q) in
+                inr (omega arith)
+
+        before : (j : ℕ) → j < suc n → getD (set (boardOf day S P board) n own₁) j 0 ≡ getD (boardOf day S (changed P n b) board) j 0
+        before j x = try (ltb j n) refl
+          where
+            try : (y : Bool) → ltb j n ≡ y → getD (set (boardOf day S P board) n own₁) j 0 ≡ getD (boardOf day S (changed P n b) board) j 0
+            try true p = let z = ltb→lt j n (to-T (ltb j n) p) in getD-set-other (boardOf day S P board) n j own₁ 0 (λ e. omega arith) ∙ before-same P n b j z there
+            try false p =
+                let z = not-below j n p in
+                let e : j ≡ n = omega arith in
+                ap (λ (m : ℕ). getD (set (boardOf day S P board) n own₁) m 0) e ∙ getD-set-same (boardOf day S P board) n own₁ 0 inside ∙ changed-cell
                 ∙ sym (board-cell day S board few long (changed P n b) n c q) ∙ ap (λ (m : ℕ). getD (boardOf day S (changed P n b) board) m 0) (sym e)
 
-        from : (j : ℕ) → suc n ≤ j → getD (set (boardOf day S P board) n (cellWith (forceCell (getD (boardOf day S P board) n 0)) b)) j 0 ≡ getD (boardOf day S P board) j 0
-        from j x = getD-set-other (boardOf day S P board) n j (cellWith (forceCell (getD (boardOf day S P board) n 0)) b) 0 (λ e. omega arith)
+        from : (j : ℕ) → suc n ≤ j → getD (set (boardOf day S P board) n own₁) j 0 ≡ getD (boardOf day S P board) j 0
+        from j x = getD-set-other (boardOf day S P board) n j own₁ 0 (λ e. omega arith)
 
   -- ── The answer ──
   module _ (Q : Presence) where
     clause-answers : (n : ℕ) (c : Derivation) → clauseOf S n ≡ some c → answers C (boardOf day S Q board) n ≡ ((usesInForce S day c && standsWith Q c) && isEmpty (literals c))
     clause-answers n c q =
         let w = with-record (S .clauses) n c q in
-        ap₂ _&&_ (ap (λ (x : ℕ). eqb x 7) (board-cell day S board few long Q n c q) ∙ seven-cell (usesInForce S day c) (standsWith Q c)) (ap (λ (x : ℕ). eqb x 0) (literals-in n (w .0) c (w .1)) ∙ empty-cell (literals c))
+        ap₂ _&&_ (ap (λ (x : ℕ). eqb (x % 8) 7) (board-cell day S board few long Q n c q) ∙ seven-cell (lastChild (derivations S) (clauseNumber c)) (usesInForce S day c) (standsWith Q c)) (ap (λ (x : ℕ). eqb x 0) (literals-in n (w .0) c (w .1)) ∙ empty-cell (literals c))
 
     none-answers : (n : ℕ) → length (derivations S) ≤ n → n < 4096 → answers C (boardOf day S Q board) n ≡ false
-    none-answers n l m = ap (λ (x : ℕ). eqb x 7 && eqb (getD C (5 * n + 1) 0) 0) (no-cell day S board few long Q n l m)
+    none-answers n l m = ap (λ (x : ℕ). eqb (x % 8) 7 && eqb (getD C (5 * n + 1) 0) 0) (no-cell day S board few long Q n l m)
 
     not-answering : (n : ℕ) → n < 4096 → ((c : Derivation) → clauseOf S n ≡ some c → (usesInForce S day c && standsWith Q c) ≡ true → ¬ (literals c ≡ [])) → answers C (boardOf day S Q board) n ≡ false
     not-answering n m h = try (ltb n (length (derivations S))) refl
@@ -225,7 +242,7 @@ module _ (day : ℕ) (S : State) (board : List ℕ) (few : length (derivations S
       try true q =
           let l = ltb→lt n (length (derivations S)) (to-T (ltb n (length (derivations S))) q) in
           let s = entry-some (derivations S) n l in
-          ap₂ (λ (x : Bool) (y : Bool). x && (y && eqb (kindOf (recordOfClause F C n)) 4)) (lt-ltb n 4096 (omega arith)) (ap isClauseCell (board-cell day S board few long P n (s .0) (s .1)) ∙ clause-of (usesInForce S day (s .0)) (standsWith P (s .0)))
+          ap₂ (λ (x : Bool) (y : Bool). x && (y && eqb (kindOf (recordOfClause F C n)) 4)) (lt-ltb n 4096 (omega arith)) (ap isClauseCell (board-cell day S board few long P n (s .0) (s .1)) ∙ clause-of (lastChild (derivations S) (clauseNumber (s .0))) (usesInForce S day (s .0)) (standsWith P (s .0)))
           ∙ kind (s .0) (recorded day S board few long F C H records-in n (s .0) (s .1)) ∙ ap isInput (sym (s .1))
       try false q = let h = not-below n (length (derivations S)) q in past h (ltb n 4096) refl ∙ ap isInput (sym (entry-none (derivations S) n h))
 
@@ -248,7 +265,7 @@ module _ (day : ℕ) (S : State) (board : List ℕ) (few : length (derivations S
     by-condition i =
         let f = input-found n i in
         let z : standsCell (getD (boardOf day S P board) n 0) ≡ P n =
-        ap standsCell (board-cell day S board few long P n (f .0) (f .1)) ∙ stands-of (usesInForce S day (f .0)) (standsWith P (f .0)) ∙ own-stands P n b (f .0) (f .1) (sym (ap isInput (f .1)) ∙ i) P
+        ap standsCell (board-cell day S board few long P n (f .0) (f .1)) ∙ stands-of (lastChild (derivations S) (clauseNumber (f .0))) (usesInForce S day (f .0)) (standsWith P (f .0)) ∙ own-stands P n b (f .0) (f .1) (sym (ap isInput (f .1)) ∙ i) P
         in
         ap₂ (λ (x y : Bool). pick x (some 2) (pick y (pick (same (standsCell (getD (boardOf day S P board) n 0)) b) (some 21) none) (some 20))) (long-board P) (input-cell P n ∙ i)
         ∙ ap (λ (x : Bool). pick (same x b) (some 21) none) z

@@ -1,7 +1,7 @@
 -- A call on the cells of a board changes them to those of the presence after it.
 use mathlib.Core.Path.{_≡_, refl, sym, ap, ap₂, _∙_, subst}
 use mathlib.Core.Logic.{_⊎_, inl, inr}
-use mathlib.Core.Bool.{Bool, true, false, _&&_}
+use mathlib.Core.Bool.{Bool, true, false, _&&_, _||_}
 use mathlib.Core.Option.{Option, none, some}
 use mathlib.Core.List.{List, [], _∷_, _++_, map, reverse}
 use Prim.Native.Nat.{ℕ, zero, suc, _+_, _-_, _*_, _/_, _%_, _≤_, _<_}
@@ -9,8 +9,9 @@ use native.Mathlib.Omega.{arith}
 use lib.Dec.{eqb, leb, ltb, eqb-refl, ltb→lt}
 use lib.ListN.{length, getD, set, drop, replicate, length-append, length-map, length-reverse, length-replicate, length-drop, length-set, getD-replicate, List·getD-append}
 use lib.Seq.{getD-append-add, getD-set-same, getD-set-other, ext-getD}
+use borrow.Author.Tests.{eq-eqb, ne-eqb, le-leb, leb-true, leb-false}
 use Rattle.record.specs.Record.{pick, recordPart, kindOf, fieldOf}
-use Rattle.unification.proofs.Tests.{to-T, from-T, both-true, true-not-false, some-not-none}
+use Rattle.unification.proofs.Tests.{to-T, from-T, both-true, true-not-false, some-not-none, some-injective}
 use Rattle.derivation.specs.Derivation.{Derivation, input, resolve, factor, clauseNumber, Use, uses, RowLiteral}
 use Rattle.verdict.specs.Force.{inForce, allInForce, usesInForce}
 use Rattle.verdict.specs.Refusal.{isInput}
@@ -20,30 +21,72 @@ use Rattle.verdict.proofs.RangeTests.{not-true, equal}
 use Rattle.verdict.proofs.Sources.{Sourced, SourceOf, earlier, source-of, earlier-length, number-of}
 use Rattle.verdict.proofs.TableCells.{reversed-at}
 use Rattle.boards.specs.Board.{Presence, changed, allStand, standsWith}
-use Rattle.boards.specs.Cells.{cellWith, isClauseCell, forceCell, standsCell, clauseCell, clauseCells, boardOf, recordOfClause, fromParents, cellByKind, newCell, passed, withCell}
+use Rattle.boards.specs.Cells.{hasParent, lastChild, cellWith, childCell, isClauseCell, forceCell, standsCell, clauseCell, clauseCells, boardOf, recordOfClause, fromParents, cellByKind, newCell, larger, lastAfter, passed}
 use Rattle.boards.proofs.Parents.{Recorded, Kept, with-record}
 
 -- ── Cells and their parts ──
-pub force-of : (f s : Bool) → forceCell (cellWith f s) ≡ f
-force-of true true = refl
-force-of true false = refl
-force-of false true = refl
-force-of false false = refl
+pub force-of : (r : ℕ) (f s : Bool) → forceCell (cellWith r f s) ≡ f
+force-of r true true = eq-eqb ((8 * r + 7) / 2 % 2) 1 (omega arith)
+force-of r true false = eq-eqb ((8 * r + 6) / 2 % 2) 1 (omega arith)
+force-of r false true = ne-eqb ((8 * r + 5) / 2 % 2) 1 (λ q. omega arith)
+force-of r false false = ne-eqb ((8 * r + 4) / 2 % 2) 1 (λ q. omega arith)
 
-pub stands-of : (f s : Bool) → standsCell (cellWith f s) ≡ s
-stands-of true true = refl
-stands-of true false = refl
-stands-of false true = refl
-stands-of false false = refl
+pub stands-of : (r : ℕ) (f s : Bool) → standsCell (cellWith r f s) ≡ s
+stands-of r true true = eq-eqb ((8 * r + 7) % 2) 1 (omega arith)
+stands-of r true false = ne-eqb ((8 * r + 6) % 2) 1 (λ q. omega arith)
+stands-of r false true = eq-eqb ((8 * r + 5) % 2) 1 (omega arith)
+stands-of r false false = ne-eqb ((8 * r + 4) % 2) 1 (λ q. omega arith)
 
-pub clause-of : (f s : Bool) → isClauseCell (cellWith f s) ≡ true
-clause-of true true = refl
-clause-of true false = refl
-clause-of false true = refl
-clause-of false false = refl
+pub child-of : (r : ℕ) (f s : Bool) → childCell (cellWith r f s) ≡ r
+child-of r true true = omega arith
+child-of r true false = omega arith
+child-of r false true = omega arith
+child-of r false false = omega arith
 
-from-both : (f s g t : Bool) → fromParents (cellWith f s) (cellWith g t) ≡ cellWith (f && g) (s && t)
-from-both f s g t = λ i. cellWith (force-of f s i && force-of g t i) (stands-of f s i && stands-of g t i)
+pub clause-of : (r : ℕ) (f s : Bool) → isClauseCell (cellWith r f s) ≡ true
+clause-of r true true = le-leb 4 (8 * r + 7) (omega arith)
+clause-of r true false = le-leb 4 (8 * r + 6) (omega arith)
+clause-of r false true = le-leb 4 (8 * r + 5) (omega arith)
+clause-of r false false = le-leb 4 (8 * r + 4) (omega arith)
+
+from-both : (x r : ℕ) (f s : Bool) (q : ℕ) (g t : Bool) → fromParents x (cellWith r f s) (cellWith q g t) ≡ cellWith (childCell x) (f && g) (s && t)
+from-both x r f s q g t = λ i. cellWith (childCell x) (force-of r f s i && force-of q g t i) (stands-of r f s i && stands-of q g t i)
+
+-- ── Last children ──
+or-true : (a : Bool) → (a || true) ≡ true
+or-true true = refl
+or-true false = refl
+
+-- A clause comes no later than the last child of its parent.
+pub child-later : (cs : List Derivation) (i p : ℕ) (c : Derivation) → entry cs i ≡ some c → hasParent c p ≡ true → i ≤ lastChild cs p
+child-later [] i p c q t = absurd (some-not-none refl q)
+child-later (k ∷ ks) i p c q t = try (eqb i (length ks)) refl q (λ e. child-later ks i p c e t)
+  where
+    later : (b : Bool) → i < length ks → i ≤ lastChild ks p → i ≤ pick b (length ks) (lastChild ks p)
+    later true l h = omega arith
+    later false l h = h
+
+    try : (b : Bool) → eqb i (length ks) ≡ b → pick b (some k) (entry ks i) ≡ some c → (entry ks i ≡ some c → i ≤ lastChild ks p) → i ≤ lastChild (k ∷ ks) p
+    try true e q ih =
+        let z : hasParent k p ≡ true = ap (λ (d : Derivation). hasParent d p) (some-injective q) ∙ t in
+        let w : lastChild (k ∷ ks) p ≡ length ks = ap (λ (b : Bool). pick b (length ks) (lastChild ks p)) z in
+        let y = equal i (length ks) e in
+        omega arith
+    try false e q ih = later (hasParent k p) (entry-below ks i c q) (ih q)
+
+-- The last child is a clause.
+pub child-below : (cs : List Derivation) (p : ℕ) → 0 < length cs → lastChild cs p < length cs
+child-below [] p l = absurd (omega arith)
+child-below (k ∷ ks) p l = try (hasParent k p) (ltb 0 (length ks)) refl (child-below ks p)
+  where
+    none-yet : (ds : List Derivation) → length ds ≤ 0 → lastChild ds p ≡ 0
+    none-yet [] h = refl
+    none-yet (d ∷ ds) h = absurd (omega arith)
+
+    try : (b x : Bool) → ltb 0 (length ks) ≡ x → (0 < length ks → lastChild ks p < length ks) → pick b (length ks) (lastChild ks p) < suc (length ks)
+    try true x e ih = omega arith
+    try false true e ih = let h = ih (ltb→lt 0 (length ks) (to-T (ltb 0 (length ks)) e)) in omega arith
+    try false false e ih = let h = none-yet ks (not-below 0 (length ks) e) in omega arith
 
 and-same : (b : Bool) → (b && b) ≡ b
 and-same true = refl
@@ -127,61 +170,163 @@ module _ (day : ℕ) (S : State) (board : List ℕ) (few : length (derivations S
     pub older : (n m : ℕ) (c d : Derivation) → clauseOf S n ≡ some c → entry (earlier (derivations S) n) m ≡ some d → (m < n) × (clauseOf S m ≡ some d)
     older n m c d p q = (let l = entry-below (earlier (derivations S) n) m d q in let e = earlier-length (derivations S) n c p in omega arith, earlier-entry (derivations S) n m d q)
 
-    -- The cell of a clause from cells of its parents that are right for Q, and its own.
-    right-cell : (P Q : Presence) (B : List ℕ) (m : ℕ) (c : Derivation) → clauseOf S m ≡ some c → ((i : ℕ) → i < m → getD B i 0 ≡ getD (boardOf day S Q board) i 0) → getD B m 0 ≡ getD (boardOf day S P board) m 0 → P m ≡ Q m
+    -- The cell of a clause from cells of its parents that are right for Q, and its own, which is right for P.
+    right-cell : (P Q : Presence) (B : List ℕ) (m : ℕ) (c : Derivation) → clauseOf S m ≡ some c → ((i : ℕ) → i < m → hasParent c i ≡ true → getD B i 0 ≡ getD (boardOf day S Q board) i 0) → getD B m 0 ≡ getD (boardOf day S P board) m 0 → P m ≡ Q m
         → newCell F C B m ≡ clauseCell day S Q c
     unfolding newCell
-    right-cell P Q B m c q before own e = by c q (recorded m c q) (source-of (derivations S) (H .sourced) m c q)
+    right-cell P Q B m c q before own e = by c q (recorded m c q) (source-of (derivations S) (H .sourced) m c q) before
       where
-        kind-is : (n : ℕ) → kindOf (recordOfClause F C m) ≡ n → cellByKind (recordOfClause F C m) B m ≡ pick (eqb n 4) (getD B m 0) (pick (eqb n 6) (fromParents (getD B (fieldOf (recordOfClause F C m) 0) 0) (getD B (fieldOf (recordOfClause F C m) 0) 0)) (fromParents (getD B (fieldOf (recordOfClause F C m) 0) 0) (getD B (fieldOf (recordOfClause F C m) 2) 0)))
-        kind-is n k = ap (λ (x : ℕ). pick (eqb x 4) (getD B m 0) (pick (eqb x 6) (fromParents (getD B (fieldOf (recordOfClause F C m) 0) 0) (getD B (fieldOf (recordOfClause F C m) 0) 0)) (fromParents (getD B (fieldOf (recordOfClause F C m) 0) 0) (getD B (fieldOf (recordOfClause F C m) 2) 0)))) k
+        kind-is : (n : ℕ) → kindOf (recordOfClause F C m) ≡ n → cellByKind (recordOfClause F C m) B m ≡ pick (eqb n 4) (getD B m 0) (pick (eqb n 6) (fromParents (getD B m 0) (getD B (fieldOf (recordOfClause F C m) 0) 0) (getD B (fieldOf (recordOfClause F C m) 0) 0)) (fromParents (getD B m 0) (getD B (fieldOf (recordOfClause F C m) 0) 0) (getD B (fieldOf (recordOfClause F C m) 2) 0)))
+        kind-is n k = ap (λ (x : ℕ). pick (eqb x 4) (getD B m 0) (pick (eqb x 6) (fromParents (getD B m 0) (getD B (fieldOf (recordOfClause F C m) 0) 0) (getD B (fieldOf (recordOfClause F C m) 0) 0)) (fromParents (getD B m 0) (getD B (fieldOf (recordOfClause F C m) 0) 0) (getD B (fieldOf (recordOfClause F C m) 2) 0)))) k
 
-        parent : (i n : ℕ) (d : Derivation) → n ≡ i → i < m → clauseOf S i ≡ some d → getD B n 0 ≡ clauseCell day S Q d
-        parent i n d z l p = ap (λ (x : ℕ). getD B x 0) z ∙ before i l ∙ board-cell Q i d p
+        own-child : (d : Derivation) → clauseOf S m ≡ some d → childCell (getD B m 0) ≡ lastChild (derivations S) (clauseNumber d)
+        own-child d p = ap childCell (own ∙ board-cell P m d p) ∙ child-of (lastChild (derivations S) (clauseNumber d)) (usesInForce S day d) (standsWith P d)
 
-        by : (d : Derivation) → clauseOf S m ≡ some d → Recorded (recordOfClause F C m) d → SourceOf (earlier (derivations S) m) d → cellByKind (recordOfClause F C m) B m ≡ clauseCell day S Q d
-        by (input number ls) p R s =
+        parent : (i n : ℕ) (d : Derivation) → n ≡ i → getD B i 0 ≡ getD (boardOf day S Q board) i 0 → clauseOf S i ≡ some d → getD B n 0 ≡ clauseCell day S Q d
+        parent i n d z l p = ap (λ (x : ℕ). getD B x 0) z ∙ l ∙ board-cell Q i d p
+
+        self : (n : ℕ) → eqb n n ≡ true
+        self n = from-T (eqb n n) (eqb-refl n)
+
+        by : (d : Derivation) → clauseOf S m ≡ some d → Recorded (recordOfClause F C m) d → SourceOf (earlier (derivations S) m) d
+            → ((i : ℕ) → i < m → hasParent d i ≡ true → getD B i 0 ≡ getD (boardOf day S Q board) i 0) → cellByKind (recordOfClause F C m) B m ≡ clauseCell day S Q d
+        by (input number ls) p R s right =
             let n : number ≡ m = number-of (derivations S) (H .sourced) m (input number ls) p in
-            kind-is 4 R ∙ own ∙ board-cell P m (input number ls) p ∙ ap (λ (b : Bool). cellWith (usesInForce S day (input number ls)) (b && true)) (ap P n ∙ e ∙ ap Q (sym n))
-        by (resolve number l a r ns bs) p R s =
+            kind-is 4 R ∙ own ∙ board-cell P m (input number ls) p ∙ ap (λ (b : Bool). cellWith (lastChild (derivations S) number) (usesInForce S day (input number ls)) (b && true)) (ap P n ∙ e ∙ ap Q (sym n))
+        by (resolve number l a r ns bs) p R s right =
             let x = older m (clauseNumber l) (resolve number l a r ns bs) l p (s .1) in
             let y = older m (clauseNumber r) (resolve number l a r ns bs) r p (s .2) in
+            let u = right (clauseNumber l) (x .0) (ap (λ (b : Bool). b || eqb (clauseNumber l) (clauseNumber r)) (self (clauseNumber l))) in
+            let v = right (clauseNumber r) (y .0) (ap (λ (b : Bool). eqb (clauseNumber r) (clauseNumber l) || b) (self (clauseNumber r)) ∙ or-true (eqb (clauseNumber r) (clauseNumber l))) in
             which (R .0)
-            ∙ ap₂ fromParents (parent (clauseNumber l) (fieldOf (recordOfClause F C m) 0) l (R .1) (x .0) (x .1)) (parent (clauseNumber r) (fieldOf (recordOfClause F C m) 2) r (R .2) (y .0) (y .1))
-            ∙ from-both (usesInForce S day l) (standsWith Q l) (usesInForce S day r) (standsWith Q r)
-            ∙ ap₂ cellWith (sym (force-joined (S .windows) day (uses l) (uses r))) (sym (stand-joined Q (uses l) (uses r)))
+            ∙ ap₂ (fromParents (getD B m 0)) (parent (clauseNumber l) (fieldOf (recordOfClause F C m) 0) l (R .1) u (x .1)) (parent (clauseNumber r) (fieldOf (recordOfClause F C m) 2) r (R .2) v (y .1))
+            ∙ from-both (getD B m 0) (lastChild (derivations S) (clauseNumber l)) (usesInForce S day l) (standsWith Q l) (lastChild (derivations S) (clauseNumber r)) (usesInForce S day r) (standsWith Q r)
+            ∙ ap (λ (x : ℕ). cellWith x (usesInForce S day l && usesInForce S day r) (standsWith Q l && standsWith Q r)) (own-child (resolve number l a r ns bs) p)
+            ∙ ap₂ (cellWith (lastChild (derivations S) number)) (sym (force-joined (S .windows) day (uses l) (uses r))) (sym (stand-joined Q (uses l) (uses r)))
           where
-            which : (kindOf (recordOfClause F C m) ≡ 5) ⊎ (kindOf (recordOfClause F C m) ≡ 7) → cellByKind (recordOfClause F C m) B m ≡ fromParents (getD B (fieldOf (recordOfClause F C m) 0) 0) (getD B (fieldOf (recordOfClause F C m) 2) 0)
+            which : (kindOf (recordOfClause F C m) ≡ 5) ⊎ (kindOf (recordOfClause F C m) ≡ 7) → cellByKind (recordOfClause F C m) B m ≡ fromParents (getD B m 0) (getD B (fieldOf (recordOfClause F C m) 0) 0) (getD B (fieldOf (recordOfClause F C m) 2) 0)
             which (inl k) = kind-is 5 k
             which (inr k) = kind-is 7 k
-        by (factor number d a b bs) p R s =
+        by (factor number d a b bs) p R s right =
             let x = older m (clauseNumber d) (factor number d a b bs) d p (s .1) in
-            let w = parent (clauseNumber d) (fieldOf (recordOfClause F C m) 0) d (R .1) (x .0) (x .1) in
-            kind-is 6 (R .0) ∙ ap₂ fromParents w w ∙ from-both (usesInForce S day d) (standsWith Q d) (usesInForce S day d) (standsWith Q d) ∙ ap₂ cellWith (and-same (usesInForce S day d)) (and-same (standsWith Q d))
+            let w = parent (clauseNumber d) (fieldOf (recordOfClause F C m) 0) d (R .1) (right (clauseNumber d) (x .0) (self (clauseNumber d))) (x .1) in
+            kind-is 6 (R .0) ∙ ap₂ (fromParents (getD B m 0)) w w
+            ∙ from-both (getD B m 0) (lastChild (derivations S) (clauseNumber d)) (usesInForce S day d) (standsWith Q d) (lastChild (derivations S) (clauseNumber d)) (usesInForce S day d) (standsWith Q d)
+            ∙ ap (λ (x : ℕ). cellWith x (usesInForce S day d && usesInForce S day d) (standsWith Q d && standsWith Q d)) (own-child (factor number d a b bs) p)
+            ∙ ap₂ (cellWith (lastChild (derivations S) number)) (and-same (usesInForce S day d)) (and-same (standsWith Q d))
 
-    -- A pass from m on, where the cells before m are right for Q already and those from m on for P.
-    pub pass-right : (P Q : Presence) (k m : ℕ) (B : List ℕ) → k + m ≡ 4096 → length B ≡ length board → ((i : ℕ) → m ≤ i → P i ≡ Q i)
-        → ((i : ℕ) → i < m → getD B i 0 ≡ getD (boardOf day S Q board) i 0) → ((i : ℕ) → m ≤ i → getD B i 0 ≡ getD (boardOf day S P board) i 0) → passed F C k m B ≡ boardOf day S Q board
-    pass-right P Q zero m B e l same before from =
+    -- The last child of a clause, by its cell.
+    pub cell-child : (P : Presence) (m : ℕ) (c : Derivation) → clauseOf S m ≡ some c → childCell (getD (boardOf day S P board) m 0) ≡ lastChild (derivations S) m
+    cell-child P m c q =
+        ap childCell (board-cell P m c q) ∙ child-of (lastChild (derivations S) (clauseNumber c)) (usesInForce S day c) (standsWith P c)
+        ∙ ap (lastChild (derivations S)) (number-of (derivations S) (H .sourced) m c q)
+
+    -- Where all clauses before m that differ have their last child before m, none from m on differs.
+    module _ (P Q : Presence) (m last : ℕ) (same : (i : ℕ) → m ≤ i → P i ≡ Q i) (behind : last < m)
+        (reach : (i : ℕ) → i < m → (getD (boardOf day S P board) i 0 ≡ getD (boardOf day S Q board) i 0) ⊎ (lastChild (derivations S) i ≤ last)) where
+      quiet : (k i : ℕ) → i < k → m ≤ i → getD (boardOf day S P board) i 0 ≡ getD (boardOf day S Q board) i 0
+      quiet zero i l h = absurd (omega arith)
+      quiet (suc k) i l h = try (ltb i (length (derivations S))) refl (λ p x y. quiet k p x y)
+        where
+          parents : (c : Derivation) → clauseOf S i ≡ some c → ((p : ℕ) → p < k → m ≤ p → getD (boardOf day S P board) p 0 ≡ getD (boardOf day S Q board) p 0)
+              → (p : ℕ) → p < i → hasParent c p ≡ true → getD (boardOf day S P board) p 0 ≡ getD (boardOf day S Q board) p 0
+          parents c q ih p x t = side (ltb p m) refl
+            where
+              reached : (getD (boardOf day S P board) p 0 ≡ getD (boardOf day S Q board) p 0) ⊎ (lastChild (derivations S) p ≤ last) → getD (boardOf day S P board) p 0 ≡ getD (boardOf day S Q board) p 0
+              reached (inl z) = z
+              reached (inr z) = let w = child-later (derivations S) i p c q t in absurd (omega arith)
+
+              side : (b : Bool) → ltb p m ≡ b → getD (boardOf day S P board) p 0 ≡ getD (boardOf day S Q board) p 0
+              side true z = reached (reach p (ltb→lt p m (to-T (ltb p m) z)))
+              side false z = ih p (omega arith) (not-below p m z)
+
+          try : (b : Bool) → ltb i (length (derivations S)) ≡ b → ((p : ℕ) → p < k → m ≤ p → getD (boardOf day S P board) p 0 ≡ getD (boardOf day S Q board) p 0) → getD (boardOf day S P board) i 0 ≡ getD (boardOf day S Q board) i 0
+          try true q ih =
+              let s = entry-some (derivations S) i (ltb→lt i (length (derivations S)) (to-T (ltb i (length (derivations S))) q)) in
+              board-cell P i (s .0) (s .1)
+              ∙ sym (right-cell P P (boardOf day S P board) i (s .0) (s .1) (λ p x t. refl) refl refl)
+              ∙ right-cell P Q (boardOf day S P board) i (s .0) (s .1) (parents (s .0) (s .1) ih) refl (same i h)
+              ∙ sym (board-cell Q i (s .0) (s .1))
+          try false q ih = past-cell P Q i (not-below i (length (derivations S)) q)
+
+    larger-left : (a b : ℕ) → a ≤ larger a b
+    larger-left a b = try (ltb a b) refl
+      where
+        try : (x : Bool) → ltb a b ≡ x → a ≤ pick x b a
+        try true q = let l = ltb→lt a b (to-T (ltb a b) q) in omega arith
+        try false q = omega arith
+
+    larger-right : (a b : ℕ) → b ≤ larger a b
+    larger-right a b = try (ltb a b) refl
+      where
+        try : (x : Bool) → ltb a b ≡ x → b ≤ pick x b a
+        try true q = omega arith
+        try false q = not-below a b q
+
+    larger-below : (a b n : ℕ) → a < n → b < n → larger a b < n
+    larger-below a b n l m = try (ltb a b)
+      where
+        try : (x : Bool) → pick x b a < n
+        try true = m
+        try false = l
+
+    -- A pass from m on, where the cells before m are right for Q already and those from m on for P, and no clause before m that differs has a later child than `last`.
+    pub pass-right : (P Q : Presence) (k m last : ℕ) (B : List ℕ) → k + m ≡ 4096 → length B ≡ length board → ((i : ℕ) → m ≤ i → P i ≡ Q i) → last < length (derivations S)
+        → ((i : ℕ) → i < m → (getD (boardOf day S P board) i 0 ≡ getD (boardOf day S Q board) i 0) ⊎ (lastChild (derivations S) i ≤ last))
+        → ((i : ℕ) → i < m → getD B i 0 ≡ getD (boardOf day S Q board) i 0) → ((i : ℕ) → m ≤ i → getD B i 0 ≡ getD (boardOf day S P board) i 0) → passed F C k m last B ≡ boardOf day S Q board
+    pass-right P Q zero m last B e l same low reach before from =
         ext-getD 0 B (boardOf day S Q board) (l ∙ sym (board-length Q)) (λ i x. try i (ltb i m) refl)
       where
         try : (i : ℕ) (b : Bool) → ltb i m ≡ b → getD B i 0 ≡ getD (boardOf day S Q board) i 0
         try i true q = before i (ltb→lt i m (to-T (ltb i m) q))
         try i false q = let j = not-below i m q in from i j ∙ past-cell P Q i (omega arith)
-    pass-right P Q (suc k) m B e l same before from = clause (ltb m (length (derivations S))) refl (λ B′ a b c. pass-right P Q k (suc m) B′ (omega arith) a (λ i x. same i (omega arith)) b c)
+    pass-right P Q (suc k) m last B e l same low reach before from =
+        ends (leb m last) refl (λ y a B′ b c d. pass-right P Q k (suc m) y B′ (omega arith) b (λ i x. same i (omega arith)) (a .0) (a .1) c d)
       where
-        ended : length (derivations S) ≤ m → B ≡ boardOf day S Q board
-        ended h = ext-getD 0 B (boardOf day S Q board) (l ∙ sym (board-length Q)) (λ i x. try i (ltb i m) refl)
-          where
-            try : (i : ℕ) (b : Bool) → ltb i m ≡ b → getD B i 0 ≡ getD (boardOf day S Q board) i 0
-            try i true q = before i (ltb→lt i m (to-T (ltb i m) q))
-            try i false q = let j = not-below i m q in from i j ∙ past-cell P Q i (omega arith)
+        Onward : Type 0
+        Onward =
+            (y : ℕ) → (y < length (derivations S)) × ((i : ℕ) → i < suc m → (getD (boardOf day S P board) i 0 ≡ getD (boardOf day S Q board) i 0) ⊎ (lastChild (derivations S) i ≤ y)) → (B′ : List ℕ) → length B′ ≡ length board
+            → ((i : ℕ) → i < suc m → getD B′ i 0 ≡ getD (boardOf day S Q board) i 0) → ((i : ℕ) → suc m ≤ i → getD B′ i 0 ≡ getD (boardOf day S P board) i 0) → passed F C k (suc m) y B′ ≡ boardOf day S Q board
 
-        next : (c : Derivation) → clauseOf S m ≡ some c → ((B′ : List ℕ) → length B′ ≡ length board → ((i : ℕ) → i < suc m → getD B′ i 0 ≡ getD (boardOf day S Q board) i 0) → ((i : ℕ) → suc m ≤ i → getD B′ i 0 ≡ getD (boardOf day S P board) i 0) → passed F C k (suc m) B′ ≡ boardOf day S Q board) → passed F C k (suc m) (set B m (newCell F C B m)) ≡ boardOf day S Q board
-        next c q ih = ih (set B m (newCell F C B m)) (length-set B m (newCell F C B m) ∙ l) earlier-cells later-cells
+        next : (c : Derivation) → clauseOf S m ≡ some c → Onward → passed F C k (suc m) (lastAfter last (getD B m 0) (newCell F C B m)) (set B m (newCell F C B m)) ≡ boardOf day S Q board
+        next c q ih = ih (lastAfter last (getD B m 0) (newCell F C B m)) (below (eqb (getD B m 0) (newCell F C B m)), reached) (set B m (newCell F C B m)) (length-set B m (newCell F C B m) ∙ l) earlier-cells later-cells
           where
             inside : m < length B
-            inside = let x = few in omega arith
+            inside = let x = few in let y = entry-below (derivations S) m c q in omega arith
+
+            right : newCell F C B m ≡ getD (boardOf day S Q board) m 0
+            right = right-cell P Q B m c q (λ i x t. before i x) (from m (omega arith)) (same m (omega arith)) ∙ sym (board-cell Q m c q)
+
+            own : childCell (getD B m 0) ≡ lastChild (derivations S) m
+            own = ap childCell (from m (omega arith)) ∙ cell-child P m c q
+
+            below : (b : Bool) → pick b last (larger last (childCell (getD B m 0))) < length (derivations S)
+            below true = low
+            below false =
+                let x = child-below (derivations S) m (omega arith) in
+                larger-below last (childCell (getD B m 0)) (length (derivations S)) low (let z = own in omega arith)
+
+            still : (i : ℕ) (b : Bool) → lastChild (derivations S) i ≤ last → lastChild (derivations S) i ≤ pick b last (larger last (childCell (getD B m 0)))
+            still i true h = h
+            still i false h = let x = larger-left last (childCell (getD B m 0)) in omega arith
+
+            moved : (b : Bool) → eqb (getD B m 0) (newCell F C B m) ≡ b → (getD (boardOf day S P board) m 0 ≡ getD (boardOf day S Q board) m 0) ⊎ (lastChild (derivations S) m ≤ pick b last (larger last (childCell (getD B m 0))))
+            moved true z = inl (sym (from m (omega arith)) ∙ equal (getD B m 0) (newCell F C B m) z ∙ right)
+            moved false z = inr (let x = larger-right last (childCell (getD B m 0)) in let y = own in omega arith)
+
+            reached : (i : ℕ) → i < suc m → (getD (boardOf day S P board) i 0 ≡ getD (boardOf day S Q board) i 0) ⊎ (lastChild (derivations S) i ≤ lastAfter last (getD B m 0) (newCell F C B m))
+            reached i x = try (ltb i m) refl
+              where
+                old : (getD (boardOf day S P board) i 0 ≡ getD (boardOf day S Q board) i 0) ⊎ (lastChild (derivations S) i ≤ last) → (getD (boardOf day S P board) i 0 ≡ getD (boardOf day S Q board) i 0) ⊎ (lastChild (derivations S) i ≤ lastAfter last (getD B m 0) (newCell F C B m))
+                old (inl z) = inl z
+                old (inr z) = inr (still i (eqb (getD B m 0) (newCell F C B m)) z)
+
+                try : (b : Bool) → ltb i m ≡ b → (getD (boardOf day S P board) i 0 ≡ getD (boardOf day S Q board) i 0) ⊎ (lastChild (derivations S) i ≤ lastAfter last (getD B m 0) (newCell F C B m))
+                try true p = old (reach i (ltb→lt i m (to-T (ltb i m) p)))
+                try false p =
+                    let y = not-below i m p in
+                    let z : m ≡ i = omega arith in
+                    subst (λ (j : ℕ). (getD (boardOf day S P board) j 0 ≡ getD (boardOf day S Q board) j 0) ⊎ (lastChild (derivations S) j ≤ lastAfter last (getD B m 0) (newCell F C B m))) z (moved (eqb (getD B m 0) (newCell F C B m)) refl)
 
             earlier-cells : (i : ℕ) → i < suc m → getD (set B m (newCell F C B m)) i 0 ≡ getD (boardOf day S Q board) i 0
             earlier-cells i x = try (ltb i m) refl
@@ -191,17 +336,23 @@ module _ (day : ℕ) (S : State) (board : List ℕ) (few : length (derivations S
                 try false p =
                     let y = not-below i m p in
                     let z : i ≡ m = omega arith in
-                    ap (λ (j : ℕ). getD (set B m (newCell F C B m)) j 0) z ∙ getD-set-same B m (newCell F C B m) 0 inside ∙ right-cell P Q B m c q before (from m (omega arith)) (same m (omega arith)) ∙ sym (board-cell Q m c q) ∙ ap (λ (j : ℕ). getD (boardOf day S Q board) j 0) (sym z)
+                    ap (λ (j : ℕ). getD (set B m (newCell F C B m)) j 0) z ∙ getD-set-same B m (newCell F C B m) 0 inside ∙ right ∙ ap (λ (j : ℕ). getD (boardOf day S Q board) j 0) (sym z)
 
             later-cells : (i : ℕ) → suc m ≤ i → getD (set B m (newCell F C B m)) i 0 ≡ getD (boardOf day S P board) i 0
             later-cells i x = getD-set-other B m i (newCell F C B m) 0 (λ z. omega arith) ∙ from i (omega arith)
 
-        clause : (b : Bool) → ltb m (length (derivations S)) ≡ b → ((B′ : List ℕ) → length B′ ≡ length board → ((i : ℕ) → i < suc m → getD B′ i 0 ≡ getD (boardOf day S Q board) i 0) → ((i : ℕ) → suc m ≤ i → getD B′ i 0 ≡ getD (boardOf day S P board) i 0) → passed F C k (suc m) B′ ≡ boardOf day S Q board) → passed F C (suc k) m B ≡ boardOf day S Q board
-        clause true q ih =
-            let s = entry-some (derivations S) m (ltb→lt m (length (derivations S)) (to-T (ltb m (length (derivations S))) q)) in
-            let z : isClauseCell (getD B m 0) ≡ true = ap isClauseCell (from m (omega arith) ∙ board-cell P m (s .0) (s .1)) ∙ clause-of (usesInForce S day (s .0)) (standsWith P (s .0)) in
-            ap (λ (b : Bool). elim b [ true ↦ passed F C k (suc m) (set B m (newCell F C B m)) | false ↦ B ]) z ∙ next (s .0) (s .1) ih
-        clause false q ih =
-            let h = not-below m (length (derivations S)) q in
-            let z : isClauseCell (getD B m 0) ≡ false = ap isClauseCell (from m (omega arith) ∙ no-cell P m h (omega arith)) in
-            ap (λ (b : Bool). elim b [ true ↦ passed F C k (suc m) (set B m (newCell F C B m)) | false ↦ B ]) z ∙ ended h
+        ends : (b : Bool) → leb m last ≡ b → Onward → passed F C (suc k) m last B ≡ boardOf day S Q board
+        ends true q ih =
+            let x = leb-true m last q in
+            let s = entry-some (derivations S) m (omega arith) in
+            ap (λ (b : Bool). elim b [ true ↦ passed F C k (suc m) (lastAfter last (getD B m 0) (newCell F C B m)) (set B m (newCell F C B m)) | false ↦ B ]) q ∙ next (s .0) (s .1) ih
+        ends false q ih =
+            ap (λ (b : Bool). elim b [ true ↦ passed F C k (suc m) (lastAfter last (getD B m 0) (newCell F C B m)) (set B m (newCell F C B m)) | false ↦ B ]) q
+            ∙ ext-getD 0 B (boardOf day S Q board) (l ∙ sym (board-length Q)) (λ i x. try i (ltb i m) refl)
+          where
+            behind : last < m
+            behind = leb-false m last q
+
+            try : (i : ℕ) (b : Bool) → ltb i m ≡ b → getD B i 0 ≡ getD (boardOf day S Q board) i 0
+            try i true z = before i (ltb→lt i m (to-T (ltb i m) z))
+            try i false z = let j = not-below i m z in from i j ∙ quiet P Q m last same behind reach (suc i) i (omega arith) j

@@ -22,15 +22,15 @@ cast-record-part c = search needs
 record-part-requires : tie.Need-record-part-requires
 record-part-requires c κs = search needs
 
-kind-requires : tie.Need-kind-requires
-kind-requires c κs = search needs
-
 cell-requires-2 : tie.Need-cell-requires-2
 cell-requires-2 c κs = search needs
 
+kind-requires : tie.Need-kind-requires
+kind-requires c κs = search needs
+
 returns : tie.Need-returns
 returns c =
-    own-cell (c .before .before .before .before .before .before .before .before .args .file .now) (c .before .before .before .before .before .before .before .before .args .clauses .now) (c .before .before .before .before .before .before .before .before .args .board .now) (c .before .before .before .before .before .before .before .before .args .n) (c .before .before .before .before .cell .ensures) (c .before .before .before .record-part .ensures) (c .before .before .kind .ensures) (c .before .if1 .taken) (c .cell2 .ensures)
+    own-cell (c .before .before .before .before .before .before .before .before .args .file .now) (c .before .before .before .before .before .before .before .before .args .clauses .now) (c .before .before .before .before .before .before .before .before .args .board .now) (c .before .before .before .before .before .before .before .before .args .n) (c .before .before .before .before .cell .ensures) (c .before .before .before .record-part .ensures) (c .before .kind .ensures) (c .if1 .taken) (c .before .before .cell2 .ensures)
 
 field-requires : tie.Need-field-requires
 field-requires c κs = search needs
@@ -46,7 +46,7 @@ from-parents-requires c κs = search needs
 
 returns-2 : tie.Need-returns-2
 returns-2 c =
-    factor-cell (c .before .before .before .before .before .before .before .before .before .before .before .args .file .now) (c .before .before .before .before .before .before .before .before .before .before .before .args .clauses .now) (c .before .before .before .before .before .before .before .before .before .before .before .args .board .now) (c .before .before .before .before .before .before .before .before .before .before .before .args .n) (c .before .before .before .before .before .before .before .cell .ensures) (c .before .before .before .before .before .before .record-part .ensures) (c .before .before .before .before .before .kind .ensures) (c .before .if2 .taken) (c .before .before .before .field .ensures) (c .before .before .cell3 .ensures) (c .from-parents .ensures)
+    factor-cell (c .before .before .before .before .before .before .before .before .before .before .before .before .args .file .now) (c .before .before .before .before .before .before .before .before .before .before .before .before .args .clauses .now) (c .before .before .before .before .before .before .before .before .before .before .before .before .args .board .now) (c .before .before .before .before .before .before .before .before .before .before .before .before .args .n) (c .before .before .before .before .before .before .before .before .cell .ensures) (c .before .before .before .before .before .before .before .record-part .ensures) (c .before .before .before .before .before .kind .ensures) (c .before .if2 .taken) (c .before .before .before .before .before .before .cell2 .ensures) (c .before .before .before .field .ensures) (c .before .before .cell3 .ensures) (c .from-parents .ensures)
 
 field-requires-2 : tie.Need-field-requires-2
 field-requires-2 c κs = search needs
@@ -62,7 +62,7 @@ from-parents-requires-2 c κs = search needs
 
 returns-3 : tie.Need-returns-3
 returns-3 c =
-    resolve-cell (c .before .before .before .before .before .before .before .before .before .before .before .before .before .args .file .now) (c .before .before .before .before .before .before .before .before .before .before .before .before .before .args .clauses .now) (c .before .before .before .before .before .before .before .before .before .before .before .before .before .args .board .now) (c .before .before .before .before .before .before .before .before .before .before .before .before .before .args .n) (c .before .before .before .before .before .before .before .before .before .cell .ensures) (c .before .before .before .before .before .before .before .before .record-part .ensures) (c .before .before .before .before .before .before .before .kind .ensures) (c .before .before .before .before .before .before .if1 .left) (c .before .before .before .if2 .left) (c .before .before .before .before .before .field .ensures) (c .before .before .before .before .cell3 .ensures) (c .before .before .field2 .ensures) (c .before .cell4 .ensures) (c .from-parents2 .ensures)
+    resolve-cell (c .before .before .before .before .before .before .before .before .before .before .before .before .before .before .args .file .now) (c .before .before .before .before .before .before .before .before .before .before .before .before .before .before .args .clauses .now) (c .before .before .before .before .before .before .before .before .before .before .before .before .before .before .args .board .now) (c .before .before .before .before .before .before .before .before .before .before .before .before .before .before .args .n) (c .before .before .before .before .before .before .before .before .before .before .cell .ensures) (c .before .before .before .before .before .before .before .before .before .record-part .ensures) (c .before .before .before .before .before .before .before .kind .ensures) (c .before .before .before .before .before .before .if1 .left) (c .before .before .before .if2 .left) (c .before .before .before .before .before .before .before .before .cell2 .ensures) (c .before .before .before .before .before .field .ensures) (c .before .before .before .before .cell3 .ensures) (c .before .before .field2 .ensures) (c .before .cell4 .ensures) (c .from-parents2 .ensures)
 
 pub new-cell-spec : {M : Type 1} → statement M
 new-cell-spec =
@@ -72,8 +72,8 @@ new-cell-spec =
     cell-requires
     cast-record-part
     record-part-requires
-    kind-requires
     cell-requires-2
+    kind-requires
     returns
     field-requires
     cast-cell

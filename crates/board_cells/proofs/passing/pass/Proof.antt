@@ -10,33 +10,34 @@ use Rattle.board_cells.proofs.passing.pass.Tie as tie
 use Rattle.board_cells.proofs.passing.pass.Reads as reads
 use Rattle.board_cells.proofs.passing.pass.Lts as lts
 use Rattle.board_cells.proofs.cells.new_cell.Reads as new-cell-reads
+use Rattle.board_cells.proofs.passing.last_after.Reads as last-after-reads
 use Rattle.tables.proofs.cell.Reads as cell-reads
 use Rattle.tables.proofs.set_cell.Reads as set-cell-reads
 
 abbrev Inv-loop : tie.InvT-loop
-Inv-loop file clauses board₀ from n₀ board n =
-    (length board ≡ length board₀) × (n ≤ 4096) × (passed file clauses (4096 - n) n board ≡ passed file clauses (4096 - from) from board₀)
+Inv-loop file clauses board₀ from child n₀ last₀ board n last =
+    (length board ≡ length board₀) × (n ≤ 4096) × (passed file clauses (4096 - n) n last board ≡ passed file clauses (4096 - from) from child board₀)
 
 abbrev μ-loop : tie.MeasureT-loop
-μ-loop file clauses board₀ from n₀ board n =
+μ-loop file clauses board₀ from child n₀ last₀ board n last =
     4096 - n
 
 loop-holds : tie.Need-loop-holds Inv-loop μ-loop
 loop-holds c =
     (refl, omega arith, refl)
 
-cast-cell : tie.Need-cast-cell Inv-loop μ-loop
-cast-cell c = search needs
-
-cell-requires : tie.Need-cell-requires Inv-loop μ-loop
-cell-requires c κs = search needs
-
 same-length : tie.Need-same-length Inv-loop μ-loop
 same-length c = search needs
 
 returns : tie.Need-returns Inv-loop μ-loop
 returns c =
-    sym (pass-ends (c .before .before .before .before .before .before .before .before .args .file .now) (c .before .before .before .before .before .before .before .before .args .clauses .now) 4096 _ (c .before .before .before .before .loop .n) (c .before .before .before .loop-test .taken) (c .before .cell .ensures) (c .if1 .taken)) ∙ c .before .before .before .before .loop .inv .2
+    sym (pass-ends (c .before .before .before .before .before .before .args .file .now) (c .before .before .before .before .before .before .args .clauses .now) 4096 _ (c .before .before .loop .n) (c .before .before .loop .last) (c .before .loop-test .taken) (c .if1 .taken)) ∙ c .before .before .loop .inv .2
+
+cast-cell : tie.Need-cast-cell Inv-loop μ-loop
+cast-cell c = search needs
+
+cell-requires : tie.Need-cell-requires Inv-loop μ-loop
+cell-requires c κs = search needs
 
 new-cell-requires : tie.Need-new-cell-requires Inv-loop μ-loop
 new-cell-requires c κs = search needs
@@ -47,6 +48,9 @@ cast-set-cell c = search needs
 set-cell-requires : tie.Need-set-cell-requires Inv-loop μ-loop
 set-cell-requires c κs = search needs
 
+last-after-requires : tie.Need-last-after-requires Inv-loop μ-loop
+last-after-requires c κs = search needs
+
 add-n : tie.Need-add-n Inv-loop μ-loop
 add-n c = search needs
 
@@ -55,14 +59,14 @@ loop-less c = search needs
 
 loop-again : tie.Need-loop-again Inv-loop μ-loop
 loop-again c =
-    (omega arith, omega arith, sym (pass-goes (c .before .before .before .before .before .before .before .before .before .before .before .before .before .before .args .file .now) (c .before .before .before .before .before .before .before .before .before .before .before .before .before .before .args .clauses .now) 4096 _ (c .before .before .before .before .before .before .before .before .before .before .loop .n) (c .before .before .before .before .before .before .before .before .before .loop-test .taken) (c .before .before .before .before .before .before .before .cell .ensures) (c .before .before .before .before .before .before .if1 .left) (c .before .before .before .before .new-cell .ensures) (c .before .before .set-cell .ensures)) ∙ c .before .before .before .before .before .before .before .before .before .before .loop .inv .2)
+    (omega arith, omega arith, sym (pass-goes (c .before .before .before .before .before .before .before .before .before .before .before .before .before .before .before .args .file .now) (c .before .before .before .before .before .before .before .before .before .before .before .before .before .before .before .args .clauses .now) 4096 _ (c .before .before .before .before .before .before .before .before .before .before .before .loop .n) (c .before .before .before .before .before .before .before .before .before .before .before .loop .last) (c .before .before .before .before .before .before .before .before .before .before .loop-test .taken) (c .before .before .before .before .before .before .before .before .before .if1 .left) (c .before .before .before .before .before .before .before .cell .ensures) (c .before .before .before .before .before .new-cell .ensures) (c .before .before .before .set-cell .ensures) (c .last-after .ensures)) ∙ c .before .before .before .before .before .before .before .before .before .before .before .loop .inv .2)
 
 same-length-2 : tie.Need-same-length-2 Inv-loop μ-loop
 same-length-2 c = search needs
 
 returns-2 : tie.Need-returns-2 Inv-loop μ-loop
 returns-2 c =
-    sym (pass-done (c .before .before .before .before .before .args .file .now) (c .before .before .before .before .before .args .clauses .now) 4096 _ (c .before .loop .n) (c .loop-test .left)) ∙ c .before .loop .inv .2
+    sym (pass-done (c .before .before .before .before .before .args .file .now) (c .before .before .before .before .before .args .clauses .now) 4096 _ (c .before .loop .n) (c .before .loop .last) (c .loop-test .left)) ∙ c .before .loop .inv .2
 
 pub pass-spec : {M : Type 1} → statement M
 pass-spec =
@@ -71,13 +75,14 @@ pass-spec =
     Inv-loop
     μ-loop
     loop-holds
-    cast-cell
-    cell-requires
     same-length
     returns
+    cast-cell
+    cell-requires
     new-cell-requires
     cast-set-cell
     set-cell-requires
+    last-after-requires
     add-n
     loop-less
     loop-again
