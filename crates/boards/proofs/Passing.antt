@@ -150,6 +150,16 @@ module _ (day : ℕ) (S : State) (board : List ℕ) (few : length (derivations S
       ∙ List·getD-append (replicate (4096 - length (derivations S)) 0) (day ∷ drop 4097 board) 0 (n - length (derivations S)) (omega arith)
       ∙ getD-replicate (4096 - length (derivations S)) (n - length (derivations S)) 0 0 (omega arith)
 
+  -- From cell 4,096 on there are the day and what was there.
+  pub tail-cell : (P : Presence) (j : ℕ) → getD (boardOf day S P board) (4096 + j) 0 ≡ getD (day ∷ drop 4097 board) j 0
+  tail-cell P j =
+      let a = cells-many P in
+      let r = length-replicate {A = ℕ} (4096 - length (derivations S)) 0 in
+      let x : 4096 + j ≡ length (clauseCells day S P) + (length (replicate {A = ℕ} (4096 - length (derivations S)) 0) + j) = omega arith in
+      ap (λ (i : ℕ). getD (boardOf day S P board) i 0) x
+      ∙ getD-append-add (clauseCells day S P) after (length (replicate {A = ℕ} (4096 - length (derivations S)) 0) + j) 0
+      ∙ getD-append-add (replicate (4096 - length (derivations S)) 0) (day ∷ drop 4097 board) j 0
+
   pub board-length : (P : Presence) → length (boardOf day S P board) ≡ length board
   board-length P =
       let a = cells-many P in

@@ -1,3 +1,4 @@
 pub mod Board
 pub mod Cells
+pub mod Opening
 pub mod Promised

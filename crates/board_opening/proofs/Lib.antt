@@ -1,0 +1,2 @@
+pub mod FillSteps
+pub mod OpenedBoard
