@@ -1,12 +1,13 @@
 -- What is promised of a board holds.
-use mathlib.Core.Path.{_≡_, sym, ap, _∙_, subst}
+use mathlib.Core.Path.{_≡_, refl, sym, ap, _∙_, subst}
 use mathlib.Core.Bool.{Bool, true, false, _&&_}
-use mathlib.Core.Option.{none, some}
+use mathlib.Core.Option.{Option, none, some}
 use mathlib.Core.List.{List, [], _∷_}
 use Prim.Native.Nat.{ℕ, _+_, _*_, _%_, _≤_}
 use native.Mathlib.Omega.{arith}
-use lib.Dec.{eqb, leb}
+use lib.Dec.{eqb, leb, ltb}
 use lib.ListN.{length, getD, length-map}
+use borrow.Author.Tests.{le-ltb}
 use Rattle.record.specs.Record.{records}
 use Rattle.record.proofs.Records.{records-length, records-shaped}
 use Rattle.unification.proofs.Lists.{Each}
@@ -19,17 +20,19 @@ use Rattle.verdict.specs.Refusal.{isInput}
 use Rattle.verdict.specs.State.{State, emptyState, entry, derivations, clauseOf}
 use Rattle.verdict.specs.Step.{Ending, stateOf}
 use Rattle.verdict.specs.Tables.{Tables, tablesAfter, lengthsOf}
-use Rattle.verdict.specs.Verdict.{ending, Stands}
+use Rattle.verdict.specs.Verdict.{Verdict, check, ending, firstEmpty, longEnough, standing, stateGiven, Stands}
+use Rattle.verdict.specs.Verdict as verdict
 use Rattle.verdict.proofs.Acceptance.{first-lowest}
-use Rattle.verdict.proofs.Demanded.{demand1, long-enough, refutation-of}
+use Rattle.verdict.proofs.Demanded.{demand1, long-enough, refutation-of, stands-check}
 use Rattle.verdict.proofs.InForceShown.{uses-in-force, of-uses-in-force}
-use Rattle.verdict.proofs.Reading.{stands-ok}
+use Rattle.verdict.proofs.Reading.{reading-records, stands-ok}
 use Rattle.verdict.proofs.RangeTests.{at-most}
 use Rattle.verdict.proofs.Standing.{inputs-of}
 use Rattle.verdict.proofs.TableCells.{sizeOf, read-size}
-use Rattle.boards.specs.Board.{Presence, allPresent, changed, standsWith, answerAfresh, Call, afterCalls}
+use Rattle.boards.specs.Board.{Presence, allPresent, changed, standsWith, answerAfresh, Answer, answered, refusedWith, Call, afterCalls}
 use Rattle.boards.specs.Cells.{boardOf, callAnswer}
-use Rattle.boards.specs.Promised.{UsesPresent, UsesClause, BoardPromised}
+use Rattle.boards.specs.Opening.{stateLeft, unlessRefused, boardUnlessRefused, openingAnswer, boardOpened}
+use Rattle.boards.specs.Promised.{UsesPresent, UsesClause, boardAfterCalls, BoardPromised}
 use Rattle.boards.proofs.Calls.{all-uses, unused-same, changed-other, present-all, all-present, cell-same, boards-called, call-answered, same-inputs}
 use Rattle.boards.proofs.Parents.{Kept, stands-kept}
 
@@ -83,15 +86,58 @@ module _ (day : ℕ) (file : List ℕ) (tables : Tables) (board : List ℕ) (S :
   H : Kept file S
   H = stands-kept file S st
 
+  -- ── The opening ──
+  tables-long : longEnough (lengthsOf tables) ≡ true
+  tables-long = long-enough file tables tablesLong
+
+  state-left : stateLeft file tables ≡ S
+  state-left = ap stateGiven (reading-records file (lengthsOf tables) (st .fits) tables-long) ∙ ap stateOf (st .reads)
+
+  verdict-is : check day file (lengthsOf tables) .verdict ≡ standing (firstEmpty (usesInForce S day) (derivations S))
+  verdict-is = ap (λ (a : verdict.Answer). a .verdict) (stands-check day file tables S st tables-long)
+
+  answer-stands : (o : Option ℕ) (next : Answer) → unlessRefused (standing o) next ≡ next
+  answer-stands none next = refl
+  answer-stands (some n) next = refl
+
+  board-stands : (o : Option ℕ) (before next : List ℕ) → boardUnlessRefused (standing o) before next ≡ next
+  board-stands none before next = refl
+  board-stands (some n) before next = refl
+
+  is-long : ltb (length board) 4097 ≡ false
+  is-long = le-ltb (length board) 4097 long
+
+  opened-so : boardOpened day file tables board ≡ boardOf day S allPresent board
+  unfolding boardOpened
+  opened-so =
+      ap (λ (b : Bool). elim b [ true ↦ board | false ↦ boardUnlessRefused (check day file (lengthsOf tables) .verdict) board (boardOf day (stateLeft file tables) allPresent board) ]) is-long
+      ∙ ap (λ (v : Verdict). boardUnlessRefused v board (boardOf day (stateLeft file tables) allPresent board)) verdict-is
+      ∙ board-stands (firstEmpty (usesInForce S day) (derivations S)) board (boardOf day (stateLeft file tables) allPresent board)
+      ∙ ap (λ (X : State). boardOf day X allPresent board) state-left
+
+  first-so : openingAnswer day file tables (length board) ≡ answered (answerAfresh day S allPresent)
+  unfolding openingAnswer
+  first-so =
+      ap (λ (b : Bool). elim b [ true ↦ refusedWith 2 0 | false ↦ unlessRefused (check day file (lengthsOf tables) .verdict) (answered (answerAfresh day (stateLeft file tables) allPresent)) ]) is-long
+      ∙ ap (λ (v : Verdict). unlessRefused v (answered (answerAfresh day (stateLeft file tables) allPresent))) verdict-is
+      ∙ answer-stands (firstEmpty (usesInForce S day) (derivations S)) (answered (answerAfresh day (stateLeft file tables) allPresent))
+      ∙ ap (λ (X : State). answered (answerAfresh day X allPresent)) state-left
+
+  -- After calls.
+  after-calls : (calls : List Call) → boardAfterCalls file C (boardOpened day file tables board) calls ≡ boardOf day S (afterCalls S allPresent calls) board
+  after-calls calls = ap (λ (B : List ℕ). boardAfterCalls file C B calls) opened-so ∙ boards-called day S board few long file C H record-cells literal-cells allPresent calls
+
   pub board-promised : BoardPromised day file tables board S
   board-promised = record {
-    cells = λ calls. boards-called day S board few long file C H record-cells literal-cells allPresent calls;
+    opened = opened-so;
+    first = first-so;
+    cells = after-calls;
     sameBoard = λ calls others h.
-        boards-called day S board few long file C H record-cells literal-cells allPresent calls
+        after-calls calls
         ∙ same-inputs day S board few long file C H record-cells literal-cells (afterCalls S allPresent calls) (afterCalls S allPresent others) h uses-inputs
-        ∙ sym (boards-called day S board few long file C H record-cells literal-cells allPresent others);
+        ∙ sym (after-calls others);
     answers = λ calls call.
-        ap (λ (B : List ℕ). callAnswer file C B (call .clause) (call .present)) (boards-called day S board few long file C H record-cells literal-cells allPresent calls)
+        ap (λ (B : List ℕ). callAnswer file C B (call .clause) (call .present)) (after-calls calls)
         ∙ call-answered day S board few long file C H record-cells literal-cells (afterCalls S allPresent calls) call;
     otherClauses = λ P n b m c q h.
         let same = all-uses (λ (u : Use). changed P n b (u .0) ≡ P (u .0)) (uses c) (λ u o. changed-other P n b (u .0) (λ e. h (u, o, e))) in

@@ -4,15 +4,16 @@ use mathlib.Core.Bool.{Bool, true, false}
 use mathlib.Core.Option.{some}
 use mathlib.Core.List.{List, [], _∷_}
 use Prim.Native.Nat.{ℕ}
-use lib.ListN.{getD}
+use lib.ListN.{length, getD}
 use Rattle.derivation.specs.Derivation.{Derivation, Use, uses}
 use Rattle.verdict.specs.Conditions.{OneOf}
 use Rattle.verdict.specs.Demands.{UsesInForce, Refutation}
 use Rattle.verdict.specs.Refusal.{isInput}
 use Rattle.verdict.specs.State.{State, clauseOf}
 use Rattle.verdict.specs.Tables.{Tables, tablesAfter}
-use Rattle.boards.specs.Board.{Presence, allPresent, changed, standsWith, answerAfresh, Call, afterCalls, answerToCall}
+use Rattle.boards.specs.Board.{Presence, allPresent, changed, standsWith, answerAfresh, answered, Call, afterCalls, answerToCall}
 use Rattle.boards.specs.Cells.{boardOf, boardAfter, callAnswer}
+use Rattle.boards.specs.Opening.{openingAnswer, boardOpened}
 
 -- All input clauses that a derivation uses are present.
 abbrev pub UsesPresent : Presence → Derivation → Type 0
@@ -29,14 +30,17 @@ boardAfterCalls F C B (call ∷ calls) = boardAfterCalls F C (boardAfter F C B (
 
 -- S is what the file leaves, and the tables are as its check left them.
 pub record BoardPromised (day : ℕ) (file : List ℕ) (tables : Tables) (board : List ℕ) (S : State) : Type 0 where
+  -- The board that is opened is that of all input clauses present, and its answer is the one worked out afresh.
+  pub opened : boardOpened day file tables board ≡ boardOf day S allPresent board
+  pub first : openingAnswer day file tables (length board) ≡ answered (answerAfresh day S allPresent)
   -- After whatever calls the board is that of the input clauses now present,
-  pub cells : (calls : List Call) → boardAfterCalls file (tablesAfter file tables .clauses) (boardOf day S allPresent board) calls ≡ boardOf day S (afterCalls S allPresent calls) board
+  pub cells : (calls : List Call) → boardAfterCalls file (tablesAfter file tables .clauses) (boardOpened day file tables board) calls ≡ boardOf day S (afterCalls S allPresent calls) board
   -- so that calls in any order that come to the same present clauses come to the same board.
   pub sameBoard : (calls others : List Call) → ((n : ℕ) → isInput (clauseOf S n) ≡ true → afterCalls S allPresent calls n ≡ afterCalls S allPresent others n)
-      → boardAfterCalls file (tablesAfter file tables .clauses) (boardOf day S allPresent board) calls ≡ boardAfterCalls file (tablesAfter file tables .clauses) (boardOf day S allPresent board) others
+      → boardAfterCalls file (tablesAfter file tables .clauses) (boardOpened day file tables board) calls ≡ boardAfterCalls file (tablesAfter file tables .clauses) (boardOpened day file tables board) others
   -- Each answer is the one worked out afresh from the clauses present before the call.
   pub answers : (calls : List Call) (call : Call)
-      → callAnswer file (tablesAfter file tables .clauses) (boardAfterCalls file (tablesAfter file tables .clauses) (boardOf day S allPresent board) calls) (call .clause) (call .present)
+      → callAnswer file (tablesAfter file tables .clauses) (boardAfterCalls file (tablesAfter file tables .clauses) (boardOpened day file tables board) calls) (call .clause) (call .present)
       ≡ answerToCall day S (afterCalls S allPresent calls) call
   -- A call about one clause alters no clause that does not use it: neither its standing nor its cell.
   pub otherClauses : (P : Presence) (n : ℕ) (present : Bool) (m : ℕ) (c : Derivation) → clauseOf S m ≡ some c → ¬ UsesClause c n

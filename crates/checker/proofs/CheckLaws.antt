@@ -23,11 +23,10 @@ use Rattle.verdict.specs.Step.{Ending, allStand, refusedAt, stateOf}
 use Rattle.verdict.specs.Tables.{Tables, cellsOfClause, clauseCells, filledTables, bindingsOf}
 use Rattle.verdict.specs.Verdict.{verdictNumbers, answerNumbers, isEmpty, firstEmpty, standing, verdictOf, answerOf, ending}
 use Rattle.verdict.proofs.Acceptance.{cells-length}
-use Rattle.verdict.proofs.Inversions.{entry-below, entry-more, entry-new}
+use Rattle.verdict.proofs.Inversions.{entry-more, entry-new}
 use Rattle.force.specs.Flags.{flagsInForce}
-use Rattle.force.proofs.FlagLaws.{clause-flag}
-use Rattle.inference.proofs.KeptClauses.{stand-of, stored-of}
-use Rattle.entry.proofs.Kept.{Sizes, sizes, fitting-records}
+use Rattle.force.proofs.KeptFlags.{kept-flag}
+use Rattle.entry.proofs.Kept.{Sizes, sizes}
 use Rattle.entry.specs.declared.entry.Counts.{Counts}
 use Rattle.answer.specs.declared.Ended.{Ended}
 use Rattle.answer.specs.declared.Ended.the-variants.{All, Refused}
@@ -99,9 +98,7 @@ module _ (day : ℕ) (F : List ℕ) (t : Tables) (here : Tables) (a : Answer) wh
   flags-kept : (S : State) (N O A : List ℕ) → ReadTo F t S here N O A → ending F ≡ allStand S → (n : ℕ) (d : Derivation) → clauseOf S n ≡ some d → getD (flagsInForce day F O (length (S .clauses)) allSet) n 0 ≡ pick (usesInForce S day d) 1 0
   unfolding allSet
   flags-kept S N O A X q n d p =
-      let many : length (S .clauses) ≤ 4096 = omega (arith, stand-of (X .kept) (X .few) .tally .total, X .few, fitting-records F (X .kept .fit)) in
-      let below : n < length (S .clauses) = subst (λ (m : ℕ). n < m) (length-map (S .clauses) (λ (c : ℕ × Derivation). c .1)) (entry-below (derivations S) n d p) in
-      clause-flag day F S (record { fits = X .kept .fit; reads = q }) O (here .clauses) (here .bindings) (length (S .clauses)) many n d below (stored-of (X .kept) (X .few) n d p)
+      kept-flag day F t S here N O A X (record { fits = X .kept .fit; reads = q }) n d p
 
   all-read-numbers : (n : Counts) (S : State) (N O A : List ℕ) → n ≡ countsOf S → ending F ≡ allStand S → ReadTo F t S here N O A → answerGiven a ≡ endedNumbers day F (All n) (here .clauses) O → FileRead day F t a here
   all-read-numbers n S N O A c q X p = record {
