@@ -1,6 +1,9 @@
-// The check of a proof file, its readout, which clause covers which and the merge of two files, for C. The definitions are in the crate exported: `Exported`
-// says what `checker_check` promises, `ExportedWith` what `checker_check_with`, `ExportedReadout` what `checker_readout`, `ExportedCovers` what
-// `checker_covers` and `ExportedMerge` what `checker_merge` does, and checker.h has their declarations.
+// The check of a proof file, its readout, which clause covers which, the merge of two files and the board of a file, for C. The definitions are in the crate exported:
+// `Exported` says what `checker_check` promises, `ExportedWith` what `checker_check_with`, `ExportedReadout` what `checker_readout`, `ExportedCovers` what
+// `checker_covers` and `ExportedMerge` what `checker_merge` does; `ExportedBoard` of the crate board_c has the three functions of the board. checker.h has their declarations.
+use board_c::open_to_cells;
+use board_c::return_to_cells;
+use board_c::withdraw_to_cells;
 use check_c::check_to_cells;
 use check_with_c::check_with_to_cells;
 use covers_c::covers_to_cells;
@@ -9,6 +12,7 @@ use following::nodes::Origins;
 use following::values::ValueCells;
 use merge_c::merge_to_cells;
 use readout_c::readout_to_cells;
+ghost use mathlib.Core.Bool.{true, false};
 ghost use Rattle.entry.specs.Progress.{tablesWith};
 ghost use Rattle.checker.specs.Contract.{workspaceWith};
 ghost use Rattle.exported.specs.Exported.{Exported};
@@ -16,6 +20,7 @@ ghost use Rattle.exported.specs.ExportedWith.{ExportedWith};
 ghost use Rattle.exported.specs.ExportedReadout.{ExportedReadout};
 ghost use Rattle.exported.specs.ExportedCovers.{ExportedCovers};
 ghost use Rattle.exported.specs.ExportedMerge.{ExportedMerge};
+ghost use Rattle.board_c.specs.ExportedBoard.{ExportedOpening, ExportedCall};
 
 // The check of a file on a day, with the answer in seven cells. Where `answer` has fewer, nothing is touched.
 #[no_mangle]
@@ -132,4 +137,49 @@ pub extern "C" fn checker_merge(
         output,
         answer,
     );
+}
+
+// The board of a file opened on a day, with the answer in three cells. Where `answer` has fewer, nothing is touched.
+#[no_mangle]
+pub extern "C" fn checker_board_open(
+    day: u16,
+    file: &[u8],
+    symbols: &mut [u16],
+    rows: &mut [u16],
+    clauses: &mut [u16],
+    bindings: &mut [u16],
+    board: &mut [u16],
+    answer: &mut [u16],
+)
+    ensures { λ _. ⌜ ExportedOpening day (now (file .entry)) (tablesWith (now (symbols .entry)) (now (rows .entry)) (now (clauses .entry)) (now (bindings .entry))) (now (board .entry)) (now (answer .entry)) (tablesWith (now (symbols .exit)) (now (rows .exit)) (now (clauses .exit)) (now (bindings .exit))) (now (board .exit)) (now (answer .exit)) ⌝ }
+{
+    open_to_cells(day, file, symbols, rows, clauses, bindings, board, answer);
+}
+
+// An input clause of a board withdrawn, with the answer in three cells. Where `answer` has fewer, nothing is touched.
+#[no_mangle]
+pub extern "C" fn checker_board_withdraw(
+    file: &[u8],
+    clauses: &[u16],
+    board: &mut [u16],
+    clause: u16,
+    answer: &mut [u16],
+)
+    ensures { λ _. ⌜ ExportedCall (now (file .entry)) (now (clauses .entry)) (now (board .entry)) clause false (now (answer .entry)) (now (board .exit)) (now (answer .exit)) ⌝ }
+{
+    withdraw_to_cells(file, clauses, board, clause, answer);
+}
+
+// The same for one that is returned.
+#[no_mangle]
+pub extern "C" fn checker_board_return(
+    file: &[u8],
+    clauses: &[u16],
+    board: &mut [u16],
+    clause: u16,
+    answer: &mut [u16],
+)
+    ensures { λ _. ⌜ ExportedCall (now (file .entry)) (now (clauses .entry)) (now (board .entry)) clause true (now (answer .entry)) (now (board .exit)) (now (answer .exit)) ⌝ }
+{
+    return_to_cells(file, clauses, board, clause, answer);
 }
