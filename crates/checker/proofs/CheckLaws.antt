@@ -22,8 +22,8 @@ use Rattle.verdict.specs.State.{State, entry, derivations, clauseOf}
 use Rattle.verdict.specs.Step.{Ending, allStand, refusedAt, stateOf}
 use Rattle.verdict.specs.Tables.{Tables, cellsOfClause, clauseCells, filledTables, bindingsOf}
 use Rattle.verdict.specs.Verdict.{verdictNumbers, answerNumbers, isEmpty, firstEmpty, standing, verdictOf, answerOf, ending}
-use Rattle.verdict.proofs.Acceptance.{cells-length}
-use Rattle.verdict.proofs.Inversions.{entry-below, entry-more, entry-new}
+use Rattle.demands.proofs.Acceptance.{cells-length}
+use Rattle.demands.proofs.Inversions.{entry-below, entry-more, entry-new}
 use Rattle.force.specs.Flags.{flagsInForce}
 use Rattle.force.proofs.FlagLaws.{clause-flag}
 use Rattle.inference.proofs.KeptClauses.{stand-of, stored-of}

@@ -17,13 +17,13 @@ use Rattle.inference.proofs.KeptClauses.{nodes-room, origins-room}
 use Rattle.verdict.specs.Tables.{Tables, lengthsOf, tablesAfter}
 use Rattle.verdict.specs.Verdict.{check, answerNumbers, longEnough, fittingLength, Reading, untouched, readTo, reading}
 use Rattle.verdict.specs.Verdict as verdicts
-use Rattle.verdict.proofs.OutlinesShown.{outlines-shown}
-use Rattle.verdict.proofs.RepeatsShown.{repeats-shown}
-use Rattle.verdict.proofs.SeveralShown.{several-shown}
-use Rattle.verdict.proofs.TotalShown.{bindings-held}
-use Rattle.verdict.proofs.DaysShown.{days-only-choose}
-use Rattle.verdict.proofs.LiftingShown.{nothing-lost}
-use Rattle.verdict.proofs.Demanded.{check-length, check-tables, check-reads, tables-length, tables-short, tables-read, demand1, demand2, demand3}
+use Rattle.demands.proofs.OutlinesShown.{outlines-shown}
+use Rattle.demands.proofs.RepeatsShown.{repeats-shown}
+use Rattle.demands.proofs.SeveralShown.{several-shown}
+use Rattle.demands.proofs.TotalShown.{bindings-held}
+use Rattle.demands.proofs.DaysShown.{days-only-choose}
+use Rattle.demands.proofs.LiftingShown.{nothing-lost}
+use Rattle.demands.proofs.Demanded.{check-length, check-tables, check-reads, tables-length, tables-short, tables-read, demand1, demand2, demand3}
 use borrow.Author.Tests.{not-false, not-true}
 use Rattle.answer.specs.declared.Answer.{Answer}
 use Rattle.answer.specs.declared.Verdict.the-variants as verdict

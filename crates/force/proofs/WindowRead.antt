@@ -17,9 +17,9 @@ use Rattle.verdict.specs.Refusal.{outOfRange, notThere, crossedDays, reasonNumb
 use Rattle.verdict.specs.State.{State, withWindow, derivations, clauseOf}
 use Rattle.verdict.specs.Step.{stands, require, windowIn, step}
 use Rattle.verdict.specs.Tables.{Tables}
-use Rattle.verdict.proofs.ExistenceTests.{entry-there}
-use Rattle.verdict.proofs.Resolution.{at-kind}
-use Rattle.verdict.proofs.Tabled.{origin-length}
+use Rattle.demands.proofs.ExistenceTests.{entry-there}
+use Rattle.demands.proofs.Resolution.{at-kind}
+use Rattle.demands.proofs.Tabled.{origin-length}
 use Rattle.entry.proofs.Kept.{kept-next}
 use Rattle.entry.proofs.NodeTable.{zeros-read}
 use Rattle.inference.proofs.KeptClauses.{stand-of, stored-of}

@@ -19,7 +19,7 @@ use Rattle.clauses.specs.Named.{namedLiteral}
 use Rattle.verdict.specs.Refusal.{literalsIn, equalSigns, allOpposite}
 use Rattle.verdict.specs.State.{derivations, clauseOf}
 use Rattle.verdict.specs.Step.{atoms}
-use Rattle.verdict.proofs.Inversions.{entry-none, entry-some}
+use Rattle.demands.proofs.Inversions.{entry-none, entry-some}
 use Rattle.inference.specs.Rights.{AtomListed, rightsAnswer, RightsNamed}
 use Rattle.inference.specs.Stepping.{ClausesStored}
 use Rattle.clauses.specs.declared.literal.NamedLiteral.{NamedLiteral}

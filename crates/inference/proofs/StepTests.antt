@@ -21,9 +21,9 @@ use Rattle.verdict.specs.State.{State, entry, derivations, clauseOf, rowOf}
 use Rattle.verdict.specs.Step.{refused, require, step, enterResolvent, enter}
 use Rattle.inference.specs.Stepping.{BeforeStep, AtomOf, ClausesStored, namedAnswer, signedAtom, pairAnswer, ResolveKind, ResolveNamed, FactorNamed, StepRead}
 use Rattle.inference.specs.Rights.{rightsAnswer, RightsNamed, refusalOf, RightsTested}
-use Rattle.verdict.proofs.Inversions.{literal-named, literals-named, entry-none, entry-some}
-use Rattle.verdict.proofs.RangeTests.{several-fits, IsResolve, on-one, on-several}
-use Rattle.verdict.proofs.Resolution.{at-kind, step-resolve}
+use Rattle.demands.proofs.Inversions.{literal-named, literals-named, entry-none, entry-some}
+use Rattle.demands.proofs.RangeTests.{several-fits, IsResolve, on-one, on-several}
+use Rattle.demands.proofs.Resolution.{at-kind, step-resolve}
 use Rattle.inference.proofs.StepLaws.{clause-count, stored-of, order-in, origins-room}
 use Rattle.clauses.specs.declared.literal.NamedLiteral.{NamedLiteral}
 use Rattle.clauses.specs.declared.literal.NamedLiteral.the-variants.{Found, Absent}

@@ -27,9 +27,9 @@ use Rattle.clauses.specs.declared.literal.NamedLiteral.the-variants.{Found, Abs
 use Rattle.verdict.specs.Refusal.{mostLiterals}
 use Rattle.verdict.specs.State.{State, entry, derivations, clauseOf, rowOf, termOf}
 use Rattle.verdict.specs.Tables.{Tables}
-use Rattle.verdict.proofs.Inversions.{not-equal}
-use Rattle.verdict.proofs.Reading.{term-of-row}
-use Rattle.verdict.proofs.Standing.{StateOk, order-of}
+use Rattle.demands.proofs.Inversions.{not-equal}
+use Rattle.demands.proofs.Reading.{term-of-row}
+use Rattle.demands.proofs.Standing.{StateOk, order-of}
 use Rattle.entry.specs.Progress.{ReadTo, tablesWith}
 use Rattle.entry.proofs.Kept.{fitting-records}
 use Rattle.inference.proofs.KeptClauses as kept

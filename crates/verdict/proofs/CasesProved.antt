@@ -1,4 +1,4 @@
--- The case sheet and the edges of the limits, by computing; and the lengths, for every file.
+-- The case sheet and the edges of the limits, by computing.
 use mathlib.Core.Path.{_≡_, refl, sym, _∙_, ap, fun-ext}
 use mathlib.Core.Bool.{Bool, true, false}
 use mathlib.Core.List.{List, [], _∷_, _++_, map}
@@ -13,19 +13,17 @@ use Rattle.unification.specs.Row.{Row, application, rowAt}
 use Rattle.unification.specs.Unification.{mostWork, mostBindings, mostLinks, overwork, unified, failed, unifying, run}
 use Rattle.unification.proofs.Failures.{reached-run}
 use Rattle.unification.proofs.Limits.{work-16384}
-use Rattle.unification.proofs.Tests.{true-not-false}
 use Rattle.unification.proofs.Trees as trees
 use Rattle.derivation.specs.Derivation.{input, inputLiterals}
-use Rattle.verdict.specs.Cases.{recordOf, inputClause, nines, holding, Case, works, caseOf, cases, StoredAsBytes, CasesHold, refusedForLength, LengthsHold}
-use Rattle.verdict.specs.Edges.{answerTo, ranges, unusedFields, outlines, severalLiterals, indexEdge, literalEdge, workEdge, eights, EdgesHold, WindowsHold, ShortTablesHold, TextsHold}
+use Rattle.verdict.specs.Cases.{recordOf, inputClause, nines, holding, Case, works, caseOf, cases, StoredAsBytes, CasesHold}
+use Rattle.verdict.specs.Edges.{answerTo, ranges, unusedFields, outlines, severalLiterals, indexEdge, literalEdge, workEdge, eights, EdgesHold, RoomsHold, WindowsHold, ShortTablesHold, TextsHold}
 use Rattle.verdict.specs.Readout.{linesOf, joinedLines, readout, readoutLines}
 use Rattle.verdict.specs.Refusal.{unification, mostLiterals, mostIndex}
 use Rattle.verdict.specs.State.{State, emptyState, derivations}
 use Rattle.verdict.specs.Step.{Ending, allStand, refusedAt, require, requireAll, enter, onNamed, step, read, addClause, stateOf}
 use Rattle.verdict.specs.Tables.{Tables, lengthsOf, symbolCells, rowCells, clauseCells, bindingCells, filled, filledTables, tablesGiven, tablesAfter}
 use Rattle.verdict.specs.Verdict.{refusal, verdictOf, leastLengths, check, answerNumbers, longEnough, answerOf, verdictGiven, stateGiven, Lengths, fittingLength, ending, Reading, untouched, readTo, reading}
-use Rattle.verdict.proofs.Demanded.{length-only}
-use Rattle.verdict.proofs.Reading.{reading-records, read-on}
+use Rattle.verdict.proofs.Endings.{reading-records, read-on}
 
 -- ── The case sheet: its tables are compared by the cells that they start with ──
 
@@ -224,6 +222,10 @@ several-hold = refl
 pub edges-hold : EdgesHold
 edges-hold = λ i. ranges-hold i ++ (unused-hold i ++ (index-edge i ∷ literal-edge i ∷ (answered workEdge work-fits ∙ work-numbers) i ∷ (outlines-hold i ++ several-hold i)))
 
+pub rooms-hold : RoomsHold
+unfolding require addClause clashWithin mostOutlinePairs run mostWork mostBindings mostLinks mostLiterals mostIndex
+rooms-hold = refl
+
 pub windows-hold : WindowsHold
 unfolding fileBytes recordBytes records check ending require addClause clashWithin mostOutlinePairs run mostWork mostBindings mostLinks mostLiterals mostIndex
 windows-hold = refl
@@ -256,18 +258,7 @@ short-tables-hold = record {
       ∷ short-untouched 4096 4096 20479 32768 refl i ∷ short-untouched 4096 4096 20480 32767 refl i ∷ [];
 }
 
--- ── The readout, and the lengths of files ──
+-- ── The readout ──
 
 pub texts-hold : TextsHold
 texts-hold = record { digits = refl; occurrences64 = refl; occurrences65 = refl }
-
-bad-length : (day : ℕ) (file : List ℕ) (lengths : Lengths) → fittingLength (length file) ≡ false → answerNumbers (check day file lengths) ≡ refusedForLength
-unfolding check
-bad-length day file lengths f = rw f
-
-pub lengths-hold : LengthsHold
-lengths-hold = record {
-  longest = λ day file tables k l z. true-not-false (rw l refl) (length-only day file tables k z);
-  fifteen = λ day file lengths l. bad-length day file lengths (rw l refl);
-  tooLong = λ day file lengths l. bad-length day file lengths (rw l refl);
-}
