@@ -1,6 +1,6 @@
-// The check of a proof file, its readout, which clause covers which and the merge of two files, for C. The definitions are in the crate exported: `Exported`
-// says what `checker_check` promises, `ExportedWith` what `checker_check_with`, `ExportedReadout` what `checker_readout`, `ExportedCovers` what
-// `checker_covers` and `ExportedMerge` what `checker_merge` does, and checker.h has their declarations.
+// The check of a proof file, its readout, which clause covers which and the merge of two files, for C. In the crate exported, `Exported`
+// says what `checker_check` promises and `ExportedWith` what `checker_check_with` does; in exported_readout, exported_covers and exported_merge,
+// `ExportedReadout`, `ExportedCovers` and `ExportedMerge` say it of `checker_readout`, `checker_covers` and `checker_merge`. checker.h has their declarations.
 use check_c::check_to_cells;
 use check_with_c::check_with_to_cells;
 use covers_c::covers_to_cells;
@@ -13,9 +13,9 @@ ghost use Rattle.entry.specs.Progress.{tablesWith};
 ghost use Rattle.checker.specs.Contract.{workspaceWith};
 ghost use Rattle.exported.specs.Exported.{Exported};
 ghost use Rattle.exported.specs.ExportedWith.{ExportedWith};
-ghost use Rattle.exported.specs.ExportedReadout.{ExportedReadout};
-ghost use Rattle.exported.specs.ExportedCovers.{ExportedCovers};
-ghost use Rattle.exported.specs.ExportedMerge.{ExportedMerge};
+ghost use Rattle.exported_readout.specs.ExportedReadout.{ExportedReadout};
+ghost use Rattle.exported_covers.specs.ExportedCovers.{ExportedCovers};
+ghost use Rattle.exported_merge.specs.ExportedMerge.{ExportedMerge};
 
 // The check of a file on a day, with the answer in seven cells. Where `answer` has fewer, nothing is touched.
 #[no_mangle]

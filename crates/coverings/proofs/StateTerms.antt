@@ -20,7 +20,7 @@ use Rattle.derivation.specs.Derivation.{literals, input, RowLiteral, literalOf,
 use Rattle.derivation.specs.Ground.{Ground, argumentCount, WellFormed, AllWellFormed}
 use Rattle.derivation.specs.Stored.{originCode, originNumbers, literalsCell, Stored, storedInput, storedResolve, storedFactor}
 use Rattle.derivation.proofs.Literals.{map-numbered, each-numbered}
-use Rattle.clauses.proofs.Numbers.{numbered-take, numbered-origin}
+use Rattle.named_literals.proofs.Numbers.{numbered-take, numbered-origin}
 use Rattle.entry.specs.Progress.{Kept}
 use Rattle.entry.specs.declared.entry.Counts.{Counts}
 use Rattle.entry.proofs.NodeTable.{variable-row, application-row, argument-at}

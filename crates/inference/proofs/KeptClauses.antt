@@ -24,7 +24,7 @@ use Rattle.derivation.specs.Stored.{originTableOf, literalsCell, indexCell, Sto
 use Rattle.derivation.proofs.Known.{Known, KnownRows, KnownEnvironment, known-numbered, known-lookup}
 use Rattle.derivation.proofs.Literals.{each-numbered, LiteralIn, literals-in}
 use Rattle.loading.proofs.LoadedModels.{cleared-free, factor-models}
-use Rattle.clauses.proofs.Origins.{stored-cells}
+use Rattle.named_literals.proofs.Origins.{stored-cells}
 use Rattle.derivation.proofs.OwnBindings.{BindingThere, FreeIn, BindingsThere, bindings-there}
 use Rattle.entry.specs.Progress.{Kept}
 use Rattle.verdict.specs.Refusal.{mostIndex}

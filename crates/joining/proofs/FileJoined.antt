@@ -24,7 +24,8 @@ use Rattle.merging.specs.Answer.{Merge, written, refusedWith, mergeNumbers, fir
 use Rattle.merging.specs.Merging.{isSymbol, isRow, isClause, isStep, howMany, shifted, symbolsAfter, unless, withoutSymbols, merged, mergedFile}
 use Rattle.merging.proofs.Counting.{stands-counted}
 use Rattle.merging.proofs.ShiftedFits.{shifted-fit}
-use Rattle.shifting.specs.Shifting.{wrapped, shiftedBytes, placedAt, SecondWritable, SecondWritten}
+use Rattle.raising.specs.Wrapped.{wrapped}
+use Rattle.shifting.specs.Shifting.{shiftedBytes, placedAt, SecondWritable, SecondWritten}
 use Rattle.joining.specs.Given.{mergeGiven}
 use Rattle.joining.specs.Joined.{tooMany, BothStand, Joinable, FileWritten, Joined}
 use Rattle.joining.specs.declared.MergeOutcome as given

@@ -16,14 +16,14 @@ use Rattle.unification.specs.Term.{Term}
 use Rattle.unification.specs.ValueArray.{InStep, Models}
 use Rattle.derivation.specs.Derivation.{literals, Literal, Derivation, numbered, maximumIndex, lookup}
 use Rattle.loading.specs.Loaded.{Loadable, Loaded}
-use Rattle.clauses.specs.Named.{namedLiteral}
+use Rattle.named_literals.specs.Named.{namedLiteral}
 use Rattle.derivation.specs.Stored.{literalsCell, indexCell, Stored}
 use Rattle.derivation.specs.Written.{substitution, writtenLiteral, written}
-use Rattle.clauses.proofs.Numbers.{raise-named-zero}
-use Rattle.clauses.proofs.Origins.{stored-cells}
+use Rattle.named_literals.proofs.Numbers.{raise-named-zero}
+use Rattle.named_literals.proofs.Origins.{stored-cells}
 use Rattle.derivation.proofs.Values.{writes-out}
-use Rattle.clauses.specs.declared.literal.NamedLiteral.{NamedLiteral}
-use Rattle.clauses.specs.declared.literal.NamedLiteral.the-variants.{Found, Absent}
+use Rattle.named_literals.specs.declared.NamedLiteral.{NamedLiteral}
+use Rattle.named_literals.specs.declared.NamedLiteral.the-variants.{Found, Absent}
 use Rattle.verdict.specs.Refusal.{mostLiterals}
 use Rattle.verdict.specs.State.{State, entry, derivations, clauseOf, rowOf, termOf}
 use Rattle.verdict.specs.Tables.{Tables}

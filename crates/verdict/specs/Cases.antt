@@ -419,20 +419,16 @@ caseRepeatedLiteral = record {
   readout = lines ("open" ∷ "0 1 +s0(v0.1) +s0(v0.1)" ∷ "1 1 +s0(v0.1)" ∷ []);
 }
 
--- A row in record 256, the first whose number takes two bytes: the table of rows has the whole number.
-abbrev pub caseRecord256 : Case
-caseRecord256 = record {
-  day = 0;
-  file = fileBytes (replicate 256 (symbolOf 0) ++ (variableRow 0 ∷ []));
-  answer = 0 ∷ 0 ∷ 0 ∷ 256 ∷ 1 ∷ 0 ∷ 0 ∷ [];
-  tables = holding (numbersFrom 0 256) (256 ∷ []) [] [];
-  work = [];
-  readout = lines ("open" ∷ []);
-}
+-- The table: the cases before the two of the longest files, these, and the cases after them.
+abbrev pub casesBefore : List Case
+casesBefore = caseA ∷ caseB ∷ caseC ∷ []
+
+abbrev pub casesAfter : List Case
+casesAfter =
+    caseD ∷ caseE ∷ caseF ∷ caseG ∷ caseGBad ∷ caseH ∷ caseI ∷ caseJ ∷ caseRepeats ∷ caseSeveral ∷ caseSides ∷ caseInOrder ∷ caseInSeason ∷ caseOutOfSeason ∷ caseTwice ∷ caseRepeatedLiteral ∷ caseK ∷ []
 
 abbrev pub cases : List Case
-cases =
-    caseA ∷ caseB ∷ caseC ∷ caseLongest ∷ caseTooLong ∷ caseD ∷ caseE ∷ caseF ∷ caseG ∷ caseGBad ∷ caseH ∷ caseI ∷ caseJ ∷ caseRepeats ∷ caseSeveral ∷ caseSides ∷ caseInOrder ∷ caseInSeason ∷ caseOutOfSeason ∷ caseTwice ∷ caseRepeatedLiteral ∷ caseRecord256 ∷ caseK ∷ []
+cases = casesBefore ++ (caseLongest ∷ caseTooLong ∷ casesAfter)
 
 -- The definitions give what is written.
 abbrev pub CasesHold : Type 0

@@ -13,9 +13,9 @@ use Rattle.unification.specs.Term.{Term, var, app, nil, cons}
 use Rattle.derivation.specs.Derivation.{input}
 use Rattle.verdict.specs.Cases.{recordOf, symbolOf, variableRow, applicationRow, inputClause, resolveStep, factorStep, numbersFrom, textBytes}
 use Rattle.verdict.specs.Refusal.{reasonNumber}
-use Rattle.verdict.specs.State.{State}
+use Rattle.verdict.specs.State.{State, emptyState, withRow}
 use Rattle.verdict.specs.Step.{stands, refused, Result, step}
-use Rattle.verdict.specs.Tables.{Tables, lengthsOf, tablesAfter}
+use Rattle.verdict.specs.Tables.{Tables, lengthsOf, rowCells, tablesAfter}
 use Rattle.verdict.specs.Text.{decimal, signText, termText, literalText}
 use Rattle.verdict.specs.Verdict.{check, answerNumbers, leastLengths}
 
@@ -175,6 +175,10 @@ rooms =
 
 abbrev pub RoomsHold : Type 0
 RoomsHold = map (λ e. stepNumbers (step (holdingBindings (e .0)) 8 (e .1))) rooms ≡ map (λ e. e .2) rooms
+
+-- A row in record 256, the first whose number takes two bytes: the table of rows has the whole number.
+abbrev pub FarRowHolds : Type 0
+FarRowHolds = rowCells (withRow emptyState 256 (variable 0)) ≡ 256 ∷ []
 
 -- Document 02, Q-6: clause 0 is +s0, clause 1 is -s0, and clause 2, their resolvent, is empty; then come other records. With days 10 to 20 for clause 0
 -- the days 9, 10, 20 and 21, and with them for clause 1, the right parent, 9 and 10; day 10 alone, and the days about it; days 30 to 40 after 10 to 20,
