@@ -4,7 +4,8 @@
  * Link with libchecker_c.a. All functions are proved to meet their contracts,
  * for every day, every file and whatever else they are lent (Exported.antt,
  * ExportedWith.antt, ExportedReadout.antt, ExportedCovers.antt and
- * ExportedMerge.antt in specs/ of the crate exported).
+ * ExportedMerge.antt in specs/ of the crates exported, exported_readout,
+ * exported_covers and exported_merge).
  * They never fail, never block, ask for no memory and keep nothing between calls.
  *
  * That they come to an end asks for a stack of 8 MiB: call them on a thread

@@ -14,7 +14,7 @@ use Rattle.unification.proofs.Tests.{to-T}
 use Rattle.derivation.specs.Stored.{literalsCell}
 use Rattle.answer.specs.Given.{verdictCoded, answerGiven, numbersWith, untouchedNumbers, accepts, firstAccepted, standingNumbers, allSet, endedNumbers}
 use Rattle.verdict.specs.Verdict.{verdictNumbers, standing}
-use Rattle.verdict.proofs.Inversions.{not-below}
+use Rattle.demands.proofs.Inversions.{not-below}
 use Rattle.force.specs.Flags.{flagsInForce}
 use Rattle.entry.specs.declared.entry.Counts.{Counts}
 use Rattle.answer.specs.declared.Ended.{Ended}

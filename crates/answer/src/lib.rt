@@ -1,12 +1,11 @@
 // The answer: the verdict and the counts, and how they come from the way in which reading ended. `Given` in specs/ says which seven
 // numbers of document 01 an answer stands for.
-pub mod lengths;
 pub mod numbers;
 
 use clauses::literals_cell;
 use entry::entry::Counts;
+use flagging::in_force;
 use following::nodes::Origins;
-use force::flags::in_force;
 use tables::cell;
 ghost use mathlib.Core.Path.{_≡_};
 ghost use lib.ListN.{length};

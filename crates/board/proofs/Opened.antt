@@ -11,8 +11,8 @@ use borrow.Author.Tests.{lt-ltb, le-ltb}
 use Rattle.record.specs.Record.{pick}
 use Rattle.unification.proofs.Tests.{true-not-false}
 use Rattle.derivation.specs.Derivation.{Derivation, Use, uses}
-use Rattle.verdict.specs.Conditions.{TableShort}
-use Rattle.verdict.specs.Demands.{TablesHold}
+use Rattle.demands.specs.Conditions.{TableShort}
+use Rattle.demands.specs.Demands.{TablesHold}
 use Rattle.verdict.specs.Force.{usesInForce}
 use Rattle.verdict.specs.Refusal.{Reason, reasonNumber}
 use Rattle.verdict.specs.State.{State, entry, derivations, clauseOf}
@@ -20,8 +20,8 @@ use Rattle.verdict.specs.Step.{stateOf}
 use Rattle.verdict.specs.Tables.{Tables, lengthsOf, tablesAfter}
 use Rattle.verdict.specs.Verdict.{Verdict, accepted, open′, refusal, verdictNumbers, check, firstEmpty, longEnough, standing, stateGiven, ending, Stands}
 use Rattle.verdict.specs.Verdict as definition
-use Rattle.verdict.proofs.Demanded.{demand1, not-refused, stands-check, tables-fail}
-use Rattle.verdict.proofs.Reading.{reading-records}
+use Rattle.demands.proofs.Demanded.{demand1, not-refused, stands-check, tables-fail}
+use Rattle.verdict.proofs.Endings.{reading-records}
 use Rattle.answer.specs.Given.{verdictCoded, verdictStands, allSet}
 use Rattle.answer.specs.declared.Answer as answer
 use Rattle.answer.specs.declared.Verdict as verdict
@@ -29,7 +29,7 @@ use Rattle.answer.specs.declared.Verdict.the-variants as verdicts
 use Rattle.answer.proofs.GivenNumbers.{verdict-given, clauses-given, stands-not-refused, refused-given}
 use Rattle.entry.specs.Progress.{ReadTo, tablesWith}
 use Rattle.force.specs.Flags.{flagsInForce}
-use Rattle.force.proofs.KeptFlags.{few-clauses, kept-flag}
+use Rattle.file_reading.proofs.KeptFlags.{few-clauses, kept-flag}
 use Rattle.checker.specs.Contract.{Checked, CheckedWith, workspaceWith}
 use Rattle.boards.specs.Board.{allPresent, allStand, standsWith, answerAfresh, Answer, answered, refusedWith, answerNumbers}
 use Rattle.boards.specs.Cells.{boardOf}

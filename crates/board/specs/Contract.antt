@@ -4,7 +4,7 @@ use mathlib.Core.Path.{_≡_}
 use mathlib.Core.List.{List}
 use Prim.Native.Nat.{ℕ, _≤_}
 use lib.ListN.{length}
-use Rattle.verdict.specs.Conditions.{TableShort}
+use Rattle.demands.specs.Conditions.{TableShort}
 use Rattle.verdict.specs.State.{State}
 use Rattle.verdict.specs.Tables.{Tables}
 use Rattle.verdict.specs.Verdict.{Stands}

@@ -1,10 +1,10 @@
--- The three cells of an answer of a board, and the contracts of the exported functions from their own.
+-- The contracts of the exported functions of a board from their own.
 use mathlib.Core.Path.{_≡_, refl, ap, _∙_}
 use mathlib.Core.Bool.{Bool}
-use mathlib.Core.List.{List, [], _∷_, _++_}
+use mathlib.Core.List.{List, _++_}
 use Prim.Native.Nat.{ℕ, _<_, _≤_}
 use native.Mathlib.Omega.{arith}
-use lib.ListN.{length, drop, set}
+use lib.ListN.{length, drop}
 use Rattle.verdict.specs.Tables.{Tables}
 use Rattle.boards.proofs.BoardShown.{board-promised}
 use Rattle.board_cells.specs.Given.{boardGiven}
@@ -12,16 +12,6 @@ use Rattle.board_cells.specs.declared.lowest.BoardAnswer.{BoardAnswer}
 use Rattle.board_calls.specs.Called.{BoardCalled}
 use Rattle.board.specs.Contract.{BoardOpened}
 use Rattle.board_c.specs.ExportedBoard.{ExportedOpening, ExportedCall}
-
--- Three stores put three numbers before the rest.
-three : (xs : List ℕ) (a b c : ℕ) → 3 ≤ length xs → set (set (set xs 0 a) 1 b) 2 c ≡ a ∷ b ∷ c ∷ drop 3 xs
-three (_ ∷ _ ∷ _ ∷ xs) a b c l = refl
-three (_ ∷ _ ∷ []) a b c l = absurd (omega arith)
-three (_ ∷ []) a b c l = absurd (omega arith)
-three [] a b c l = absurd (omega arith)
-
-pub three-stored : (a b c : ℕ) (numbers xs : List ℕ) → (a ∷ b ∷ c ∷ []) ≡ numbers → 3 ≤ length xs → set (set (set xs 0 a) 1 b) 2 c ≡ numbers ++ drop 3 xs
-three-stored a b c numbers xs q l = three xs a b c l ∙ ap (λ (v : List ℕ). v ++ drop 3 xs) q
 
 -- The two ways that each exported function can go.
 pub opening-left-alone : (day : ℕ) (file : List ℕ) (t : Tables) (B A : List ℕ) → length A < 3 → ExportedOpening day file t B A t B A

@@ -5,7 +5,7 @@ use mathlib.Core.Bool.{Bool}
 use mathlib.Core.List.{List, _++_}
 use Prim.Native.Nat.{ℕ, _<_, _≤_}
 use lib.ListN.{length, drop}
-use Rattle.verdict.specs.Conditions.{TableShort}
+use Rattle.demands.specs.Conditions.{TableShort}
 use Rattle.verdict.specs.State.{State}
 use Rattle.verdict.specs.Tables.{Tables}
 use Rattle.verdict.specs.Verdict.{Stands}

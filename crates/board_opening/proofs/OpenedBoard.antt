@@ -16,9 +16,9 @@ use Rattle.derivation.specs.Derivation.{Derivation, input, resolve, factor, cla
 use Rattle.tables.specs.Cells.{clearedPart}
 use Rattle.verdict.specs.Force.{usesInForce}
 use Rattle.verdict.specs.State.{State, entry, derivations, clauseOf}
-use Rattle.verdict.proofs.Inversions.{entry-below, entry-more, entry-new, entry-some, not-below}
-use Rattle.verdict.proofs.RangeTests.{equal, unequal}
-use Rattle.verdict.proofs.Sources.{earlier, source-of, number-of, SourceOf}
+use Rattle.demands.proofs.Inversions.{entry-below, entry-more, entry-new, entry-some, not-below}
+use Rattle.demands.proofs.RangeTests.{equal, unequal}
+use Rattle.demands.proofs.Sources.{earlier, source-of, number-of, SourceOf}
 use Rattle.boards.specs.Board.{Presence, allPresent, allStand, standsWith}
 use Rattle.boards.specs.Cells.{hasParent, lastChild, cellWith, clauseCell, boardOf, recordOfClause}
 use Rattle.boards.proofs.Parents.{Recorded, Kept}

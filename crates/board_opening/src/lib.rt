@@ -4,7 +4,7 @@ mod children;
 
 use children::put_children;
 use following::nodes::Origins;
-use force::flags::in_force;
+use flagging::in_force;
 use tables::cell;
 use tables::clear;
 use tables::set_cell;

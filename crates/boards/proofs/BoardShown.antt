@@ -13,8 +13,8 @@ use Rattle.record.proofs.Records.{records-length, records-shaped}
 use Rattle.unification.proofs.Lists.{Each}
 use Rattle.unification.proofs.Tests.{both-true}
 use Rattle.derivation.specs.Derivation.{Derivation, Use, uses, literals}
-use Rattle.verdict.specs.Conditions.{OneOf, TableShort}
-use Rattle.verdict.specs.Demands.{TablesHold, UsesInForce, InputsOf, Refutation}
+use Rattle.demands.specs.Conditions.{OneOf, TableShort}
+use Rattle.demands.specs.Demands.{TablesHold, UsesInForce, InputsOf, Refutation}
 use Rattle.verdict.specs.Force.{usesInForce}
 use Rattle.verdict.specs.Refusal.{isInput}
 use Rattle.verdict.specs.State.{State, emptyState, entry, derivations, clauseOf}
@@ -22,13 +22,14 @@ use Rattle.verdict.specs.Step.{Ending, stateOf}
 use Rattle.verdict.specs.Tables.{Tables, tablesAfter, lengthsOf}
 use Rattle.verdict.specs.Verdict.{Verdict, check, ending, firstEmpty, longEnough, standing, stateGiven, Stands}
 use Rattle.verdict.specs.Verdict as verdict
-use Rattle.verdict.proofs.Acceptance.{first-lowest}
-use Rattle.verdict.proofs.Demanded.{demand1, long-enough, refutation-of, stands-check}
-use Rattle.verdict.proofs.InForceShown.{uses-in-force, of-uses-in-force}
-use Rattle.verdict.proofs.Reading.{reading-records, stands-ok}
-use Rattle.verdict.proofs.RangeTests.{at-most}
-use Rattle.verdict.proofs.Standing.{inputs-of}
-use Rattle.verdict.proofs.TableCells.{sizeOf, read-size}
+use Rattle.demands.proofs.Acceptance.{first-lowest}
+use Rattle.demands.proofs.Demanded.{demand1, long-enough, refutation-of, stands-check}
+use Rattle.demands.proofs.InForceShown.{uses-in-force, of-uses-in-force}
+use Rattle.verdict.proofs.Endings.{reading-records}
+use Rattle.demands.proofs.Reading.{stands-ok}
+use Rattle.demands.proofs.RangeTests.{at-most}
+use Rattle.demands.proofs.Standing.{inputs-of}
+use Rattle.demands.proofs.TableCells.{sizeOf, read-size}
 use Rattle.boards.specs.Board.{Presence, allPresent, changed, standsWith, answerAfresh, Answer, answered, refusedWith, Call, afterCalls}
 use Rattle.boards.specs.Cells.{boardOf, callAnswer}
 use Rattle.boards.specs.Opening.{stateLeft, unlessRefused, boardUnlessRefused, openingAnswer, boardOpened}

@@ -14,19 +14,19 @@ use Rattle.record.specs.Record.{pick, kindOf}
 use Rattle.unification.proofs.Lists.{Each, each-append, each-more}
 use Rattle.unification.proofs.Tests.{to-T, from-T, both-true, true-not-false, some-not-none, some-injective}
 use Rattle.derivation.specs.Derivation.{Derivation, literals, input, resolve, factor, clauseNumber, Use, uses, Literal}
-use Rattle.verdict.specs.Conditions.{OneOf, TableShort}
-use Rattle.verdict.specs.Demands.{UsesInForce, LowestEmpty, Refutation}
+use Rattle.demands.specs.Conditions.{OneOf, TableShort}
+use Rattle.demands.specs.Demands.{UsesInForce, LowestEmpty, Refutation}
 use Rattle.verdict.specs.Force.{usesInForce}
 use Rattle.verdict.specs.Refusal.{isInput}
 use Rattle.verdict.specs.State.{State, entry, derivations, clauseOf}
 use Rattle.verdict.specs.Tables.{Tables, tablesAfter, lengthsOf}
 use Rattle.verdict.specs.Verdict.{isEmpty, firstEmpty, longEnough, Stands}
-use Rattle.verdict.proofs.Acceptance.{first-lowest, some-first}
-use Rattle.verdict.proofs.Demanded.{refutation-of}
-use Rattle.verdict.proofs.InForceShown.{uses-in-force, of-uses-in-force}
-use Rattle.verdict.proofs.Inversions.{entry-below, entry-some, entry-none, not-below}
-use Rattle.verdict.proofs.RangeTests.{not-true, equal, unequal}
-use Rattle.verdict.proofs.Sources.{SourceOf, earlier, source-of, number-of}
+use Rattle.demands.proofs.Acceptance.{first-lowest, some-first}
+use Rattle.demands.proofs.Demanded.{refutation-of}
+use Rattle.demands.proofs.InForceShown.{uses-in-force, of-uses-in-force}
+use Rattle.demands.proofs.Inversions.{entry-below, entry-some, entry-none, not-below}
+use Rattle.demands.proofs.RangeTests.{not-true, equal, unequal}
+use Rattle.demands.proofs.Sources.{SourceOf, earlier, source-of, number-of}
 use Rattle.boards.specs.Board.{Presence, allPresent, changed, allStand, standsWith, answerAfresh, answered, refusedWith, Call, afterCall, afterCalls, same, answerToCall}
 use Rattle.boards.specs.Cells.{lastChild, cellWith, childCell, isClauseCell, forceCell, standsCell, clauseCell, boardOf, recordOfClause, passed, answers, lowestAnswer, isInputCell, withCell, refusal, boardAfter, callAnswer}
 use Rattle.boards.specs.Promised.{UsesPresent, UsesClause, boardAfterCalls, BoardPromised}

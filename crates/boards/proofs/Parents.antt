@@ -13,15 +13,15 @@ use Rattle.record.proofs.Records.{Shaped, records-length, records-shaped, recor
 use Rattle.unification.proofs.Lists.{Each}
 use Rattle.unification.proofs.Tests.{to-T, some-not-none, some-injective}
 use Rattle.derivation.specs.Derivation.{Derivation, input, resolve, factor, clauseNumber, RowLiteral}
-use Rattle.verdict.specs.Conditions.{RightLiterals, ofOne, ofSome}
-use Rattle.verdict.specs.Demands.{Adds, addsSymbol, addsVariable, addsApplication, addsInput, addsResolvent, addsFactor, addsWindow}
+use Rattle.demands.specs.Conditions.{RightLiterals, ofOne, ofSome}
+use Rattle.demands.specs.Demands.{Adds, addsSymbol, addsVariable, addsApplication, addsInput, addsResolvent, addsFactor, addsWindow}
 use Rattle.verdict.specs.State.{State, emptyState, entry, derivations, clauseOf}
 use Rattle.verdict.specs.Step.{stands, refused, Result, step, read, allStand, refusedAt}
 use Rattle.verdict.specs.Verdict.{ending, Stands}
-use Rattle.verdict.proofs.Added.{step-adds}
-use Rattle.verdict.proofs.Inversions.{entry-each}
-use Rattle.verdict.proofs.Reading.{ending-stands, stands-not-refused}
-use Rattle.verdict.proofs.Sources.{Sourced, step-sourced, number-of}
+use Rattle.demands.proofs.Added.{step-adds}
+use Rattle.demands.proofs.Inversions.{entry-each}
+use Rattle.verdict.proofs.Endings.{ending-stands, stands-not-refused}
+use Rattle.demands.proofs.Sources.{Sourced, step-sourced, number-of}
 
 -- The record part of a clause, by its derivation.
 abbrev pub Recorded : List ℕ → Derivation → Type 0

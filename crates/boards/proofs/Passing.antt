@@ -16,10 +16,10 @@ use Rattle.derivation.specs.Derivation.{Derivation, input, resolve, factor, cla
 use Rattle.verdict.specs.Force.{inForce, allInForce, usesInForce}
 use Rattle.verdict.specs.Refusal.{isInput}
 use Rattle.verdict.specs.State.{State, Window, entry, derivations, clauseOf}
-use Rattle.verdict.proofs.Inversions.{entry-below, entry-more, entry-some, entry-each, not-below}
-use Rattle.verdict.proofs.RangeTests.{not-true, equal}
-use Rattle.verdict.proofs.Sources.{Sourced, SourceOf, earlier, source-of, earlier-length, number-of}
-use Rattle.verdict.proofs.TableCells.{reversed-at}
+use Rattle.demands.proofs.Inversions.{entry-below, entry-more, entry-some, entry-each, not-below}
+use Rattle.demands.proofs.RangeTests.{not-true, equal}
+use Rattle.demands.proofs.Sources.{Sourced, SourceOf, earlier, source-of, earlier-length, number-of}
+use Rattle.demands.proofs.TableCells.{reversed-at}
 use Rattle.boards.specs.Board.{Presence, changed, allStand, standsWith}
 use Rattle.boards.specs.Cells.{hasParent, lastChild, cellWith, childCell, isClauseCell, forceCell, standsCell, clauseCell, clauseCells, boardOf, recordOfClause, fromParents, cellByKind, newCell, larger, lastAfter, passed}
 use Rattle.boards.proofs.Parents.{Recorded, Kept, with-record}

@@ -6,8 +6,8 @@ use mathlib.Core.List.{List, [], _∷_}
 use Prim.Native.Nat.{ℕ}
 use lib.ListN.{length, getD}
 use Rattle.derivation.specs.Derivation.{Derivation, Use, uses}
-use Rattle.verdict.specs.Conditions.{OneOf}
-use Rattle.verdict.specs.Demands.{UsesInForce, Refutation}
+use Rattle.demands.specs.Conditions.{OneOf}
+use Rattle.demands.specs.Demands.{UsesInForce, Refutation}
 use Rattle.verdict.specs.Refusal.{isInput}
 use Rattle.verdict.specs.State.{State, clauseOf}
 use Rattle.verdict.specs.Tables.{Tables, tablesAfter}

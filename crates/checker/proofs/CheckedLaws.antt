@@ -1,29 +1,27 @@
 -- The contract of the check, from the three ways that a check can go.
-use mathlib.Core.Path.{_≡_, refl, sym, ap, ap₂, _∙_}
+use mathlib.Core.Path.{_≡_, refl, sym, ap, _∙_}
 use mathlib.Core.Bool.{Bool, true, false, not}
-use mathlib.Core.List.{List, [], _++_, append-nil}
-use Prim.Native.Nat.{ℕ, _+_, _-_, _≤_}
-use native.Mathlib.Omega.{arith}
-use lib.ListN.{length, take, drop, replicate, drop-of-length-le}
+use mathlib.Core.List.{List, []}
+use Prim.Native.Nat.{ℕ}
+use lib.ListN.{length}
 use Rattle.unification.specs.Row.{Variable}
 use Rattle.unification.proofs.Tests.{true-not-false}
 use Rattle.checker.specs.Contract.{Checked, Workspace, workspaceWith, CheckedWith}
 use Rattle.answer.specs.Given.{answerGiven, untouchedNumbers}
 use Rattle.reading.specs.Reader.{Readable, FileRead, FileReadWith, clearTable}
-use Rattle.tables.specs.Cells.{clearedPart}
 use Rattle.derivation.specs.Stored.{originTableOf}
 use Rattle.entry.specs.Progress.{nodeTableOf}
 use Rattle.inference.proofs.KeptClauses.{nodes-room, origins-room}
 use Rattle.verdict.specs.Tables.{Tables, lengthsOf, tablesAfter}
 use Rattle.verdict.specs.Verdict.{check, answerNumbers, longEnough, fittingLength, Reading, untouched, readTo, reading}
 use Rattle.verdict.specs.Verdict as verdicts
-use Rattle.verdict.proofs.OutlinesShown.{outlines-shown}
-use Rattle.verdict.proofs.RepeatsShown.{repeats-shown}
-use Rattle.verdict.proofs.SeveralShown.{several-shown}
-use Rattle.verdict.proofs.TotalShown.{bindings-held}
-use Rattle.verdict.proofs.DaysShown.{days-only-choose}
-use Rattle.verdict.proofs.LiftingShown.{nothing-lost}
-use Rattle.verdict.proofs.Demanded.{check-length, check-tables, check-reads, tables-length, tables-short, tables-read, demand1, demand2, demand3}
+use Rattle.demands.proofs.OutlinesShown.{outlines-shown}
+use Rattle.demands.proofs.RepeatsShown.{repeats-shown}
+use Rattle.demands.proofs.SeveralShown.{several-shown}
+use Rattle.demands.proofs.TotalShown.{bindings-held}
+use Rattle.demands.proofs.DaysShown.{days-only-choose}
+use Rattle.demands.proofs.LiftingShown.{nothing-lost}
+use Rattle.demands.proofs.Demanded.{check-length, check-tables, check-reads, tables-length, tables-short, tables-read, demand1, demand2, demand3}
 use borrow.Author.Tests.{not-false, not-true}
 use Rattle.answer.specs.declared.Answer.{Answer}
 use Rattle.answer.specs.declared.Verdict.the-variants as verdict
@@ -107,18 +105,6 @@ module _ (day : ℕ) (F : List ℕ) (t : Tables) (w : Workspace) (a : Answer) (b
           valuesLeft = λ reason m. absurd (true-not-false was-read (ap isRead m));
           read = λ f l. R .left;
         }
-
--- A table cleared, whatever it held.
-all-cleared : (n : ℕ) (T : List ℕ) → length T ≡ n → clearedPart 0 n T ≡ replicate n 0
-all-cleared n T l =
-    let e : n - 0 ≡ n = omega arith in
-    let h : length T ≤ n = omega (arith, l) in
-    let d : drop n T ≡ [] = drop-of-length-le T h in
-    ap₂ (λ (k : ℕ) (x : List ℕ). take 0 T ++ (replicate k 0 ++ x)) e d ∙ append-nil (replicate n 0)
-
-pub table-cleared : (T T′ : List ℕ) → length T ≡ 32768 → T′ ≡ clearedPart 0 32768 T → T′ ≡ clearTable
-unfolding clearTable
-table-cleared T T′ l q = q ∙ all-cleared 32768 T l
 
 -- A cleared table has no row and no clause.
 pub cleared-nodes : clearTable ≡ nodeTableOf []

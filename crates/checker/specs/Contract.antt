@@ -6,14 +6,14 @@ use Prim.Native.Nat.{ℕ}
 use lib.ListN.{length}
 use Rattle.unification.specs.Row.{Variable}
 use Rattle.derivation.specs.Stored.{originTableOf}
-use Rattle.verdict.specs.Days.{DaysOnlyChoose}
-use Rattle.verdict.specs.Demands.{Demand1, Demand2, Demand3}
-use Rattle.verdict.specs.Lifting.{NothingLost}
-use Rattle.verdict.specs.Outlines.{OutlinesBeforeUnification}
+use Rattle.demands.specs.Days.{DaysOnlyChoose}
+use Rattle.demands.specs.Demands.{Demand1, Demand2, Demand3}
+use Rattle.demands.specs.Lifting.{NothingLost}
+use Rattle.demands.specs.Outlines.{OutlinesBeforeUnification}
 use Rattle.verdict.specs.Refusal.{Reason}
-use Rattle.verdict.specs.Repeats.{RepeatedRows}
-use Rattle.verdict.specs.Several.{SeveralLiterals}
-use Rattle.verdict.specs.Total.{BindingsHeld}
+use Rattle.demands.specs.Repeats.{RepeatedRows}
+use Rattle.demands.specs.Several.{SeveralLiterals}
+use Rattle.demands.specs.Total.{BindingsHeld}
 use Rattle.answer.specs.Given.{answerGiven}
 use Rattle.entry.specs.Progress.{nodeTableOf, ReadTo}
 use Rattle.verdict.specs.State.{rowsOf, derivations}

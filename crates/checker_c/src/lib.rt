@@ -1,6 +1,7 @@
-// The check of a proof file, its readout, which clause covers which, the merge of two files and the board of a file, for C. The definitions are in the crate exported:
-// `Exported` says what `checker_check` promises, `ExportedWith` what `checker_check_with`, `ExportedReadout` what `checker_readout`, `ExportedCovers` what
-// `checker_covers` and `ExportedMerge` what `checker_merge` does; `ExportedBoard` of the crate board_c has the three functions of the board. checker.h has their declarations.
+// The check of a proof file, its readout, which clause covers which, the merge of two files and the board of a file, for C. In the crate exported, `Exported`
+// says what `checker_check` promises and `ExportedWith` what `checker_check_with` does; in exported_readout, exported_covers and exported_merge,
+// `ExportedReadout`, `ExportedCovers` and `ExportedMerge` say it of `checker_readout`, `checker_covers` and `checker_merge`; and in board_c, `ExportedBoard` of the three
+// functions of the board. checker.h has their declarations.
 use board_c::open_to_cells;
 use board_c::return_to_cells;
 use board_c::withdraw_to_cells;

@@ -1,12 +1,11 @@
-// What the tables hold of a clause, and its literals. `Named` in specs/ has the contracts; what a clause is stands in the crate derivation.
+// What the tables hold of a clause: its cells in the table of clauses, and the code of its origin. What they mean stands in `Stored` of the crate
+// derivation.
 use following::nodes::Origins;
 use following::nodes::node;
 use tables::cell;
 ghost use mathlib.Core.Path.{_≡_};
 ghost use lib.ListN.{length};
 ghost use Rattle.derivation.specs.Stored.{literalsCell, indexCell, firstCell, bindingsCell, originCode};
-
-pub mod literal;
 
 // The number of literals of clause c.
 pub fn literals_cell(clauses: &[u16], c: u16) -> u16

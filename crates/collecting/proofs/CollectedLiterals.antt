@@ -11,10 +11,10 @@ use borrow.Author.Tests.{eqb-true, eqb-false, leb-true, leb-false}
 use Rattle.record.specs.Record.{pick}
 use Rattle.unification.specs.Nodes.{part}
 use Rattle.derivation.specs.Derivation.{literals, Literal, RowLiteral, literalOf, Derivation, numbered, without, withoutAll, raiseLiteral, placed, maximumIndex}
-use Rattle.clauses.specs.Named.{leftOver, passed, NamesRights, raiseNamed}
+use Rattle.named_literals.specs.Named.{leftOver, passed, NamesRights, raiseNamed}
 use Rattle.derivation.specs.Stored.{originCode, originNumbers, rightCells, literalsCell, indexCell, Stored, storedInput, storedResolve, storedFactor}
-use Rattle.clauses.proofs.Numbers.{length-without, numbered-without, passed-in, numbered-left, numbered-right, numbered-raised, raise-named-twice, input-few, input-numbered}
-use Rattle.clauses.proofs.Origins.{stored-cells}
+use Rattle.named_literals.proofs.Numbers.{length-without, numbered-without, passed-in, numbered-left, numbered-right, numbered-raised, raise-named-twice, input-few, input-numbered}
+use Rattle.named_literals.proofs.Origins.{stored-cells}
 use Rattle.collecting.specs.Literals.{literalWith, listed, Holds, Placed, Deleted, RightsDeletable, RightsDeleted, Collectable, Collected}
 
 -- The first n numbers of an input clause's origin are in the list.

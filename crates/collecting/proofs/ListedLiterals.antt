@@ -9,7 +9,7 @@ use lib.ListN.{length, getD, set, length-set}
 use lib.Seq.{getD-set-same, getD-set-other}
 use borrow.Author.Tests.{ne-eqb, eqb-true, eqb-false, ltb-true, ltb-false, le-leb, lt-leb, lt-ltb, le-ltb}
 use Rattle.record.specs.Record.{pick}
-use Rattle.clauses.specs.Named.{leftOver, passed}
+use Rattle.named_literals.specs.Named.{leftOver, passed}
 use Rattle.collecting.specs.Literals.{literalWith, listed, Placed, Moved, Deleted}
 
 -- Two cells written are one literal.

@@ -6,7 +6,7 @@ use mathlib.Core.List.{List}
 use Prim.Native.Nat.{ℕ, _+_, _*_, _≤_, _<_}
 use lib.ListN.{length, getD}
 use Rattle.derivation.specs.Derivation.{literals, Literal, literalOf, Derivation, numbered, withoutAll, maximumIndex}
-use Rattle.clauses.specs.Named.{leftOver, passed, NamesRights, raiseNamed}
+use Rattle.named_literals.specs.Named.{leftOver, passed, NamesRights, raiseNamed}
 use Rattle.derivation.specs.Stored.{Stored}
 
 -- A literal from its number in an input clause's origin, and its index.

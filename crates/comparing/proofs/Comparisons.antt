@@ -16,9 +16,9 @@ use Rattle.verdict.specs.Step.{stateOf}
 use Rattle.verdict.specs.Tables.{Tables, lengthsOf}
 use Rattle.verdict.specs.Force.{usesInForce}
 use Rattle.verdict.specs.Verdict.{verdictNumbers, check, Answer as Checked, longEnough, ending, Stands, firstEmpty, stateGiven}
-use Rattle.verdict.proofs.Demanded.{not-refused, stands-check, tables-fail, long-enough}
-use Rattle.verdict.proofs.Inversions.{entry-some}
-use Rattle.verdict.proofs.Reading.{ending-stands, reading-records}
+use Rattle.demands.proofs.Demanded.{not-refused, stands-check, tables-fail, long-enough}
+use Rattle.demands.proofs.Inversions.{entry-some}
+use Rattle.verdict.proofs.Endings.{ending-stands, reading-records}
 use Rattle.answer.specs.Given.{verdictCoded, verdictStands}
 use Rattle.answer.specs.declared.Answer as answer
 use Rattle.answer.proofs.GivenNumbers.{verdict-given, clauses-given, stands-not-refused, refused-not-standing}

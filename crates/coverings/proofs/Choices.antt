@@ -15,7 +15,7 @@ use Rattle.unification.specs.Nodes.{part, HasRow}
 use Rattle.unification.specs.Term.{Term, var}
 use Rattle.unification.proofs.Tests.{from-T, both-true, true-not-false, some-not-none, some-injective}
 use Rattle.derivation.specs.Derivation.{RowLiteral, literalOf, numbered}
-use Rattle.verdict.proofs.ExistenceTests.{numbered-within}
+use Rattle.demands.proofs.ExistenceTests.{numbered-within}
 use Rattle.coverings.specs.Choosing.{numbersFrom}
 use Rattle.coverings.specs.Covering.{Substitution, Turns, Works, NotAfter}
 use Rattle.matching.specs.Pairs.{bit, isPair, leftNumber, rightNumber, Pairs, agreeAt, agreeFrom, goTogether, tableFilled}

@@ -12,7 +12,7 @@ use Rattle.derivation.specs.Derivation.{input, RowLiteral, Derivation}
 use Rattle.verdict.specs.State.{arityOf, State, clauseOf}
 use Rattle.verdict.specs.Tables.{Tables}
 use Rattle.verdict.specs.Verdict.{Stands}
-use Rattle.verdict.proofs.Reading.{ending-stands}
+use Rattle.verdict.proofs.Endings.{ending-stands}
 use Rattle.coverings.specs.Answering.{Answer, covers, coversNot, refusedWith, tenNumbers, Comparable, termIn, AnswerPromised}
 use Rattle.coverings.specs.Choosing.{numbersFrom, comparisonNumbers, comparisonFrom, comparison}
 use Rattle.coverings.specs.Covering.{Substitution, Works, NotAfter}

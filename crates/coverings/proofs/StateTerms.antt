@@ -20,17 +20,17 @@ use Rattle.derivation.specs.Derivation.{literals, input, RowLiteral, literalOf,
 use Rattle.derivation.specs.Ground.{Ground, argumentCount, WellFormed, AllWellFormed}
 use Rattle.derivation.specs.Stored.{originCode, originNumbers, literalsCell, Stored, storedInput, storedResolve, storedFactor}
 use Rattle.derivation.proofs.Literals.{map-numbered, each-numbered}
-use Rattle.clauses.proofs.Numbers.{numbered-take, numbered-origin}
+use Rattle.named_literals.proofs.Numbers.{numbered-take, numbered-origin}
 use Rattle.entry.specs.Progress.{Kept}
 use Rattle.entry.specs.declared.entry.Counts.{Counts}
 use Rattle.entry.proofs.NodeTable.{variable-row, application-row, argument-at}
 use Rattle.inference.proofs.KeptClauses.{stand-of, ok-of, fit, nodes-fine, stored-of, earliest-rows, there, inside-of}
-use Rattle.verdict.specs.Repeats.{numberTerm, termByNumbers}
+use Rattle.demands.specs.Repeats.{numberTerm, termByNumbers}
 use Rattle.verdict.specs.State.{State, rowsOf, derivations, arityOf, clauseOf}
 use Rattle.verdict.specs.Tables.{Tables}
-use Rattle.verdict.proofs.Inversions.{entry-below}
-use Rattle.verdict.proofs.Shared.{ArgumentsEarliest, SharedRows}
-use Rattle.verdict.proofs.WrittenRows.{number-law, equal-terms}
+use Rattle.demands.proofs.Inversions.{entry-below}
+use Rattle.demands.proofs.Shared.{ArgumentsEarliest, SharedRows}
+use Rattle.demands.proofs.WrittenRows.{number-law, equal-terms}
 use Rattle.coverings.proofs.Choices.{LiteralsAs}
 use Rattle.coverings.proofs.Solutions.{TermsOf}
 use Rattle.coverings.proofs.Truth.{Formed}

@@ -7,8 +7,8 @@ use lib.ListN.{length, replicate}
 use Rattle.unification.specs.Term.{Term}
 use Rattle.derivation.specs.Derivation.{input, RowLiteral}
 use Rattle.derivation.specs.Ground.{Assignment}
-use Rattle.verdict.specs.Conditions.{TableShort}
-use Rattle.verdict.specs.Repeats.{termByNumbers}
+use Rattle.demands.specs.Conditions.{TableShort}
+use Rattle.demands.specs.Repeats.{termByNumbers}
 use Rattle.verdict.specs.State.{State, rowsOf, arityOf, clauseOf}
 use Rattle.verdict.specs.Tables.{Tables}
 use Rattle.verdict.specs.Verdict.{Stands}

@@ -1,8 +1,8 @@
-// Which clause covers which, with the answer in cells, as C has it. `ExportedCovers` in specs/ of the crate exported says what it promises.
+// Which clause covers which, with the answer in cells, as C has it. `ExportedCovers` in specs/ of the crate exported_covers says what it promises.
 use cover::covers;
-use exported::covering::put_covering;
+use exported_covers::put_covering;
 ghost use Rattle.entry.specs.Progress.{tablesWith};
-ghost use Rattle.exported.specs.ExportedCovers.{ExportedCovers};
+ghost use Rattle.exported_covers.specs.ExportedCovers.{ExportedCovers};
 
 // Whether input clause c of a file covers input clause d, with the answer in ten cells. Where `answer` has fewer, nothing is touched.
 pub fn covers_to_cells(

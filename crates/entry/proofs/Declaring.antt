@@ -28,13 +28,13 @@ use Rattle.verdict.specs.Refusal.{outOfRange, notThere, variableLiteral, reason
 use Rattle.verdict.specs.State.{arities, State, withSymbol, withRow, withClause, entry, rowsOf, derivations, arityOf, rowOf, earliestOf, recordOfRow, nextClause}
 use Rattle.verdict.specs.Step.{stands, Result, require, newApplication, newLiterals, step}
 use Rattle.verdict.specs.Tables.{Tables, symbolCells, rowCells, clauseCells, bindingCells, filled, filledTables, bindingsOf}
-use Rattle.verdict.proofs.Acceptance.{cells-length}
-use Rattle.verdict.proofs.Advance.{RowFits}
+use Rattle.demands.proofs.Acceptance.{cells-length}
+use Rattle.demands.proofs.Advance.{RowFits}
 use Rattle.entry.proofs.Entering.{row-found, variable-tests, row-written, clause-written, variable-cells, application-cells, input-cells}
 use Rattle.entry.proofs.Filling.{filled-set, filled-five, filled-low}
-use Rattle.verdict.proofs.Inversions.{all-below, rows-below, not-equal, entry-below, entry-more, entry-none, entry-some, not-below}
+use Rattle.demands.proofs.Inversions.{all-below, rows-below, not-equal, entry-below, entry-more, entry-none, entry-some, not-below}
 use Rattle.entry.proofs.Kept.{stand, Sizes, sizes, few-records, same-rows, few-symbols, few-rows, few-clauses, rows-fit, kept-next}
-use Rattle.verdict.proofs.Resolution.{at-kind}
+use Rattle.demands.proofs.Resolution.{at-kind}
 use Rattle.entry.specs.declared.entry.Counts.{Counts}
 use Rattle.entry.specs.declared.entry.Entered.{Entered}
 use Rattle.entry.specs.declared.entry.Entered.the-variants.{Stands, Refused}

@@ -26,10 +26,10 @@ use Rattle.entry.specs.Program.{earliestNode, takenArguments, takenLiter
 use Rattle.entry.specs.Progress.{cellsOfRow, cellsAfter, nodeList, nodeTableOf}
 use Rattle.verdict.specs.Refusal.{zeros, inRange, argumentRows, isApplication, allApplications}
 use Rattle.derivation.proofs.Literals.{leb-false-lt}
-use Rattle.verdict.proofs.Advance.{RowFits}
-use Rattle.verdict.proofs.Inversions.{not-equal}
-use Rattle.verdict.proofs.Sources.{Sourced}
-use Rattle.verdict.proofs.Tabled.{origin-length}
+use Rattle.demands.proofs.Advance.{RowFits}
+use Rattle.demands.proofs.Inversions.{not-equal}
+use Rattle.demands.proofs.Sources.{Sourced}
+use Rattle.demands.proofs.Tabled.{origin-length}
 use Rattle.entry.proofs.NodeTable.{eight, NodeTable, node-length, node-cell, no-cell, no-node, fits-at, row-there-of, taken-as, few-repeats, variable-row, application-row}
 
 -- Equal rows have equal cells.

@@ -9,8 +9,8 @@ use lib.Dec.{leb}
 use lib.ListN.{getD, drop, set}
 use borrow.Author.Tests.{eq-eqb, ne-eqb, leb-true, not-true, not-false}
 use Rattle.record.specs.Record.{pick, recordPart, kindOf, countOf, fieldOf, fieldsOf, decoded, symbolKind, variableKind, applicationKind, inputKind}
-use Rattle.record.specs.Reader.{clauseLiterals}
-use Rattle.record.specs.declared.ClauseLiterals.{ClauseLiterals}
+use Rattle.record_fields.specs.Reader.{clauseLiterals}
+use Rattle.record_fields.specs.declared.ClauseLiterals.{ClauseLiterals}
 use Rattle.unification.specs.Nodes.{part}
 use Rattle.unification.proofs.Tests.{both-true}
 use Rattle.derivation.specs.Derivation.{inputLiterals}

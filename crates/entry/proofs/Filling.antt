@@ -13,9 +13,9 @@ use Rattle.unification.specs.Unification.{full}
 use Rattle.unification.proofs.Tests.{to-T}
 use Rattle.tables.specs.Cells.{clearedPart, withClauseCells}
 use Rattle.verdict.specs.Tables.{cellsOfBindings, filled}
-use Rattle.verdict.proofs.Inversions.{not-below}
+use Rattle.demands.proofs.Inversions.{not-below}
 use Rattle.entry.proofs.NodeTable.{zeros-read}
-use Rattle.verdict.proofs.Tabled.{bindings-length}
+use Rattle.demands.proofs.Tabled.{bindings-length}
 
 pub filled-length : (size : ℕ) (cells t : List ℕ) → length cells ≤ size → size ≤ length t → length (filled size cells t) ≡ length t
 filled-length size cells t l m =

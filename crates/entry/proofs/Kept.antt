@@ -18,12 +18,12 @@ use Rattle.verdict.specs.Refusal.{Reason}
 use Rattle.verdict.specs.State.{State, emptyState, rowsOf, derivations}
 use Rattle.verdict.specs.Step.{stands, refused, Result, step, read, allStand, refusedAt}
 use Rattle.verdict.specs.Tables.{Tables, lengthsOf, filledTables}
-use Rattle.verdict.specs.Total.{fifthCells}
+use Rattle.demands.specs.Total.{fifthCells}
 use Rattle.verdict.specs.Verdict.{longEnough, fittingLength}
-use Rattle.verdict.proofs.Advance.{Standing, RowFits, Tally, standing-start, take-next, read-one, advance}
+use Rattle.demands.proofs.Advance.{Standing, RowFits, Tally, standing-start, take-next, read-one, advance}
 use Rattle.entry.proofs.Entering.{node-table-length, origin-table-length}
-use Rattle.verdict.proofs.Reading.{ending-stands}
-use Rattle.verdict.proofs.TotalShown.{total-sum}
+use Rattle.verdict.proofs.Endings.{ending-stands}
+use Rattle.demands.proofs.TotalShown.{total-sum}
 use Rattle.entry.specs.declared.entry.Counts.{Counts}
 
 read-split : (S : State) (j : ℕ) (xs ys : List Record) (T : State) → read S j (xs ++ ys) ≡ allStand T → (U : State) × (read S j xs ≡ allStand U)

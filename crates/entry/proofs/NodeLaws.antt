@@ -14,7 +14,7 @@ use Rattle.derivation.specs.Derivation.{literalOf}
 use Rattle.distinct.specs.Rows.{withNode}
 use Rattle.entry.specs.Program.{earliestNode, takenArguments, RowsReady, noVariable}
 use Rattle.fields.proofs.FieldLaws.{field-next-to}
-use Rattle.verdict.proofs.Tabled.{seven-numbers}
+use Rattle.demands.proofs.Tabled.{seven-numbers}
 use lib.Seq.{sets-eq}
 
 -- The first i of seven numbers stored after the code of a row whose cells start at `at`.

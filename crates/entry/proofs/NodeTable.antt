@@ -23,9 +23,9 @@ use Rattle.unification.proofs.Tests.{to-T}
 use Rattle.derivation.proofs.Literals.{leb-false-lt}
 use Rattle.entry.specs.Program.{repeatCells, earliestNode}
 use Rattle.entry.specs.Progress.{cellsOfRow, cellsAfter, nodeList, nodeTableOf}
-use Rattle.verdict.proofs.Advance.{RowFits}
-use Rattle.verdict.proofs.Inversions.{not-equal}
-use Rattle.verdict.proofs.Shared.{SharedRows, shared-arguments}
+use Rattle.demands.proofs.Advance.{RowFits}
+use Rattle.demands.proofs.Inversions.{not-equal}
+use Rattle.demands.proofs.Shared.{SharedRows, shared-arguments}
 
 abbrev pub NodeTable : List Row → List ℕ → Type 0
 NodeTable ws N = N ≡ nodeTableOf ws

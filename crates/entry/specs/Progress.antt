@@ -14,7 +14,7 @@ use Rattle.verdict.specs.Refusal.{Reason, reasonNumber}
 use Rattle.verdict.specs.State.{State, emptyState, rowsOf, derivations}
 use Rattle.verdict.specs.Step.{stands, refused, step, read, allStand}
 use Rattle.verdict.specs.Tables.{Tables, lengthsOf, filledTables}
-use Rattle.verdict.specs.Total.{fifthCells}
+use Rattle.demands.specs.Total.{fifthCells}
 use Rattle.verdict.specs.Verdict.{longEnough, fittingLength}
 use Rattle.entry.specs.Program.{repeatCells}
 use Rattle.entry.specs.declared.entry.Counts.{Counts}

@@ -1,4 +1,2 @@
 pub mod AnswerWritten
-pub mod ProgressWritten
-pub mod CoveringWritten
-pub mod MergeWritten
+pub mod ThreeStored

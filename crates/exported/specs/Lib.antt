@@ -1,5 +1,2 @@
 pub mod Exported
-pub mod ExportedReadout
 pub mod ExportedWith
-pub mod ExportedCovers
-pub mod ExportedMerge

@@ -2,30 +2,20 @@
 use mathlib.Core.Path.{_≡_, refl, sym, ap, _∙_}
 use mathlib.Core.Bool.{Bool, true, false, _&&_}
 use mathlib.Core.List.{List, [], _∷_, map}
-use Prim.Native.Nat.{ℕ, zero, suc, _+_, _-_, _/_, _≤_, _<_}
+use Prim.Native.Nat.{ℕ, suc, _+_, _-_, _/_, _≤_, _<_}
 use native.Mathlib.Omega.{arith}
-use lib.Dec.{eqb, leb, ltb}
-use lib.ListN.{getD, take, drop, drop-of-length-le}
-use borrow.Author.Tests.{eq-eqb, ne-eqb, ltb-true, ltb-false, lt-ltb, le-ltb, le-leb, lt-leb}
+use lib.Dec.{leb, ltb}
+use lib.ListN.{getD, take, drop}
+use borrow.Author.Tests.{ne-eqb, ltb-true, ltb-false, lt-ltb, le-ltb, le-leb, lt-leb}
 use Rattle.record.specs.Record.{recordPart, countOf, fieldOf, fieldsOf, otherKind, kindNumbered}
 use Rattle.derivation.specs.Derivation.{literalOf}
 use Rattle.fields.specs.Fields.{arityIn, arityAnswer}
-use Rattle.verdict.specs.Refusal.{zeros, allBelow, rising}
+use Rattle.verdict.specs.Refusal.{allBelow, rising}
 use Rattle.fields.specs.declared.Arity.{Arity}
 use Rattle.fields.specs.declared.Arity.the-variants.{Is, Missing}
+use Rattle.ranges.proofs.RangeLaws.{field-next}
 
--- From field i on: field i, and the fields after it.
-pub field-next : (p : List ℕ) (i : ℕ) → i < 7 → drop i (fieldsOf p) ≡ fieldOf p i ∷ drop (i + 1) (fieldsOf p)
-field-next p zero h = refl
-field-next p (suc zero) h = refl
-field-next p (suc (suc zero)) h = refl
-field-next p (suc (suc (suc zero))) h = refl
-field-next p (suc (suc (suc (suc zero)))) h = refl
-field-next p (suc (suc (suc (suc (suc zero))))) h = refl
-field-next p (suc (suc (suc (suc (suc (suc zero)))))) h = refl
-field-next p (suc (suc (suc (suc (suc (suc (suc i))))))) h = absurd (omega arith)
-
--- The same of the fields up to number `to`.
+-- From field i up to number `to`: field i, and the fields after it.
 pub field-next-to : (p : List ℕ) (i to : ℕ) → i < to → to ≤ 7 → take (to - i) (drop i (fieldsOf p)) ≡ fieldOf p i ∷ take (to - (i + 1)) (drop (i + 1) (fieldsOf p))
 field-next-to p i to l h =
     let e : to - i ≡ suc (to - (i + 1)) = omega arith in
@@ -33,16 +23,6 @@ field-next-to p i to l h =
 
 pub fields-end : (p : List ℕ) (i to : ℕ) → to ≤ i → take (to - i) (drop i (fieldsOf p)) ≡ []
 fields-end p i to h = let e : to - i ≡ 0 = omega arith in rw e
-
--- Zeros.
-pub zeros-stop : (p : List ℕ) (i : ℕ) {n : ℕ} → i < 7 → n ≡ fieldOf p i → (n ≡ 0 → ⊥) → zeros (drop i (fieldsOf p)) ≡ false
-zeros-stop p i h e z = rw (field-next p i h, ne-eqb (fieldOf p i) 0 (λ q. z (e ∙ q)))
-
-pub zeros-on : (p : List ℕ) (i : ℕ) {n : ℕ} → i < 7 → n ≡ fieldOf p i → n ≡ 0 → zeros (drop i (fieldsOf p)) ≡ zeros (drop (i + 1) (fieldsOf p))
-zeros-on p i h e z = rw (field-next p i h, eq-eqb (fieldOf p i) 0 (sym e ∙ z))
-
-pub zeros-end : (p : List ℕ) (i : ℕ) → 7 ≤ i → zeros (drop i (fieldsOf p)) ≡ true
-zeros-end p i h = rw (drop-of-length-le (fieldsOf p) h)
 
 -- Rows below a limit: argument rows, and the rows of literals.
 module _ (limit : ℕ) (p : List ℕ) (i to : ℕ) {n : ℕ} (l : i < to) (h : to ≤ 7) (e : n ≡ fieldOf p i) where
@@ -62,19 +42,6 @@ module _ (limit : ℕ) (p : List ℕ) (i to : ℕ) {n : ℕ} (l : i < to) (h : t
 
   pub rows-on : n / 2 < limit → allBelow limit (rowsIn (take (to - i) (drop i (fieldsOf p)))) ≡ allBelow limit (rowsIn (take (to - (i + 1)) (drop (i + 1) (fieldsOf p))))
   rows-on z = rw (field-next-to p i to l h, ← e, lt-ltb (n / 2) limit z)
-
--- Two tests, the first on a number that was read.
-pub few-passed : {n k m : ℕ} {x : Bool} (y : Bool) → n ≡ k → n ≤ m → x ≡ y → x ≡ (leb k m && y)
-few-passed {n} {k} {m} y e h q = rw (← e, le-leb n m h) q
-
-pub few-failed : {n k m : ℕ} (y : Bool) → n ≡ k → m < n → false ≡ (leb k m && y)
-few-failed {n} {k} {m} y e h = rw (← e, lt-leb n m h)
-
-pub none-passed : {n k : ℕ} {x : Bool} (y : Bool) → n ≡ k → n ≡ 0 → x ≡ y → x ≡ (eqb k 0 && y)
-none-passed {n} {k} y e h q = rw (← e, h) q
-
-pub none-failed : {n k : ℕ} (y : Bool) → n ≡ k → (n ≡ 0 → ⊥) → false ≡ (eqb k 0 && y)
-none-failed {n} {k} y e h = rw (← e, ne-eqb n 0 h)
 
 -- Of one to four: none; up to four; more.
 pub no-rights : {n k : ℕ} (y : ℕ → Bool) → n ≡ k → n ≡ 0 → false ≡ (leb 1 k && leb k 4 && y k)

@@ -17,9 +17,9 @@ use Rattle.verdict.specs.Force.{windowOf, within, inForce, allInForce, usesInFo
 use Rattle.verdict.specs.State.{State, Window}
 use Rattle.verdict.specs.Step.{windowIn}
 use Rattle.verdict.specs.Verdict.{Stands}
-use Rattle.verdict.proofs.Advance.{take-next}
-use Rattle.verdict.proofs.InForceShown.{withWindowOf, windowsAfter, stands-windows}
-use Rattle.verdict.proofs.RangeTests.{not-true, equal, unequal}
+use Rattle.demands.proofs.Advance.{take-next}
+use Rattle.demands.proofs.InForceShown.{withWindowOf, windowsAfter, stands-windows}
+use Rattle.demands.proofs.RangeTests.{not-true, equal, unequal}
 use Rattle.force.specs.Flags.{dayFlag, withRecord, flagsAfter, flagFrom, withFlag, derivedFlags, flagsInForce}
 
 -- ── The flags that windows give ──

@@ -1,5 +1,1 @@
-pub mod WindowLaws
-pub mod FlagSteps
 pub mod FlagLaws
-pub mod WindowRead
-pub mod KeptFlags

@@ -1,4 +1,2 @@
-// Rules in force (document 02, Q-6): records of kind 8, and which clauses are in force on a day. In specs/, `Window` and `Flags` have the
-// contracts; what in force means stands in `Force` of the crate verdict.
-pub mod flags;
-pub mod window;
+// Rules in force (document 02, Q-6), as the program works them out: a flag for each clause. In specs/, `Flags` has the definitions, and proofs/ that they
+// come to `Force` of the crate verdict; there is no code.

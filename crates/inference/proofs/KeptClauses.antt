@@ -24,22 +24,22 @@ use Rattle.derivation.specs.Stored.{originTableOf, literalsCell, indexCell, Sto
 use Rattle.derivation.proofs.Known.{Known, KnownRows, KnownEnvironment, known-numbered, known-lookup}
 use Rattle.derivation.proofs.Literals.{each-numbered, LiteralIn, literals-in}
 use Rattle.loading.proofs.LoadedModels.{cleared-free, factor-models}
-use Rattle.clauses.proofs.Origins.{stored-cells}
+use Rattle.named_literals.proofs.Origins.{stored-cells}
 use Rattle.derivation.proofs.OwnBindings.{BindingThere, FreeIn, BindingsThere, bindings-there}
 use Rattle.entry.specs.Progress.{Kept}
 use Rattle.verdict.specs.Refusal.{mostIndex}
 use Rattle.verdict.specs.State.{arities, State, rowsOf, derivations, arityOf, clauseOf, rowOf}
 use Rattle.verdict.specs.Tables.{Tables, clauseCells, bindingCells, filled}
-use Rattle.verdict.proofs.Advance.{Standing, RowFits}
+use Rattle.demands.proofs.Advance.{Standing, RowFits}
 use Rattle.entry.proofs.Entering.{node-table-length, origin-table-length}
-use Rattle.verdict.proofs.Inversions.{entry-none, entry-each}
-use Rattle.verdict.proofs.Shared.{shared-arguments}
+use Rattle.demands.proofs.Inversions.{entry-none, entry-each}
+use Rattle.demands.proofs.Shared.{shared-arguments}
 use Rattle.entry.proofs.Kept.{standing-of, fitting-records}
 use Rattle.entry.proofs.NodeTable.{node-row, has-row, row-there-of, application-row, nodes-ok}
-use Rattle.verdict.proofs.Reading.{state-more}
-use Rattle.verdict.proofs.Standing.{ChainsEnd, InOrder, StateOk, order-of, held-links}
-use Rattle.verdict.proofs.Sources.{number-of}
-use Rattle.verdict.proofs.Tabled.{stored-clause}
+use Rattle.demands.proofs.Reading.{state-more}
+use Rattle.demands.proofs.Standing.{ChainsEnd, InOrder, StateOk, order-of, held-links}
+use Rattle.demands.proofs.Sources.{number-of}
+use Rattle.demands.proofs.Tabled.{stored-clause}
 use Rattle.entry.specs.declared.entry.Counts.{Counts}
 
 module _ {F : List ℕ} {t : Tables} {k : ℕ} {S : State} {n : Counts} {here : Tables} {N O A : List ℕ} (K : Kept F t k S n here N O A) (few : k ≤ recordCount F) where

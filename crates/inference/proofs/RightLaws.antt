@@ -15,15 +15,15 @@ use Rattle.unification.proofs.Tests.{some-not-none, some-injective}
 use Rattle.derivation.specs.Derivation.{literals, Literal, Derivation, numbered, numberedAll}
 use Rattle.derivation.specs.Stored.{Stored}
 use Rattle.derivation.proofs.Literals.{numbered-cons, numbered-all-cons}
-use Rattle.clauses.specs.Named.{namedLiteral}
+use Rattle.named_literals.specs.Named.{namedLiteral}
 use Rattle.verdict.specs.Refusal.{literalsIn, equalSigns, allOpposite}
 use Rattle.verdict.specs.State.{derivations, clauseOf}
 use Rattle.verdict.specs.Step.{atoms}
-use Rattle.verdict.proofs.Inversions.{entry-none, entry-some}
+use Rattle.demands.proofs.Inversions.{entry-none, entry-some}
 use Rattle.inference.specs.Rights.{AtomListed, rightsAnswer, RightsNamed}
 use Rattle.inference.specs.Stepping.{ClausesStored}
-use Rattle.clauses.specs.declared.literal.NamedLiteral.{NamedLiteral}
-use Rattle.clauses.specs.declared.literal.NamedLiteral.the-variants.{Found, Absent}
+use Rattle.named_literals.specs.declared.NamedLiteral.{NamedLiteral}
+use Rattle.named_literals.specs.declared.NamedLiteral.the-variants.{Found, Absent}
 use Rattle.inference.specs.declared.rights.NamedRights.{NamedRights}
 use Rattle.inference.specs.declared.rights.NamedRights.the-variants.{Opposite, Equal}
 use Rattle.inference.specs.declared.rights.NamedRights.the-variants as rights

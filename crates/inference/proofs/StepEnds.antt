@@ -23,9 +23,9 @@ use Rattle.verdict.specs.Tables.{Tables, cellsOfBindings, bindingCells, filled,
 use Rattle.entry.proofs.Declaring.{symbols-here, rows-here, clauses-here, bindings-here, clause-table, clause-origin}
 use Rattle.entry.proofs.Filling.{bindings-count, bindings-added, bindings-cleared}
 use Rattle.entry.proofs.Kept.{sizes, kept-next}
-use Rattle.verdict.proofs.Standing.{room}
+use Rattle.demands.proofs.Standing.{room}
 use Rattle.inference.proofs.StepLaws.{held-count, held-sum, clause-count, held-few, few-of, room-of, origins-room}
-use Rattle.verdict.proofs.Tabled.{all-bindings-length}
+use Rattle.demands.proofs.Tabled.{all-bindings-length}
 use Rattle.unify.specs.declared.Unified.{Unified}
 use Rattle.unify.specs.declared.Unified.the-variants.{Done}
 use Rattle.unify.specs.declared.Unified.the-variants as unified-variants

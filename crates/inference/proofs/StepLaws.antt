@@ -41,13 +41,13 @@ use Rattle.inference.specs.Stepping.{BeforeStep, AtomOf, atomNamed, Righ
 use Rattle.distinct.specs.Rows.{withNode}
 use Rattle.entry.specs.Progress.{tablesWith}
 use Rattle.verdict.specs.Tables.{Tables, bindingCells, bindingsOf}
-use Rattle.verdict.proofs.Advance.{Standing}
+use Rattle.demands.proofs.Advance.{Standing}
 use Rattle.entry.proofs.Declaring.{bindings-here}
 use Rattle.entry.proofs.Filling.{filled-length}
 use Rattle.entry.proofs.Kept.{sizes, few-records, few-clauses}
 use Rattle.inference.proofs.KeptClauses as kept
-use Rattle.verdict.proofs.Standing.{ChainsEnd, InOrder, StateOk, room, held-links}
-use Rattle.verdict.proofs.Tabled.{all-bindings-length}
+use Rattle.demands.proofs.Standing.{ChainsEnd, InOrder, StateOk, room, held-links}
+use Rattle.demands.proofs.Tabled.{all-bindings-length}
 use Rattle.unify.specs.declared.Unified.{Unified}
 use Rattle.unify.specs.declared.Unified.the-variants.{Done}
 use Rattle.unify.specs.declared.Unified.the-variants as unified-variants

@@ -27,8 +27,8 @@ use Rattle.verdict.specs.State.{State, clauseOf, rowOf, nextClause}
 use Rattle.verdict.specs.Step.{require, step, addClause, unifyResolve, unifyFactor, onNamed}
 use Rattle.inference.specs.Stepping.{atomNamed, rightsNamed, Resolving, Factoring, UnifiedTables, finished, stepFinished, ResolveKind, rightsAt, ResolveNamed, FactorNamed, StepRead}
 use Rattle.entry.proofs.Entering.{zero-list}
-use Rattle.verdict.proofs.Inversions.{literal-named, strictly-rising}
-use Rattle.verdict.proofs.RangeTests.{several-fits, IsResolve, on-one, on-several}
+use Rattle.demands.proofs.Inversions.{literal-named, strictly-rising}
+use Rattle.demands.proofs.RangeTests.{several-fits, IsResolve, on-one, on-several}
 use Rattle.inference.proofs.StepEnds.{step-ended}
 use Rattle.inference.proofs.StepLaws.{node-outlines, rights-outlines, index-of, literals-of, number-is}
 use Rattle.inference.proofs.StepTests.{Step, ResolveStep, refuse, index-small, literals-small, factor-kind, resolve-tests, factor-tests}

@@ -13,7 +13,7 @@ use Rattle.record.specs.Record.{pick, Record, recordPart, kindOf, countOf, fiel
 use Rattle.unification.specs.Listed.{listedFrom}
 use Rattle.unification.specs.Unification.{clash}
 use Rattle.derivation.specs.Derivation.{literals, Literal, Derivation, numbered, maximumIndex}
-use Rattle.clauses.specs.Named.{namedLiteral, StoredClause}
+use Rattle.named_literals.specs.Named.{namedLiteral, StoredClause}
 use Rattle.derivation.specs.Stored.{Stored}
 use Rattle.fields.specs.Fields.{stepInRange, rightCount}
 use Rattle.verdict.specs.Refusal.{Reason, outOfRange, notThere, notRising, wrongSigns, tooLarge, unification, outlinesAgree, reasonNumber, mostLiterals, mostIndex, kindOfRecord, inRange, literalIn, literalNamed, leftOf, rightNumbers, literalsIn, rightOf, deletedOf, isThere, equalSigns, allOpposite, rising, onBoth, oppositeSigns, factorSigns, bothThere, resolventFits, factorFits}
@@ -21,12 +21,12 @@ use Rattle.verdict.specs.State.{State, entry, derivations, clauseOf, rowOf}
 use Rattle.verdict.specs.Step.{refused, require, step, enterResolvent, enter}
 use Rattle.inference.specs.Stepping.{BeforeStep, AtomOf, ClausesStored, namedAnswer, signedAtom, pairAnswer, ResolveKind, ResolveNamed, FactorNamed, StepRead}
 use Rattle.inference.specs.Rights.{rightsAnswer, RightsNamed, refusalOf, RightsTested}
-use Rattle.verdict.proofs.Inversions.{literal-named, literals-named, entry-none, entry-some}
-use Rattle.verdict.proofs.RangeTests.{several-fits, IsResolve, on-one, on-several}
-use Rattle.verdict.proofs.Resolution.{at-kind, step-resolve}
+use Rattle.demands.proofs.Inversions.{literal-named, literals-named, entry-none, entry-some}
+use Rattle.demands.proofs.RangeTests.{several-fits, IsResolve, on-one, on-several}
+use Rattle.demands.proofs.Resolution.{at-kind, step-resolve}
 use Rattle.inference.proofs.StepLaws.{clause-count, stored-of, order-in, origins-room}
-use Rattle.clauses.specs.declared.literal.NamedLiteral.{NamedLiteral}
-use Rattle.clauses.specs.declared.literal.NamedLiteral.the-variants.{Found, Absent}
+use Rattle.named_literals.specs.declared.NamedLiteral.{NamedLiteral}
+use Rattle.named_literals.specs.declared.NamedLiteral.the-variants.{Found, Absent}
 use Rattle.entry.specs.declared.entry.Counts.{Counts}
 use Rattle.entry.specs.declared.entry.Entered.{Entered}
 use Rattle.entry.specs.declared.entry.Entered.the-variants.{Refused}

@@ -24,8 +24,8 @@ use Rattle.entry.specs.declared.entry.Counts.{Counts}
 use Rattle.entry.specs.declared.entry.Entered.{Entered}
 use Rattle.entry.specs.declared.entry.Entered.the-variants.{Stands}
 use Rattle.entry.specs.declared.entry.Entered.the-variants as entered
-use Rattle.clauses.specs.declared.literal.NamedLiteral.{NamedLiteral}
-use Rattle.clauses.specs.declared.literal.NamedLiteral.the-variants.{Found, Absent}
+use Rattle.named_literals.specs.declared.NamedLiteral.{NamedLiteral}
+use Rattle.named_literals.specs.declared.NamedLiteral.the-variants.{Found, Absent}
 use Rattle.inference.specs.declared.Atom.{Atom}
 use Rattle.inference.specs.declared.SignedAtom.{SignedAtom}
 use Rattle.inference.specs.declared.NamedPair.{NamedPair}

@@ -18,13 +18,14 @@ use Rattle.unification.proofs.Tests.{to-T, from-T, both-true, true-not-false}
 use Rattle.derivation.specs.Derivation.{Derivation}
 use Rattle.verdict.specs.State.{State, emptyState}
 use Rattle.verdict.specs.Verdict.{fittingLength, Stands}
-use Rattle.verdict.proofs.Inversions.{not-below}
-use Rattle.verdict.proofs.RangeTests.{not-true, equal, at-most}
+use Rattle.demands.proofs.Inversions.{not-below}
+use Rattle.demands.proofs.RangeTests.{not-true, equal, at-most}
 use Rattle.merging.specs.Answer.{Merge, written, refusedWith, mergeNumbers, firstWhere, symbolList, firstOther, roomFor, afterChecks, outputLeft}
 use Rattle.merging.specs.Merging.{isSymbol, isRow, isClause, isStep, howMany, shifted, symbolsAfter, unless, withoutSymbols, merged, mergedFile}
 use Rattle.merging.proofs.Counting.{stands-counted}
 use Rattle.merging.proofs.ShiftedFits.{shifted-fit}
-use Rattle.shifting.specs.Shifting.{wrapped, shiftedBytes, placedAt, SecondWritable, SecondWritten}
+use Rattle.raising.specs.Wrapped.{wrapped}
+use Rattle.shifting.specs.Shifting.{shiftedBytes, placedAt, SecondWritable, SecondWritten}
 use Rattle.joining.specs.Given.{mergeGiven}
 use Rattle.joining.specs.Joined.{tooMany, BothStand, Joinable, FileWritten, Joined}
 use Rattle.joining.specs.declared.MergeOutcome as given

@@ -1,8 +1,8 @@
 // What comes after the checks of two files that are to be merged: steps, symbols and the number of records are looked at, and then the file is written. In specs/,
 // `Given` has the numbers of the answer; `Joined` says how the parts of this program go about it.
-use shifting::search::Found;
-use shifting::search::first_other;
-use shifting::search::first_step;
+use searching::Found;
+use searching::first_other;
+use searching::first_step;
 use shifting::writing::write_second;
 ghost use mathlib.Core.Path.{_≡_};
 ghost use lib.ListN.{length};

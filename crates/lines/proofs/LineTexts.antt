@@ -16,20 +16,20 @@ use Rattle.unification.specs.Term.{Term}
 use Rattle.unification.specs.ValueArray.{InStep, Models}
 use Rattle.derivation.specs.Derivation.{literals, Literal, Derivation, numbered, maximumIndex, lookup}
 use Rattle.loading.specs.Loaded.{Loadable, Loaded}
-use Rattle.clauses.specs.Named.{namedLiteral}
+use Rattle.named_literals.specs.Named.{namedLiteral}
 use Rattle.derivation.specs.Stored.{literalsCell, indexCell, Stored}
 use Rattle.derivation.specs.Written.{substitution, writtenLiteral, written}
-use Rattle.clauses.proofs.Numbers.{raise-named-zero}
-use Rattle.clauses.proofs.Origins.{stored-cells}
+use Rattle.named_literals.proofs.Numbers.{raise-named-zero}
+use Rattle.named_literals.proofs.Origins.{stored-cells}
 use Rattle.derivation.proofs.Values.{writes-out}
-use Rattle.clauses.specs.declared.literal.NamedLiteral.{NamedLiteral}
-use Rattle.clauses.specs.declared.literal.NamedLiteral.the-variants.{Found, Absent}
+use Rattle.named_literals.specs.declared.NamedLiteral.{NamedLiteral}
+use Rattle.named_literals.specs.declared.NamedLiteral.the-variants.{Found, Absent}
 use Rattle.verdict.specs.Refusal.{mostLiterals}
 use Rattle.verdict.specs.State.{State, entry, derivations, clauseOf, rowOf, termOf}
 use Rattle.verdict.specs.Tables.{Tables}
-use Rattle.verdict.proofs.Inversions.{not-equal}
-use Rattle.verdict.proofs.Reading.{term-of-row}
-use Rattle.verdict.proofs.Standing.{StateOk, order-of}
+use Rattle.demands.proofs.Inversions.{not-equal}
+use Rattle.demands.proofs.Reading.{term-of-row}
+use Rattle.demands.proofs.Standing.{StateOk, order-of}
 use Rattle.entry.specs.Progress.{ReadTo, tablesWith}
 use Rattle.entry.proofs.Kept.{fitting-records}
 use Rattle.inference.proofs.KeptClauses as kept

@@ -15,7 +15,7 @@ use Rattle.derivation.specs.Stored.{Stored}
 use Rattle.derivation.specs.Written.{writtenLiteral, WritesOut}
 use Rattle.verdict.specs.State.{State, clauseOf}
 use Rattle.verdict.specs.Tables.{Tables}
-use Rattle.clauses.specs.Named.{StoredClause}
+use Rattle.named_literals.specs.Named.{StoredClause}
 use Rattle.entry.specs.Progress.{ReadTo, tablesWith}
 use Rattle.collecting.specs.Literals.{Collectable}
 use Rattle.verdict.specs.Readout.{clauseLine}

@@ -1,7 +1,5 @@
 // A line of the readout: a clause written out, with its number, its maximum index and its literals.
 use clauses::index_cell;
-use clauses::literal::NamedLiteral;
-use clauses::literal::literal;
 use clauses::literals_cell;
 use collecting::literals::LiteralList;
 use collecting::literals::collect;
@@ -11,6 +9,8 @@ use following::values::ValueCells;
 use following::values::clear;
 use literal_text::write_literal;
 use loading::load;
+use named_literals::NamedLiteral;
+use named_literals::literal;
 use text::TextBuffer;
 use text::put_byte;
 use text::put_decimal;

@@ -17,7 +17,7 @@ use Rattle.loading.specs.Loaded.{readCell, within, putBindings, putClaus
 use Rattle.derivation.specs.Stored.{indexCell, firstCell, bindingsCell, originCode, Stored, storedInput, storedResolve, storedFactor}
 use Rattle.loading.proofs.LoadedModels.{stored-once}
 use Rattle.loading.proofs.Loading.{clause-read}
-use Rattle.clauses.proofs.Origins.{stored-cells}
+use Rattle.named_literals.proofs.Origins.{stored-cells}
 use native.Mathlib.Numerals.{add-one}
 use borrow.Author.Tests.{leb-true, leb-false, eqb-true, eqb-false}
 use Rattle.following.proofs.Writing.{length-put}

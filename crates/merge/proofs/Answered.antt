@@ -14,8 +14,8 @@ use Rattle.verdict.specs.State.{State}
 use Rattle.verdict.specs.Step.{stateOf}
 use Rattle.verdict.specs.Tables.{Tables, lengthsOf, tablesAfter}
 use Rattle.verdict.specs.Verdict.{Verdict, accepted, open′, refusal, verdictNumbers, check, longEnough, Stands, stateGiven}
-use Rattle.verdict.proofs.Demanded.{not-refused}
-use Rattle.verdict.proofs.Reading.{reading-records}
+use Rattle.demands.proofs.Demanded.{not-refused}
+use Rattle.verdict.proofs.Endings.{reading-records}
 use Rattle.answer.specs.Given.{verdictCoded, verdictStands}
 use Rattle.answer.specs.declared.Answer as answer
 use Rattle.answer.specs.declared.Verdict as verdict

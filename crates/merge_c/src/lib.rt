@@ -1,8 +1,8 @@
-// The merge of two proof files with its answer in cells, as C has it. `ExportedMerge` in specs/ of the crate exported says what it promises.
-use exported::merged::put_merge;
+// The merge of two proof files with its answer in cells, as C has it. `ExportedMerge` in specs/ of the crate exported_merge says what it promises.
+use exported_merge::put_merge;
 use merge::merge;
 ghost use Rattle.entry.specs.Progress.{tablesWith};
-ghost use Rattle.exported.specs.ExportedMerge.{ExportedMerge};
+ghost use Rattle.exported_merge.specs.ExportedMerge.{ExportedMerge};
 
 // The merge of two files, with the answer in four cells. Where `answer` has fewer, nothing is touched.
 pub fn merge_to_cells(

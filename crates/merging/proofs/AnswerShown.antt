@@ -16,9 +16,9 @@ use Rattle.verdict.specs.Refusal.{Reason, reasonNumber}
 use Rattle.verdict.specs.State.{State}
 use Rattle.verdict.specs.Tables.{Tables, lengthsOf, tablesAfter}
 use Rattle.verdict.specs.Verdict.{Verdict, accepted, open′, refusal, check, Stands}
-use Rattle.verdict.proofs.Demanded.{not-refused}
-use Rattle.verdict.proofs.Inversions.{not-below}
-use Rattle.verdict.proofs.RangeTests.{not-true}
+use Rattle.demands.proofs.Demanded.{not-refused}
+use Rattle.demands.proofs.Inversions.{not-below}
+use Rattle.demands.proofs.RangeTests.{not-true}
 use Rattle.merging.specs.Answer.{Merge, written, refusedWith, firstWhere, symbolList, firstOther, roomFor, symbolsCompared, afterChecks, unlessRefused, mergeAnswer, tablesUnlessRefused, tablesLeft, outputLeft}
 use Rattle.merging.specs.Merging.{isStep, merged, mergedFile}
 use Rattle.merging.specs.Promised.{Condition, shortOutput, firstRefused, secondRefused, stepInFirst, stepInSecond, otherSymbols, tooManyRecords, WrittenAt, Merged, MergePromised}

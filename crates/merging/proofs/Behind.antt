@@ -14,9 +14,9 @@ use Rattle.unification.proofs.Tests.{to-T, both-true, true-not-false, some-not-
 use Rattle.verdict.specs.Refusal.{kindOfRecord}
 use Rattle.verdict.specs.State.{State, withSymbol, arities, rowsOf, derivations, arityOf}
 use Rattle.verdict.specs.Step.{stands, refused, Result, enter, step, read, allStand, refusedAt}
-use Rattle.verdict.proofs.Inversions.{stands-same, step-stands, not-below}
-use Rattle.verdict.proofs.RangeTests.{equal}
-use Rattle.verdict.proofs.Reading.{ending-stands, stands-not-refused}
+use Rattle.demands.proofs.Inversions.{stands-same, step-stands, not-below}
+use Rattle.demands.proofs.RangeTests.{equal}
+use Rattle.verdict.proofs.Endings.{ending-stands, stands-not-refused}
 use Rattle.merging.specs.Answer.{firstWhere, symbolList, firstOther}
 use Rattle.merging.specs.Merging.{isSymbol, isStep, shifted, symbolsAfter, unless, withoutSymbols}
 use Rattle.merging.proofs.Beside.{Beside, Goes, symbol-dropped, record-goes}

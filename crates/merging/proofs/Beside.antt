@@ -19,9 +19,9 @@ use Rattle.derivation.specs.Derivation.{input, RowLiteral, inputLiterals, Deriv
 use Rattle.verdict.specs.Refusal.{tests, outlineTests, kindOfRecord, zeros, inRange, argumentRows, hasArity, allBelow, isInput, isApplication, allApplications}
 use Rattle.verdict.specs.State.{State, Window, withSymbol, withRow, withClause, withWindow, entry, arities, rowsOf, derivations, arityOf, clauseOf, rowOf, recordOfRow, nextClause}
 use Rattle.verdict.specs.Step.{stands, refused, Result, requireAll, newApplication, newLiterals, windowIn, enter, step, read, Ending, allStand, refusedAt}
-use Rattle.verdict.proofs.Inversions.{AllPass, all-passed, stands-same, step-stands, tests-passed, Passed, has-arity, all-below, rows-below, entry-below, entry-more, entry-new, entry-some, entry-each, not-below, never-both}
-use Rattle.verdict.proofs.RangeTests.{of-kind, equal, not-true}
-use Rattle.verdict.proofs.Reading.{ending-stands, stands-not-refused}
+use Rattle.demands.proofs.Inversions.{AllPass, all-passed, stands-same, step-stands, tests-passed, Passed, has-arity, all-below, rows-below, entry-below, entry-more, entry-new, entry-some, entry-each, not-below, never-both}
+use Rattle.demands.proofs.RangeTests.{of-kind, equal, not-true}
+use Rattle.verdict.proofs.Endings.{ending-stands, stands-not-refused}
 use Rattle.merging.specs.Answer.{firstWhere, symbolList, firstOther}
 use Rattle.merging.specs.Merging.{isSymbol, isStep, shifted, symbolsAfter, unless, withoutSymbols}
 use Rattle.merging.proofs.Counting.{Listed}

@@ -19,14 +19,14 @@ use Rattle.unification.proofs.Tests.{true-not-false}
 use Rattle.derivation.specs.Derivation.{literals, input, Literal, RowLiteral, inputLiterals, Derivation}
 use Rattle.derivation.proofs.Known.{KnownLiteral, KnownRows, known-literals}
 use Rattle.verdict.specs.Refusal.{kindOfRecord, isInput}
-use Rattle.verdict.specs.Repeats.{withWritten, writtenAfter, writtenRows, termByNumbers, numberTerm}
+use Rattle.demands.specs.Repeats.{withWritten, writtenAfter, writtenRows, termByNumbers, numberTerm}
 use Rattle.verdict.specs.State.{State, emptyState, rowsOf, derivations, earliestOf, nextClause}
 use Rattle.verdict.specs.Step.{stands, refused, Result, newLiterals, enter, step, read, allStand, refusedAt}
-use Rattle.verdict.proofs.Inversions.{stands-same, step-stands, tests-passed, Passed, rows-below}
-use Rattle.verdict.proofs.RangeTests.{of-kind}
-use Rattle.verdict.proofs.Reading.{ending-stands, stands-not-refused}
-use Rattle.verdict.proofs.Shared.{Shared}
-use Rattle.verdict.proofs.WrittenRows.{earliest-term, ReadSame, read-same}
+use Rattle.demands.proofs.Inversions.{stands-same, step-stands, tests-passed, Passed, rows-below}
+use Rattle.demands.proofs.RangeTests.{of-kind}
+use Rattle.verdict.proofs.Endings.{ending-stands, stands-not-refused}
+use Rattle.demands.proofs.Shared.{Shared}
+use Rattle.demands.proofs.WrittenRows.{earliest-term, ReadSame, read-same}
 use Rattle.merging.specs.Answer.{firstWhere}
 use Rattle.merging.specs.Merging.{isStep}
 use Rattle.merging.specs.Promised.{clausesWritten}

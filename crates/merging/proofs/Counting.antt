@@ -12,14 +12,14 @@ use lib.Seq.{getD-append-add}
 use Rattle.record.specs.Record.{pick, Record, records}
 use Rattle.record.proofs.Records.{Shaped, records-shaped}
 use Rattle.unification.proofs.Tests.{to-T, true-not-false}
-use Rattle.verdict.specs.Conditions.{RightLiterals, ofOne, ofSome}
-use Rattle.verdict.specs.Demands.{Adds, addsSymbol, addsVariable, addsApplication, addsInput, addsResolvent, addsFactor, addsWindow}
+use Rattle.demands.specs.Conditions.{RightLiterals, ofOne, ofSome}
+use Rattle.demands.specs.Demands.{Adds, addsSymbol, addsVariable, addsApplication, addsInput, addsResolvent, addsFactor, addsWindow}
 use Rattle.verdict.specs.State.{State, emptyState, withSymbol, entry, arities, arityOf}
 use Rattle.verdict.specs.Step.{stands, refused, Result, step, read, allStand, refusedAt}
 use Rattle.verdict.specs.Verdict.{ending, Stands}
-use Rattle.verdict.proofs.Added.{step-adds}
-use Rattle.verdict.proofs.Inversions.{entry-more, entry-new, not-below}
-use Rattle.verdict.proofs.Reading.{ending-stands, stands-not-refused}
+use Rattle.demands.proofs.Added.{step-adds}
+use Rattle.demands.proofs.Inversions.{entry-more, entry-new, not-below}
+use Rattle.verdict.proofs.Endings.{ending-stands, stands-not-refused}
 use Rattle.merging.specs.Answer.{symbolList}
 use Rattle.merging.specs.Merging.{isSymbol, isRow, isClause, howMany}
 

@@ -23,23 +23,23 @@ use Rattle.derivation.specs.Derivation.{literals, input, resolve, factor, Liter
 use Rattle.derivation.proofs.Literals.{leb-false-lt}
 use Rattle.derivation.proofs.Known.{KnownRows, KnownLiteral, known-literals}
 use Rattle.unification.specs.Repeated.{IsEarliest}
-use Rattle.verdict.specs.Conditions.{TableShort}
-use Rattle.verdict.specs.Demands.{InForce}
+use Rattle.demands.specs.Conditions.{TableShort}
+use Rattle.demands.specs.Demands.{InForce}
 use Rattle.verdict.specs.Force.{windowOf, usesInForce}
 use Rattle.verdict.specs.Refusal.{Reason, isInput, isApplication}
-use Rattle.verdict.specs.Repeats.{writtenAfter, writtenRows, numberTerm, termByNumbers}
+use Rattle.demands.specs.Repeats.{writtenAfter, writtenRows, numberTerm, termByNumbers}
 use Rattle.verdict.specs.State.{State, Window, emptyState, entry, arities, rowsOf, derivations, arityOf, clauseOf, rowOf}
 use Rattle.verdict.specs.Step.{stands, read, step, allStand}
 use Rattle.verdict.specs.Tables.{Tables, lengthsOf}
 use Rattle.verdict.specs.Verdict.{Answer, refusal, check, standing, firstEmpty, fittingLength, ending, Stands}
-use Rattle.verdict.proofs.Demanded.{long-enough, stands-check}
-use Rattle.verdict.proofs.InForceShown.{in-force, of-in-force}
-use Rattle.verdict.proofs.Inversions.{entry-some, entry-each, not-below}
-use Rattle.verdict.proofs.RangeTests.{not-true, equal, at-most}
-use Rattle.verdict.proofs.Reading.{read-on}
-use Rattle.verdict.proofs.Shared.{Shared, shared-start}
-use Rattle.verdict.proofs.Sources.{Sourced, step-sourced, number-of}
-use Rattle.verdict.proofs.WrittenRows.{ReadSame, read-same, no-rows}
+use Rattle.demands.proofs.Demanded.{long-enough, stands-check}
+use Rattle.demands.proofs.InForceShown.{in-force, of-in-force}
+use Rattle.demands.proofs.Inversions.{entry-some, entry-each, not-below}
+use Rattle.demands.proofs.RangeTests.{not-true, equal, at-most}
+use Rattle.verdict.proofs.Endings.{read-on}
+use Rattle.demands.proofs.Shared.{Shared, shared-start}
+use Rattle.demands.proofs.Sources.{Sourced, step-sourced, number-of}
+use Rattle.demands.proofs.WrittenRows.{ReadSame, read-same, no-rows}
 use Rattle.merging.specs.Answer.{firstWhere, symbolList, firstOther}
 use Rattle.merging.specs.Merging.{isSymbol, isRow, isClause, isStep, howMany, shifted, symbolsAfter, unless, withoutSymbols, merged, mergedFile}
 use Rattle.merging.specs.Promised.{longer, clausesWritten, windowDays, daysIn, Merged}

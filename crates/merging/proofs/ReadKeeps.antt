@@ -8,7 +8,7 @@ use Rattle.record.proofs.Records.{Shaped, records-shaped}
 use Rattle.verdict.specs.State.{State, emptyState}
 use Rattle.verdict.specs.Step.{stands, refused, Result, step, read, allStand, refusedAt}
 use Rattle.verdict.specs.Verdict.{ending, Stands}
-use Rattle.verdict.proofs.Reading.{ending-stands, stands-not-refused}
+use Rattle.verdict.proofs.Endings.{ending-stands, stands-not-refused}
 
 module _ (P : State → Type 0) (keeps : (S : State) (k : ℕ) (r : Record) (T : State) → length (r .fields) ≡ 7 → step S k r ≡ stands T → P S → P T) where
   read-keeps : (S : State) (k : ℕ) (rs : List Record) (T : State) → Shaped rs → read S k rs ≡ allStand T → P S → P T

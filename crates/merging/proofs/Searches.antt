@@ -12,9 +12,9 @@ use lib.ListN.{length, getD, take, drop}
 use borrow.Author.Tests.{le-leb}
 use Rattle.record.specs.Record.{pick, Record, records}
 use Rattle.unification.proofs.Tests.{to-T, from-T, both-true, true-not-false, some-not-none, some-injective}
-use Rattle.verdict.specs.Conditions.{OneOf}
-use Rattle.verdict.specs.Demands.{RecordAt}
-use Rattle.verdict.proofs.RangeTests.{not-true, equal, unequal, at-most, not-under}
+use Rattle.demands.specs.Conditions.{OneOf}
+use Rattle.demands.specs.Demands.{RecordAt}
+use Rattle.demands.proofs.RangeTests.{not-true, equal, unequal, at-most, not-under}
 use Rattle.merging.specs.Answer.{firstWhere, symbolList, firstOther}
 use Rattle.merging.specs.Merging.{isSymbol, isStep, howMany}
 use Rattle.merging.specs.Promised.{FirstStep, OtherSymbol, FirstOtherSymbol, Begins}

@@ -21,9 +21,9 @@ use Rattle.verdict.specs.Refusal.{kindOfRecord, isInput, hasArity, allBelow, ze
 use Rattle.verdict.specs.State.{State, emptyState, rowsOf, derivations, arityOf, clauseOf}
 use Rattle.verdict.specs.Step.{stands, refused, Result, step, read, allStand, refusedAt}
 use Rattle.verdict.specs.Verdict.{ending, Stands}
-use Rattle.verdict.proofs.Inversions.{step-stands, tests-passed, Passed, all-below, rows-below, entry-below}
-use Rattle.verdict.proofs.RangeTests.{of-kind, equal, at-most}
-use Rattle.verdict.proofs.Reading.{stands-not-refused}
+use Rattle.demands.proofs.Inversions.{step-stands, tests-passed, Passed, all-below, rows-below, entry-below}
+use Rattle.demands.proofs.RangeTests.{of-kind, equal, at-most}
+use Rattle.verdict.proofs.Endings.{stands-not-refused}
 use Rattle.merging.specs.Merging.{isRow, isClause, howMany, raisedBy, shifted}
 use Rattle.merging.proofs.Counting.{read-counted}
 use Rattle.merging.proofs.Shifts.{raised-most, raisedOf, raised-by, shifted-seven}

@@ -11,7 +11,7 @@ use borrow.Author.Tests.{le-leb, lt-leb, lt-ltb, le-ltb}
 use Rattle.record.specs.Record.{pick, Record, fieldA, fieldB, fieldC}
 use Rattle.derivation.specs.Derivation.{RowLiteral, literalOf, inputLiterals}
 use Rattle.verdict.specs.Refusal.{argumentRows}
-use Rattle.verdict.proofs.RangeTests.{not-true, equal}
+use Rattle.demands.proofs.RangeTests.{not-true, equal}
 use Rattle.merging.specs.Merging.{raisedBy, raisedFrom, shifted}
 
 -- ── Numbers of a list raised ──

@@ -13,8 +13,8 @@ use Rattle.unification.specs.Term.{Term, app, cons}
 use Rattle.unification.proofs.Tests.{both-true}
 use Rattle.derivation.specs.Derivation.{RowLiteral, inputLiterals}
 use Rattle.verdict.specs.Refusal.{kindOfRecord, argumentRows}
-use Rattle.verdict.specs.Repeats.{withWritten, writtenAfter, termByNumbers, numberTerm}
-use Rattle.verdict.proofs.RangeTests.{of-kind, equal}
+use Rattle.demands.specs.Repeats.{withWritten, writtenAfter, termByNumbers, numberTerm}
+use Rattle.demands.proofs.RangeTests.{of-kind, equal}
 use Rattle.merging.specs.Merging.{isSymbol, shifted, symbolsAfter, unless, withoutSymbols}
 use Rattle.merging.proofs.Beside.{eqb-raised}
 use Rattle.merging.proofs.ClausesRead.{literalsBy, inputClauses}

@@ -9,7 +9,7 @@ use lib.Dec.{eqb, leb}
 use lib.ListN.{length, length-map}
 use Rattle.record.specs.Record.{pick, Record, Kind, windowKind, kindNumbered, fieldA}
 use Rattle.unification.proofs.Lists.{Each, each-more}
-use Rattle.verdict.specs.Demands.{Adds, addsSymbol, addsVariable, addsApplication, addsInput, addsResolvent, addsFactor, addsWindow}
+use Rattle.demands.specs.Demands.{Adds, addsSymbol, addsVariable, addsApplication, addsInput, addsResolvent, addsFactor, addsWindow}
 use Rattle.unification.proofs.Tests.{true-not-false}
 use Rattle.derivation.specs.Derivation.{Derivation}
 use Rattle.verdict.specs.Force.{windowOf, within}
@@ -17,9 +17,9 @@ use Rattle.verdict.specs.Refusal.{kindOfRecord, isInput}
 use Rattle.verdict.specs.State.{State, Window, derivations, clauseOf}
 use Rattle.verdict.specs.Step.{stands, step}
 use Rattle.verdict.specs.Verdict.{Stands}
-use Rattle.verdict.proofs.Added.{step-adds}
-use Rattle.verdict.proofs.Inversions.{entry-below, step-stands, tests-passed, Passed}
-use Rattle.verdict.proofs.RangeTests.{not-true, equal}
+use Rattle.demands.proofs.Added.{step-adds}
+use Rattle.demands.proofs.Inversions.{entry-below, step-stands, tests-passed, Passed}
+use Rattle.demands.proofs.RangeTests.{not-true, equal}
 use Rattle.merging.specs.Promised.{windowDays, daysIn}
 use Rattle.merging.proofs.Beside.{eqb-raised, raisedWindow}
 use Rattle.merging.proofs.ReadKeeps.{stands-keeps}

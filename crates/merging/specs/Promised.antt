@@ -10,11 +10,11 @@ use lib.ListN.{length, getD, take}
 use Rattle.record.specs.Record.{pick, Record, records}
 use Rattle.unification.specs.Term.{Term}
 use Rattle.derivation.specs.Derivation.{literals, input, RowLiteral}
-use Rattle.verdict.specs.Conditions.{OneOf, TableShort}
-use Rattle.verdict.specs.Demands.{RecordAt, InForce}
+use Rattle.demands.specs.Conditions.{OneOf, TableShort}
+use Rattle.demands.specs.Demands.{RecordAt, InForce}
 use Rattle.verdict.specs.Force.{windowOf}
 use Rattle.verdict.specs.Refusal.{Reason, reasonNumber}
-use Rattle.verdict.specs.Repeats.{termByNumbers}
+use Rattle.demands.specs.Repeats.{termByNumbers}
 use Rattle.verdict.specs.State.{State, Window, rowsOf, derivations, clauseOf}
 use Rattle.verdict.specs.Tables.{Tables, lengthsOf, tablesAfter}
 use Rattle.verdict.specs.Verdict.{refusal, check, Stands}

@@ -15,14 +15,14 @@ use Rattle.verdict.specs.Step.{require}
 use Rattle.inference.specs.Stepping.{BeforeStep, ResolveKind, StepRead}
 use Rattle.verdict.specs.Tables.{Tables}
 use Rattle.entry.proofs.Declaring.{symbol-read, variable-read, application-read, input-read}
-use Rattle.force.specs.Window.{windowEntered}
-use Rattle.force.proofs.WindowRead.{window-read}
+use Rattle.window_entry.specs.Window.{windowEntered}
+use Rattle.window_entry.proofs.WindowRead.{window-read}
 use Rattle.fields.proofs.FieldLaws.{kind-other}
 use Rattle.entry.proofs.Kept.{few-records, few-symbols, few-rows, few-clauses, rows-fit, origins-length}
 use Rattle.entry.proofs.Entering.{rows-ready}
-use Rattle.verdict.proofs.Inversions.{step-stands}
-use Rattle.verdict.proofs.Resolution.{at-kind}
-use Rattle.verdict.proofs.WrittenRows.{rowsEntered, entered-rows}
+use Rattle.demands.proofs.Inversions.{step-stands}
+use Rattle.demands.proofs.Resolution.{at-kind}
+use Rattle.demands.proofs.WrittenRows.{rowsEntered, entered-rows}
 use Rattle.entry.specs.declared.entry.Counts.{Counts}
 use Rattle.entry.specs.declared.entry.Entered.{Entered}
 use Rattle.entry.specs.declared.entry.Entered.the-variants.{Stands, Refused}

@@ -12,8 +12,8 @@ use Rattle.entry.specs.Progress.{Kept, Reading, Next, RecordRead}
 use Rattle.reading.specs.Reader.{Begun, EndedWith}
 use Rattle.verdict.specs.State.{State, emptyState}
 use Rattle.verdict.specs.Tables.{Tables}
-use Rattle.verdict.specs.Total.{fifthCells}
-use Rattle.verdict.proofs.Advance.{Standing, refused-there, all-read}
+use Rattle.demands.specs.Total.{fifthCells}
+use Rattle.demands.proofs.Advance.{Standing, refused-there, all-read}
 use Rattle.entry.proofs.Entering.{node-table-length}
 use Rattle.entry.proofs.Kept.{standing-of, fitting-records}
 use Rattle.entry.specs.declared.entry.Counts.{Counts}

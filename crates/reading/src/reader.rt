@@ -1,5 +1,6 @@
 // Records one after another: each by its kind.
 use answer::Ended;
+use clause_entry::input_record;
 use distinct::Heads;
 use distinct::Links;
 use entry::entry::Counts;
@@ -8,14 +9,13 @@ use factoring::factor_record;
 use following::nodes::Nodes;
 use following::nodes::Origins;
 use following::values::ValueCells;
-use force::window::window_record;
 use record::kind;
 use record::record_part;
 use record_entry::application_record;
-use record_entry::input_record;
 use record_entry::symbol_record;
 use record_entry::variable_record;
 use resolution::resolve_record;
+use window_entry::window_record;
 ghost use Rattle.distinct.specs.Index.{Indexed};
 ghost use Rattle.entry.specs.Program.{rowsAfter};
 ghost use Rattle.entry.specs.Progress.{Reading, RecordRead, tablesWith};

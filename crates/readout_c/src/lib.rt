@@ -1,8 +1,8 @@
-// A piece of the readout with its progress in cells, as C has it. `ExportedReadout` in specs/ of the crate exported says what it promises.
-use exported::progress::put_progress;
+// A piece of the readout with its progress in cells, as C has it. `ExportedReadout` in specs/ of the crate exported_readout says what it promises.
+use exported_readout::put_progress;
 use readout::readout_piece;
 ghost use Rattle.entry.specs.Progress.{tablesWith};
-ghost use Rattle.exported.specs.ExportedReadout.{ExportedReadout};
+ghost use Rattle.exported_readout.specs.ExportedReadout.{ExportedReadout};
 
 // A piece of the readout of a file on a day, from a clause on, with the progress in three cells. Where `progress` has fewer, nothing is touched.
 pub fn readout_to_cells(

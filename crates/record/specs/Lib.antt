@@ -1,4 +1,3 @@
 pub mod Record
-pub mod Reader
 pub mod Bytes
 pub mod Cases

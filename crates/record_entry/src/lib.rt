@@ -1,37 +1,27 @@
-// Records of kind 1 to 4: each is tested in the order of the numbers that it can be refused with, and then entered in the tables. `Program`
+// Records of kind 1 to 3: each is tested in the order of the numbers that it can be refused with, and then entered in the tables. `Program`
 // in specs/ of the crate entry has the contracts.
 use distinct::Heads;
 use distinct::Links;
 use entry::entry::Counts;
 use entry::entry::Entered;
-use entry::rows::no_variable;
-use entry::rows::put_cells;
 use entry::rows::taken_arguments;
-use entry::rows::taken_literals;
 use fields::Arity;
-use fields::application_in_range;
 use fields::arguments_below;
 use fields::arity_in;
-use fields::input_in_range;
-use fields::literal_rows_below;
-use fields::symbol_in_range;
-use fields::variable_in_range;
 use following::nodes::Nodes;
-use following::nodes::Origins;
-use record::clause_literals;
+use ranges::application_in_range;
+use ranges::symbol_in_range;
+use ranges::variable_in_range;
 use record::count;
 use record::field;
-use record::fields;
-use record::record_part;
+use record_fields::fields;
 use row_entry::enter_row;
-use tables::put_clause;
 use tables::set_cell;
 ghost use mathlib.Core.Path.{_≡_};
 ghost use Prim.Native.Nat.{_≤_, _<_};
-ghost use lib.ListN.{length};
-ghost use Rattle.record.specs.Record.{recordPart, kindOf, countOf};
+ghost use Rattle.record.specs.Record.{countOf};
 ghost use Rattle.distinct.specs.Index.{Indexed};
-ghost use Rattle.entry.specs.Program.{RowsReady, RowsIndexed, rowsAfter, symbolLeft, symbolEntered, rowLeft, variableEntered, applicationThere, applicationEntered, inputLeft, inputEntered};
+ghost use Rattle.entry.specs.Program.{RowsIndexed, rowsAfter, symbolLeft, symbolEntered, rowLeft, variableEntered, applicationThere, applicationEntered};
 
 // Kind 1. The table of symbols gets the record's number.
 pub fn symbol_record(part: &[u8], k: u16, counts: Counts, symbols: &mut [u16]) -> Entered
@@ -115,44 +105,4 @@ pub fn application_record(
     let written = fields(part);
     let numbers = taken_arguments(nodes, &written);
     enter_row(&numbers, k, code, counts, rows, nodes, heads, links)
-}
-
-// Kind 4. An input clause has maximum index 1 and no bindings. The clause reader's seven numbers go to the table of origins, each row taken as the
-// earliest equal one.
-pub fn input_record(
-    file: &[u8],
-    k: u16,
-    counts: Counts,
-    clauses: &mut [u16],
-    nodes: &Nodes,
-    origins: &mut Origins,
-) -> Entered
-    requires { ⌜ kindOf (recordPart (now file) k) ≡ 4 ⌝ }
-    requires { ⌜ counts .clauses < 4096 ⌝ }
-    requires { ⌜ RowsReady (now nodes) × (length (now origins) ≡ 32768) ⌝ }
-    ensures { λ e. ⌜ inputLeft e (now (clauses .exit)) (now (origins .exit)) ≡ inputEntered (recordPart (now (file .entry)) k) k counts (now (clauses .entry)) (now (nodes .entry)) (now (origins .entry)) ⌝ }
-    ensures { λ _. ⌜ length (now (origins .exit)) ≡ 32768 ⌝ }
-{
-    let part = record_part(file, k as usize);
-    if !input_in_range(part) {
-        return Entered::Refused(4);
-    }
-    if !literal_rows_below(part, counts.rows) {
-        return Entered::Refused(5);
-    }
-    if !no_variable(nodes, part) {
-        return Entered::Refused(7);
-    }
-    let n = counts.clauses;
-    let read = clause_literals(file, k as usize);
-    let written = read.numbers;
-    let numbers = taken_literals(nodes, &written);
-    put_cells(origins, n, 1, &numbers);
-    put_clause(clauses, n, k, read.count as u16, 1, counts.bindings, 0);
-    Entered::Stands(Counts {
-        symbols: counts.symbols,
-        rows: counts.rows,
-        clauses: n + 1,
-        bindings: counts.bindings,
-    })
 }

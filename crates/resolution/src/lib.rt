@@ -1,6 +1,5 @@
 // Records of kind 5 and 7: a resolve, on one right literal or on several. Its literals are looked up and its tests made here; on the atoms that were
 // found the crate resolvents goes on. `Stepping` in specs/ of the crate inference has the contracts.
-use clauses::literal::NamedLiteral;
 use entry::entry::Counts;
 use entry::entry::Entered;
 use following::nodes::Nodes;
@@ -8,8 +7,9 @@ use following::nodes::Origins;
 use following::values::ValueCells;
 use inference::Atom;
 use inference::named_literal;
-use record::fields;
+use named_literals::NamedLiteral;
 use record::record_part;
+use record_fields::fields;
 use resolvents::resolve_atoms;
 use rights::refused_rights;
 use step_fields::right_count;

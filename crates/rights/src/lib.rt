@@ -1,10 +1,10 @@
 // The right literals that a resolve names (document 02, Q-3): looked up one after another, and their atoms listed, two cells for each, its row
 // and its index. `Rights` in specs/ of the crate inference has the contracts.
-use clauses::literal::NamedLiteral;
-use clauses::literal::literal;
 use following::nodes::Origins;
 use inference::rights::NamedRights;
 use inference::same_sign;
+use named_literals::NamedLiteral;
+use named_literals::literal;
 ghost use mathlib.Core.Path.{_≡_};
 ghost use mathlib.Core.Bool.{_&&_, not};
 ghost use Prim.Native.Nat.{_≤_, _<_};

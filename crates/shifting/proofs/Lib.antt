@@ -1,3 +1,2 @@
-pub mod SearchSteps
-pub mod WritingSteps
+pub mod Dropping
 pub mod Placing

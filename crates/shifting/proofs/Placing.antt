@@ -13,8 +13,9 @@ use Rattle.record.specs.Record.{pick, Record, recordCount, recordPart, decoded,
 use Rattle.record.proofs.Records.{record-numbered, records-length}
 use Rattle.record.proofs.Bytes.{record-sixteen, file-length, file-joined}
 use Rattle.merging.specs.Merging.{isSymbol, shifted, symbolsAfter, unless, withoutSymbols}
-use Rattle.shifting.specs.Shifting.{wrapped, isDropped, shiftedBytes, placedAt, nextRecord, NextWritable, NextWritten, SecondWritable, SecondWritten}
-use Rattle.shifting.proofs.WritingSteps.{tail-lent, tail-back}
+use Rattle.raising.specs.Wrapped.{wrapped}
+use Rattle.shifting.specs.Shifting.{isDropped, shiftedBytes, placedAt, nextRecord, NextWritable, NextWritten, SecondWritable, SecondWritten}
+use Rattle.raising.proofs.Raising.{tail-lent, tail-back}
 
 -- ── Bytes placed in an output ──
 

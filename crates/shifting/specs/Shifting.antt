@@ -1,41 +1,17 @@
--- How the program looks through the records of two files and writes those of the second: the contracts of its inner functions. No promise needs this
--- file; what a merge is stands in the crate merging.
+-- How the program writes the records of the second file: the contracts of its inner functions. No promise needs this file; what a merge is stands in the
+-- crate merging.
 use mathlib.Core.Path.{_≡_}
 use mathlib.Core.Bool.{Bool, _&&_}
-use mathlib.Core.Option.{Option, none, some}
 use mathlib.Core.List.{List, [], _++_, map}
-use Prim.Native.Nat.{ℕ, _+_, _*_, _%_, _≤_, _<_}
+use Prim.Native.Nat.{ℕ, _+_, _*_, _%_, _≤_}
 use lib.Dec.{ltb}
 use lib.ListN.{length, take, drop}
 use Rattle.record.specs.Bytes.{fileBytes}
-use Rattle.record.specs.Record.{Record, decoded, records, recordCount}
-use Rattle.merging.specs.Answer.{symbolList, firstOther}
+use Rattle.record.specs.Record.{Record, decoded, records}
 use Rattle.merging.specs.Merging.{isSymbol, unless, shifted, withoutSymbols}
-use Rattle.shifting.specs.declared.search.Found.{Found}
-use Rattle.shifting.specs.declared.search.Found.the-variants as found
-use Rattle.shifting.specs.declared.search.Move.{Move}
-use Rattle.shifting.specs.declared.search.Move.the-variants as move
+use Rattle.raising.specs.Wrapped.{wrapped}
 
--- The record found.
-abbrev pub foundGiven : Found → Option ℕ
-foundGiven (found.At k) = some k
-foundGiven found.Nothing = none
-
--- Where the comparison of symbols stands: it goes on with record i of the first file and record j of the second.
-abbrev pub othersFrom : List ℕ → List ℕ → ℕ → ℕ → Option ℕ
-othersFrom first second i j = firstOther (symbolList (drop i (records first))) j (drop j (records second))
-
--- What a move says: it goes on further along and comes to the same; or it has ended.
-abbrev pub Moved : List ℕ → List ℕ → ℕ → ℕ → Move → Type 0
-Moved first second i j (move.To a b) =
-    (othersFrom first second i j ≡ othersFrom first second a b) × (i ≤ a) × (j ≤ b) × (i + j < a + b) × (a ≤ recordCount first) × (b ≤ 4096)
-Moved first second i j move.Ended = othersFrom first second i j ≡ none
-Moved first second i j move.Other = othersFrom first second i j ≡ some j
-
--- A record with fields of 16 bits: each as its two lowest bytes have it.
-abbrev pub wrapped : Record → Record
-wrapped r = record { kind = r .kind; count = r .count; fields = map (λ n. n % 65536) (r .fields) }
-
+-- A symbol record that is left out: there are s symbols before it, and the first file has `symbols`.
 abbrev pub isDropped : ℕ → ℕ → Record → Bool
 isDropped symbols s r = isSymbol r && ltb s symbols
 

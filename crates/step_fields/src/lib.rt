@@ -1,6 +1,6 @@
 // Tests of a step by its own bytes: the fields that it uses, and the right literals of a resolve. `Fields` in specs/ of the crate fields has the
 // contracts.
-use fields::zeros_from;
+use ranges::zeros_from;
 use record::count;
 use record::field;
 use record::kind;

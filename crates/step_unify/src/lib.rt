@@ -9,7 +9,7 @@ use inference::Atom;
 use loading::load;
 use unify::Unified;
 use unify_atoms::unify_literals;
-use unify_atoms::unify_with_each;
+use unify_each::unify_with_each;
 ghost use mathlib.Core.Path.{_≡_};
 ghost use Rattle.unify.specs.Unifying.{outcomeOf};
 ghost use Rattle.verdict.specs.Step.{unifyResolve, unifyFactor};

@@ -10,10 +10,10 @@ use lib.ListN.{length, getD, length-map}
 use borrow.Author.Tests.{ne-eqb}
 use Rattle.record.specs.Record.{pick}
 use Rattle.derivation.specs.Derivation.{Derivation}
-use Rattle.verdict.proofs.DaysShown.{clause-lines-length, clause-line-at}
+use Rattle.demands.proofs.DaysShown.{clause-lines-length, clause-line-at}
 use Rattle.verdict.specs.State.{State, derivations, clauseOf}
 use Rattle.verdict.specs.Verdict.{check, Lengths}
-use Rattle.verdict.proofs.Inversions.{entry-below}
+use Rattle.demands.proofs.Inversions.{entry-below}
 use Rattle.answer.proofs.GivenNumbers.{stateLeft}
 use Rattle.units.specs.Pieces.{units, unitsWithin}
 use Rattle.verdict.specs.Readout.{verdictLine, clauseLine, clauseLines, linesOf, readoutLines}

@@ -12,8 +12,8 @@ use Rattle.verdict.specs.State.{State, emptyState, derivations, entry, clauseOf
 use Rattle.verdict.specs.Step.{stateOf}
 use Rattle.verdict.specs.Tables.{lengthsOf}
 use Rattle.verdict.specs.Verdict.{Verdict, accepted, open′, refusal, check, Lengths, longEnough, fittingLength, ending}
-use Rattle.verdict.proofs.Inversions.{entry-below, entry-more, entry-new}
-use Rattle.verdict.proofs.Reading.{ending-ok}
+use Rattle.demands.proofs.Inversions.{entry-below, entry-more, entry-new}
+use Rattle.demands.proofs.Reading.{ending-ok}
 use Rattle.answer.specs.declared.Answer.{Answer}
 use Rattle.units.specs.Pieces.{units, unitsWithin, PiecesHold}
 use Rattle.verdict.specs.Readout.{verdictLine, clauseLine, clauseLines, readoutLines}

@@ -1,31 +1,29 @@
--- The case sheet and the edges of the limits, by computing; and the lengths, for every file.
+-- The case sheet and the edges of the limits, by computing.
 use mathlib.Core.Path.{_≡_, refl, sym, _∙_, ap, fun-ext}
 use mathlib.Core.Bool.{Bool, true, false}
 use mathlib.Core.List.{List, [], _∷_, _++_, map}
-use Prim.Native.Nat.{ℕ, zero, suc, _+_, _-_}
+use Prim.Native.Nat.{ℕ, zero, suc, _+_, _-_, _/_}
 use native.Mathlib.Omega.{arith}
 use lib.ListN.{length, take, drop, replicate, length-replicate, take-append-drop}
 use Rattle.record.specs.Bytes.{recordBytes, fileBytes}
-use Rattle.record.specs.Record.{pick, Record, records}
+use Rattle.record.specs.Record.{pick, Record, decoded, parts, records}
 use Rattle.unification.specs.Environment.{Binding, Environment}
 use Rattle.unification.specs.Outlines.{mostOutlinePairs, clashWithin}
 use Rattle.unification.specs.Row.{Row, application, rowAt}
 use Rattle.unification.specs.Unification.{mostWork, mostBindings, mostLinks, overwork, unified, failed, unifying, run}
 use Rattle.unification.proofs.Failures.{reached-run}
 use Rattle.unification.proofs.Limits.{work-16384}
-use Rattle.unification.proofs.Tests.{true-not-false}
 use Rattle.unification.proofs.Trees as trees
 use Rattle.derivation.specs.Derivation.{input, inputLiterals}
-use Rattle.verdict.specs.Cases.{recordOf, inputClause, nines, holding, Case, works, caseOf, cases, StoredAsBytes, CasesHold, refusedForLength, LengthsHold}
-use Rattle.verdict.specs.Edges.{answerTo, ranges, unusedFields, outlines, severalLiterals, indexEdge, literalEdge, workEdge, eights, EdgesHold, WindowsHold, ShortTablesHold, TextsHold}
+use Rattle.verdict.specs.Cases.{recordOf, inputClause, nines, holding, Case, works, caseOf, caseLongest, caseTooLong, casesBefore, casesAfter, cases, StoredAsBytes, CasesHold}
+use Rattle.verdict.specs.Edges.{answerTo, ranges, unusedFields, outlines, severalLiterals, indexEdge, literalEdge, workEdge, eights, EdgesHold, RoomsHold, FarRowHolds, WindowsHold, ShortTablesHold, TextsHold}
 use Rattle.verdict.specs.Readout.{linesOf, joinedLines, readout, readoutLines}
-use Rattle.verdict.specs.Refusal.{unification, mostLiterals, mostIndex}
+use Rattle.verdict.specs.Refusal.{badLength, mostLiterals, mostIndex}
 use Rattle.verdict.specs.State.{State, emptyState, derivations}
 use Rattle.verdict.specs.Step.{Ending, allStand, refusedAt, require, requireAll, enter, onNamed, step, read, addClause, stateOf}
 use Rattle.verdict.specs.Tables.{Tables, lengthsOf, symbolCells, rowCells, clauseCells, bindingCells, filled, filledTables, tablesGiven, tablesAfter}
 use Rattle.verdict.specs.Verdict.{refusal, verdictOf, leastLengths, check, answerNumbers, longEnough, answerOf, verdictGiven, stateGiven, Lengths, fittingLength, ending, Reading, untouched, readTo, reading}
-use Rattle.verdict.proofs.Demanded.{length-only}
-use Rattle.verdict.proofs.Reading.{reading-records, read-on}
+use Rattle.verdict.proofs.Endings.{reading-records, read-on}
 
 -- ── The case sheet: its tables are compared by the cells that they start with ──
 
@@ -67,19 +65,19 @@ given-tables : (r : Reading) → tablesGiven r nines ≡ tablesOf r
 given-tables (untouched reason) = refl
 given-tables (readTo e) = filled-held (stateOf e)
 
--- A case, given what becomes of its file, which is then computed once.
-abbrev caseFrom : ℕ → List ℕ → Reading → Case
-caseFrom day file r = record {
+-- A case, given what becomes of its file, which is then computed once, and the work of its steps.
+abbrev caseFrom : ℕ → List ℕ → Reading → List ℕ → Case
+caseFrom day file r work = record {
   day = day;
   file = file;
   answer = answerNumbers (answerOf (verdictGiven day r) (stateGiven r));
   tables = tablesOf r;
-  work = pick (fittingLength (length file)) (works emptyState 0 (records file)) [];
+  work = work;
   readout = joinedLines (linesOf (verdictGiven day r) (stateGiven r));
 }
 
 abbrev caseBy : ℕ → List ℕ → Lengths → Case
-caseBy day file lengths = caseFrom day file (reading file lengths)
+caseBy day file lengths = caseFrom day file (reading file lengths) (pick (fittingLength (length file)) (works emptyState 0 (records file)) [])
 
 case-by : (day : ℕ) (file : List ℕ) → caseOf day file ≡ caseBy day file ninesLengths
 unfolding tablesAfter check readoutLines
@@ -92,9 +90,41 @@ case-by day file = (λ i. record {
   readout = readout day file (lengthsOf nines);
 }) ∙ ap (caseBy day file) nines-lengths
 
-computed : map (λ c. caseBy (c .day) (c .file) ninesLengths) cases ≡ cases
+-- The same of a file whose length is given, so that the two longest files are not counted out.
+abbrev recordsOf : ℕ → List ℕ → List Record
+recordsOf n file = map decoded (parts (n / 16) file)
+
+abbrev caseAt : ℕ → List ℕ → ℕ → Case
+caseAt day file n =
+    caseFrom day file (pick (fittingLength n) (readTo (read emptyState 0 (recordsOf n file))) (untouched badLength)) (pick (fittingLength n) (works emptyState 0 (recordsOf n file)) [])
+
+case-at : (day : ℕ) (file : List ℕ) → caseBy day file ninesLengths ≡ caseAt day file (length file)
+unfolding records ending
+case-at day file = refl
+
+zeros-case : (n : ℕ) → caseBy 0 (replicate n 0) ninesLengths ≡ caseAt 0 (replicate n 0) n
+zeros-case n = case-at 0 (replicate n 0) ∙ ap (caseAt 0 (replicate n 0)) (length-replicate {A = ℕ} n 0)
+
+longest-by : caseAt 0 (replicate 65536 0) 65536 ≡ caseLongest
+unfolding require
+longest-by = refl
+
+too-long-by : caseAt 0 (replicate 65552 0) 65552 ≡ caseTooLong
+too-long-by = refl
+
+abbrev madeFrom : List Case → List Case
+madeFrom cs = map (λ c. caseBy (c .day) (c .file) ninesLengths) cs
+
+computed-before : madeFrom casesBefore ≡ casesBefore
 unfolding fileBytes recordBytes records ending require addClause clashWithin mostOutlinePairs run mostWork mostBindings mostLinks mostLiterals mostIndex
-computed = refl
+computed-before = refl
+
+computed-after : madeFrom casesAfter ≡ casesAfter
+unfolding fileBytes recordBytes records ending require addClause clashWithin mostOutlinePairs run mostWork mostBindings mostLinks mostLiterals mostIndex
+computed-after = refl
+
+computed : madeFrom cases ≡ cases
+computed = λ i. computed-before i ++ ((zeros-case 65536 ∙ longest-by) i ∷ (zeros-case 65552 ∙ too-long-by) i ∷ computed-after i)
 
 pub cases-hold : CasesHold
 cases-hold = ap (λ made. map (λ c. made (c .day) (c .file)) cases) (fun-ext (λ day. fun-ext (case-by day))) ∙ computed
@@ -224,6 +254,13 @@ several-hold = refl
 pub edges-hold : EdgesHold
 edges-hold = λ i. ranges-hold i ++ (unused-hold i ++ (index-edge i ∷ literal-edge i ∷ (answered workEdge work-fits ∙ work-numbers) i ∷ (outlines-hold i ++ several-hold i)))
 
+pub rooms-hold : RoomsHold
+unfolding require addClause clashWithin mostOutlinePairs run mostWork mostBindings mostLinks mostLiterals mostIndex
+rooms-hold = refl
+
+pub far-row-holds : FarRowHolds
+far-row-holds = refl
+
 pub windows-hold : WindowsHold
 unfolding fileBytes recordBytes records check ending require addClause clashWithin mostOutlinePairs run mostWork mostBindings mostLinks mostLiterals mostIndex
 windows-hold = refl
@@ -256,18 +293,7 @@ short-tables-hold = record {
       ∷ short-untouched 4096 4096 20479 32768 refl i ∷ short-untouched 4096 4096 20480 32767 refl i ∷ [];
 }
 
--- ── The readout, and the lengths of files ──
+-- ── The readout ──
 
 pub texts-hold : TextsHold
 texts-hold = record { digits = refl; occurrences64 = refl; occurrences65 = refl }
-
-bad-length : (day : ℕ) (file : List ℕ) (lengths : Lengths) → fittingLength (length file) ≡ false → answerNumbers (check day file lengths) ≡ refusedForLength
-unfolding check
-bad-length day file lengths f = rw f
-
-pub lengths-hold : LengthsHold
-lengths-hold = record {
-  longest = λ day file tables k l z. true-not-false (rw l refl) (length-only day file tables k z);
-  fifteen = λ day file lengths l. bad-length day file lengths (rw l refl);
-  tooLong = λ day file lengths l. bad-length day file lengths (rw l refl);
-}

@@ -15,11 +15,11 @@ use Rattle.record.specs.Record.{pick, Record, records, resolveKind, severalKind
 use Rattle.unification.specs.Unification.{mostWork, Outcome, unified, failed}
 use Rattle.derivation.specs.Derivation.{Literal, Derivation}
 use Rattle.verdict.specs.Readout.{readout}
-use Rattle.verdict.specs.Refusal.{badLength, leftOf, rightOf, deletedOf}
+use Rattle.verdict.specs.Refusal.{leftOf, rightOf, deletedOf}
 use Rattle.verdict.specs.State.{State, emptyState}
 use Rattle.verdict.specs.Step.{stands, refused, step, unifyResolve, unifyFactor}
 use Rattle.verdict.specs.Tables.{Tables, lengthsOf, tablesAfter}
-use Rattle.verdict.specs.Verdict.{refusal, check, answerNumbers, Lengths, fittingLength}
+use Rattle.verdict.specs.Verdict.{check, answerNumbers, fittingLength}
 
 -- ── How a case is written ──
 
@@ -394,20 +394,42 @@ caseInSeason = seasonOn 200 (1 ∷ 2 ∷ 0 ∷ 1 ∷ 1 ∷ 3 ∷ 0 ∷ []) (line
 abbrev pub caseOutOfSeason : Case
 caseOutOfSeason = seasonOn 300 (0 ∷ 0 ∷ 0 ∷ 1 ∷ 1 ∷ 3 ∷ 0 ∷ []) (lines ("open" ∷ []))
 
+-- The same rule twice: -s0(v0) +s0(s1(v0)) resolved with +s0(s2), and then with what that gave. Each step binds v0 of its own use, at index 2 and at
+-- index 3, and the second value is over the first.
+abbrev pub caseTwice : Case
+caseTwice = record {
+  day = 0;
+  file = fileBytes (symbolOf 1 ∷ symbolOf 1 ∷ symbolOf 0 ∷ applicationRow 2 [] ∷ applicationRow 0 (0 ∷ []) ∷ variableRow 0 ∷ applicationRow 1 (2 ∷ [])
+      ∷ applicationRow 0 (2 ∷ []) ∷ applicationRow 0 (3 ∷ []) ∷ inputClause (3 ∷ []) ∷ inputClause (8 ∷ 11 ∷ []) ∷ resolveStep 0 1 1 1 ∷ resolveStep 2 1 1 1 ∷ []);
+  answer = 0 ∷ 0 ∷ 0 ∷ 3 ∷ 6 ∷ 4 ∷ 2 ∷ [];
+  tables = holding (0 ∷ 1 ∷ 2 ∷ []) (numbersFrom 3 6) (9 ∷ 1 ∷ 1 ∷ 0 ∷ 0 ∷ 10 ∷ 2 ∷ 1 ∷ 0 ∷ 0 ∷ 11 ∷ 1 ∷ 2 ∷ 0 ∷ 1 ∷ 12 ∷ 1 ∷ 3 ∷ 1 ∷ 1 ∷ []) (2 ∷ 2 ∷ 0 ∷ 1 ∷ 2 ∷ 3 ∷ 3 ∷ 2 ∷ []);
+  work = 3 ∷ 4 ∷ [];
+  readout = lines ("open" ∷ "0 1 +s0(s2)" ∷ "1 1 -s0(v0.1) +s0(s1(v0.1))" ∷ "2 2 +s0(s1(s2))" ∷ "3 3 +s0(s1(s1(s2)))" ∷ []);
+}
+
+-- Document 02, Q-2: a literal on a repeat is on the earliest row. Row 2 repeats row 1, s0(v0), so the factor of +row 1 +row 2 has one row on both sides, and
+-- takes work 1.
+abbrev pub caseRepeatedLiteral : Case
+caseRepeatedLiteral = record {
+  day = 0;
+  file = fileBytes (symbolOf 1 ∷ variableRow 0 ∷ applicationRow 0 (0 ∷ []) ∷ applicationRow 0 (0 ∷ []) ∷ inputClause (3 ∷ 5 ∷ []) ∷ factorStep 0 1 2 ∷ []);
+  answer = 0 ∷ 0 ∷ 0 ∷ 1 ∷ 3 ∷ 2 ∷ 0 ∷ [];
+  tables = holding (0 ∷ []) (1 ∷ 2 ∷ 2 ∷ []) (4 ∷ 2 ∷ 1 ∷ 0 ∷ 0 ∷ 5 ∷ 1 ∷ 1 ∷ 0 ∷ 0 ∷ []) [];
+  work = 1 ∷ [];
+  readout = lines ("open" ∷ "0 1 +s0(v0.1) +s0(v0.1)" ∷ "1 1 +s0(v0.1)" ∷ []);
+}
+
+-- The table: the cases before the two of the longest files, these, and the cases after them.
+abbrev pub casesBefore : List Case
+casesBefore = caseA ∷ caseB ∷ caseC ∷ []
+
+abbrev pub casesAfter : List Case
+casesAfter =
+    caseD ∷ caseE ∷ caseF ∷ caseG ∷ caseGBad ∷ caseH ∷ caseI ∷ caseJ ∷ caseRepeats ∷ caseSeveral ∷ caseSides ∷ caseInOrder ∷ caseInSeason ∷ caseOutOfSeason ∷ caseTwice ∷ caseRepeatedLiteral ∷ caseK ∷ []
+
 abbrev pub cases : List Case
-cases =
-    caseA ∷ caseB ∷ caseC ∷ caseLongest ∷ caseTooLong ∷ caseD ∷ caseE ∷ caseF ∷ caseG ∷ caseGBad ∷ caseH ∷ caseI ∷ caseJ ∷ caseRepeats ∷ caseSeveral ∷ caseSides ∷ caseInOrder ∷ caseInSeason ∷ caseOutOfSeason ∷ caseK ∷ []
+cases = casesBefore ++ (caseLongest ∷ caseTooLong ∷ casesAfter)
 
 -- The definitions give what is written.
 abbrev pub CasesHold : Type 0
 CasesHold = map (λ c. caseOf (c .day) (c .file)) cases ≡ cases
-
--- The lengths of C for every file, on every day and whatever the tables: one of 65,536 bytes is never refused with 1, and those of 15 and of 65,552 bytes
--- always are.
-abbrev pub refusedForLength : List ℕ
-refusedForLength = 2 ∷ 1 ∷ 0 ∷ 0 ∷ 0 ∷ 0 ∷ 0 ∷ []
-
-pub record LengthsHold : Type 0 where
-  pub longest : (day : ℕ) (file : List ℕ) (tables : Tables) (k : ℕ) → length file ≡ 65536 → ¬ (check day file (lengthsOf tables) .verdict ≡ refusal badLength k)
-  pub fifteen : (day : ℕ) (file : List ℕ) (lengths : Lengths) → length file ≡ 15 → answerNumbers (check day file lengths) ≡ refusedForLength
-  pub tooLong : (day : ℕ) (file : List ℕ) (lengths : Lengths) → length file ≡ 65552 → answerNumbers (check day file lengths) ≡ refusedForLength

@@ -1,17 +1,21 @@
 -- Edges of document 01's limits ("The file", "Verdict, tables and refusals", "The readout"): what is at a limit stands, and what is one
--- past it is refused; and of document 02's outlines, steps on several literals and windows. The limits of bindings and of outlines are in the crate
--- unification.
+-- past it is refused; and of document 02's outlines, steps on several literals and windows. The limit of outlines is in the crate
+-- unification, and so is that of bindings as unification sees it.
 use mathlib.Core.Path.{_≡_}
-use mathlib.Core.Bool.{true}
+use mathlib.Core.Bool.{true, false}
 use mathlib.Core.List.{List, [], _∷_, _++_, map}
 use Prim.Native.Nat.{ℕ, zero, suc}
 use lib.ListN.{replicate}
 use Rattle.record.specs.Bytes.{fileBytes}
 use Rattle.record.specs.Record.{Record}
-use Rattle.unification.specs.Row.{variable, Row, Variable}
+use Rattle.unification.specs.Row.{variable, Row, application, Variable}
 use Rattle.unification.specs.Term.{Term, var, app, nil, cons}
+use Rattle.derivation.specs.Derivation.{input}
 use Rattle.verdict.specs.Cases.{recordOf, symbolOf, variableRow, applicationRow, inputClause, resolveStep, factorStep, numbersFrom, textBytes}
-use Rattle.verdict.specs.Tables.{Tables, lengthsOf, tablesAfter}
+use Rattle.verdict.specs.Refusal.{reasonNumber}
+use Rattle.verdict.specs.State.{State, emptyState, withRow}
+use Rattle.verdict.specs.Step.{stands, refused, Result, step}
+use Rattle.verdict.specs.Tables.{Tables, lengthsOf, rowCells, tablesAfter}
 use Rattle.verdict.specs.Text.{decimal, signText, termText, literalText}
 use Rattle.verdict.specs.Verdict.{check, answerNumbers, leastLengths}
 
@@ -91,11 +95,20 @@ limits =
     ∷ []
 
 -- Reason 10, document 02, Q-1: s0(v0,v0,s2) against s0(v0,s1(v0),row), whose last argument is s3 or s2. The variable occurs in its value (11), but
--- different constants clash in the outlines, and that comes first. As a resolve and as a factor.
+-- different constants clash in the outlines, and that comes first. As a resolve and as a factor; and as a resolve on two right literals, of which the first
+-- brings the occurrence and the second, s0(v0,v0,s3), the clash.
 abbrev pub beforeOccurrence : ℕ → List Record → List Record
 beforeOccurrence row rs =
     symbolOf 3 ∷ symbolOf 1 ∷ symbolOf 0 ∷ symbolOf 0 ∷ variableRow 0 ∷ applicationRow 1 (0 ∷ []) ∷ applicationRow 2 [] ∷ applicationRow 3 []
     ∷ applicationRow 0 (0 ∷ 0 ∷ 2 ∷ []) ∷ applicationRow 0 (0 ∷ 1 ∷ row ∷ []) ∷ rs
+
+-- Outlines are of the rows as written: clause 2 is +s0(v0,v0,v1), in which a step has bound v1 to s2, and clause 3 is -s0(v0,s1(v0),s3). A variable
+-- clashes with nothing, whatever it is bound to, so the occurrence is found (11).
+abbrev pub asWritten : List Record
+asWritten =
+    symbolOf 3 ∷ symbolOf 1 ∷ symbolOf 0 ∷ symbolOf 0 ∷ variableRow 0 ∷ variableRow 1 ∷ applicationRow 1 (0 ∷ []) ∷ applicationRow 1 (1 ∷ []) ∷ applicationRow 2 [] ∷ applicationRow 3 []
+    ∷ applicationRow 0 (0 ∷ 0 ∷ 1 ∷ []) ∷ applicationRow 0 (0 ∷ 2 ∷ 5 ∷ []) ∷ applicationRow 1 (4 ∷ [])
+    ∷ inputClause (13 ∷ 7 ∷ []) ∷ inputClause (16 ∷ []) ∷ resolveStep 0 2 1 1 ∷ inputClause (14 ∷ []) ∷ resolveStep 2 1 3 1 ∷ []
 
 abbrev pub outlines : List Answered
 outlines =
@@ -103,6 +116,8 @@ outlines =
     ∷ (beforeOccurrence 2 (inputClause (9 ∷ []) ∷ inputClause (10 ∷ []) ∷ resolveStep 0 1 1 1 ∷ []), 2 ∷ 11 ∷ 12 ∷ 4 ∷ 6 ∷ 2 ∷ 0 ∷ [])
     ∷ (beforeOccurrence 3 (inputClause (9 ∷ 11 ∷ []) ∷ recordOf 6 0 (0 ∷ 1 ∷ 2 ∷ []) ∷ []), 2 ∷ 10 ∷ 11 ∷ 4 ∷ 6 ∷ 1 ∷ 0 ∷ [])
     ∷ (beforeOccurrence 2 (inputClause (9 ∷ 11 ∷ []) ∷ recordOf 6 0 (0 ∷ 1 ∷ 2 ∷ []) ∷ []), 2 ∷ 11 ∷ 11 ∷ 4 ∷ 6 ∷ 1 ∷ 0 ∷ [])
+    ∷ (beforeOccurrence 2 (applicationRow 0 (0 ∷ 0 ∷ 3 ∷ []) ∷ inputClause (8 ∷ []) ∷ inputClause (11 ∷ 13 ∷ []) ∷ recordOf 7 2 (0 ∷ 1 ∷ 1 ∷ 1 ∷ 2 ∷ []) ∷ []), 2 ∷ 10 ∷ 13 ∷ 4 ∷ 7 ∷ 2 ∷ 0 ∷ [])
+    ∷ (asWritten, 2 ∷ 11 ∷ 17 ∷ 4 ∷ 9 ∷ 4 ∷ 1 ∷ [])
     ∷ []
 
 -- Document 02, Q-3: clause 0 is -s0(s1), clause 1 is +s0(v0) -s0(v1) +s0(v1). A step of kind 7 with byte 1 0 or 5, or with an unused field (4); on a
@@ -134,10 +149,41 @@ edges = ranges ++ (unusedFields ++ (limits ++ (outlines ++ severalLiterals)))
 abbrev pub EdgesHold : Type 0
 EdgesHold = map (λ e. answerTo (e .0)) edges ≡ map (λ e. e .1) edges
 
+-- Reason 13: the room for bindings goes by those that the state holds, in a resolve and in a factor. Clause 0 is +s0(v0) +s0(s1), clause 1 is -s0(s1), and
+-- either step binds v0: where 8,191 are held it stands and leaves 8,192, and where 8,192 are held it is refused.
+abbrev pub holdingBindings : ℕ → State
+holdingBindings n = record {
+  symbols = (1, 0) ∷ (0, 1) ∷ [];
+  rows = (5, application 0 (1 ∷ [])) ∷ (4, application 0 (0 ∷ [])) ∷ (3, application 1 []) ∷ (2, variable 0) ∷ [];
+  clauses = (7, input 1 ((false, 3) ∷ [])) ∷ (6, input 0 ((true, 2) ∷ (true, 3) ∷ [])) ∷ [];
+  total = n;
+  windows = [];
+}
+
+-- 0 and the bindings held after a step that stands; 2 and the reason of one that is refused.
+abbrev pub stepNumbers : Result → List ℕ
+stepNumbers (stands T) = 0 ∷ T .total ∷ []
+stepNumbers (refused reason) = 2 ∷ reasonNumber reason ∷ []
+
+abbrev pub rooms : List (ℕ × Record × List ℕ)
+rooms =
+    (8191, resolveStep 1 1 0 1, 0 ∷ 8192 ∷ [])
+    ∷ (8192, resolveStep 1 1 0 1, 2 ∷ 13 ∷ [])
+    ∷ (8191, factorStep 0 1 2, 0 ∷ 8192 ∷ [])
+    ∷ (8192, factorStep 0 1 2, 2 ∷ 13 ∷ [])
+    ∷ []
+
+abbrev pub RoomsHold : Type 0
+RoomsHold = map (λ e. stepNumbers (step (holdingBindings (e .0)) 8 (e .1))) rooms ≡ map (λ e. e .2) rooms
+
+-- A row in record 256, the first whose number takes two bytes: the table of rows has the whole number.
+abbrev pub FarRowHolds : Type 0
+FarRowHolds = rowCells (withRow emptyState 256 (variable 0)) ≡ 256 ∷ []
+
 -- Document 02, Q-6: clause 0 is +s0, clause 1 is -s0, and clause 2, their resolvent, is empty; then come other records. With days 10 to 20 for clause 0
 -- the days 9, 10, 20 and 21, and with them for clause 1, the right parent, 9 and 10; day 10 alone, and the days about it; days 30 to 40 after 10 to 20,
 -- and 10 to 20 after 30 to 40, which supersede; a later record for clause 1 supersedes nothing of clause 0; two empty clauses, of which the lower uses
--- clause 0 and the other does not. Then what is refused: byte 1 and the first and last spare field (4), a clause that does not exist and one that is
+-- clause 0 and the other does not, on a day of clause 0 and on another. Then what is refused: byte 1 and the first and last spare field (4), a clause that does not exist and one that is
 -- derived (5, also with crossed days), crossed days (16), kind 9 (3).
 abbrev pub twoClauses : List Record → List Record
 twoClauses rs = symbolOf 0 ∷ applicationRow 0 [] ∷ inputClause (1 ∷ []) ∷ inputClause (0 ∷ []) ∷ resolveStep 0 1 1 1 ∷ rs
@@ -166,6 +212,7 @@ windows =
     ∷ (20, twoClauses (windowFor 0 30 40 ∷ windowFor 0 10 20 ∷ []), 1 ∷ 2 ∷ 0 ∷ 1 ∷ 1 ∷ 3 ∷ 0 ∷ [])
     ∷ (30, twoClauses (windowFor 0 30 40 ∷ windowFor 0 10 20 ∷ []), 0 ∷ 0 ∷ 0 ∷ 1 ∷ 1 ∷ 3 ∷ 0 ∷ [])
     ∷ (30, twoClauses (windowFor 0 10 20 ∷ windowFor 1 30 40 ∷ []), 0 ∷ 0 ∷ 0 ∷ 1 ∷ 1 ∷ 3 ∷ 0 ∷ [])
+    ∷ (10, twoClauses (windowFor 0 10 20 ∷ inputClause (1 ∷ []) ∷ resolveStep 3 1 1 1 ∷ []), 1 ∷ 2 ∷ 0 ∷ 1 ∷ 1 ∷ 5 ∷ 0 ∷ [])
     ∷ (30, twoClauses (windowFor 0 10 20 ∷ inputClause (1 ∷ []) ∷ resolveStep 3 1 1 1 ∷ []), 1 ∷ 4 ∷ 0 ∷ 1 ∷ 1 ∷ 5 ∷ 0 ∷ [])
     ∷ (9, furtherBack (factorStep 0 1 2 ∷ resolveStep 2 1 1 1 ∷ windowFor 0 10 20 ∷ []), 0 ∷ 0 ∷ 0 ∷ 1 ∷ 1 ∷ 4 ∷ 0 ∷ [])
     ∷ (10, furtherBack (factorStep 0 1 2 ∷ resolveStep 2 1 1 1 ∷ windowFor 0 10 20 ∷ []), 1 ∷ 3 ∷ 0 ∷ 1 ∷ 1 ∷ 4 ∷ 0 ∷ [])

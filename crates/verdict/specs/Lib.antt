@@ -6,13 +6,5 @@ pub mod Verdict
 pub mod Tables
 pub mod Text
 pub mod Readout
-pub mod Conditions
-pub mod Demands
-pub mod Outlines
-pub mod Repeats
-pub mod Several
-pub mod Total
-pub mod Lifting
-pub mod Days
 pub mod Cases
 pub mod Edges

@@ -8,7 +8,7 @@ use Rattle.answer.proofs.standing.Tie as tie
 use Rattle.answer.proofs.standing.Reads as reads
 use Rattle.answer.proofs.standing.Lts as lts
 use Rattle.answer.proofs.first_accepted.Reads as first-accepted-reads
-use Rattle.force.proofs.flags.in_force.Reads as in-force-reads
+use Rattle.flagging.proofs.in_force.Reads as in-force-reads
 
 slice-aggregate-in-force : tie.Need-slice-aggregate-in-force
 slice-aggregate-in-force c = search needs

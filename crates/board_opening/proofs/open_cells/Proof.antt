@@ -9,7 +9,7 @@ use Rattle.board_opening.proofs.open_cells.Tie as tie
 use Rattle.board_opening.proofs.open_cells.Reads as reads
 use Rattle.board_opening.proofs.open_cells.Lts as lts
 use Rattle.board_opening.proofs.fill.Reads as fill-reads
-use Rattle.force.proofs.flags.in_force.Reads as in-force-reads
+use Rattle.flagging.proofs.in_force.Reads as in-force-reads
 
 slice-aggregate-in-force : tie.Need-slice-aggregate-in-force
 slice-aggregate-in-force c = search needs

@@ -1,10 +1,10 @@
-use Rattle.exported.proofs.CoveringWritten.{covers-left-alone, covers-exported}
+use Rattle.exported_covers.proofs.CoveringWritten.{covers-left-alone, covers-exported}
 use borrow.Author.Needs.{needs}
 use Rattle.covers_c.proofs.covers_to_cells.Statement.{statement}
 use Rattle.covers_c.proofs.covers_to_cells.Tie as tie
 use Rattle.covers_c.proofs.covers_to_cells.Reads as reads
 use Rattle.covers_c.proofs.covers_to_cells.Lts as lts
-use Rattle.exported.proofs.covering.put_covering.Reads as put-covering-reads
+use Rattle.exported_covers.proofs.put_covering.Reads as put-covering-reads
 use Rattle.cover.proofs.covers.Reads as covers-reads
 
 returns : tie.Need-returns

@@ -1,7 +1,7 @@
 -- One law for each way out.
 use mathlib.Core.Path.{sym, ap, refl, _∙_}
 use native.Mathlib.Omega.{arith}
-use Rattle.shifting.specs.Shifting.{foundGiven}
+use Rattle.searching.specs.Searching.{foundGiven}
 use Rattle.joining.proofs.FileJoined.{short-file, counted-many, to-join, short-end, step-first, step-second, other-symbol, too-many, joined-whole}
 use borrow.Author.Needs.{needs}
 use Rattle.joining.proofs.join.Statement.{statement}
@@ -10,8 +10,8 @@ use Rattle.joining.proofs.join.Reads as reads
 use Rattle.joining.proofs.join.Lts as lts
 use Rattle.joining.proofs.too_many.Reads as too-many-reads
 use Rattle.joining.proofs.write_both.Reads as write-both-reads
-use Rattle.shifting.proofs.search.first_other.Reads as first-other-reads
-use Rattle.shifting.proofs.search.first_step.Reads as first-step-reads
+use Rattle.searching.proofs.first_other.Reads as first-other-reads
+use Rattle.searching.proofs.first_step.Reads as first-step-reads
 
 first-step-requires : tie.Need-first-step-requires
 first-step-requires c κs =

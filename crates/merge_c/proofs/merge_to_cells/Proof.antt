@@ -1,10 +1,10 @@
-use Rattle.exported.proofs.MergeWritten.{merge-left-alone, merge-exported}
+use Rattle.exported_merge.proofs.MergeWritten.{merge-left-alone, merge-exported}
 use borrow.Author.Needs.{needs}
 use Rattle.merge_c.proofs.merge_to_cells.Statement.{statement}
 use Rattle.merge_c.proofs.merge_to_cells.Tie as tie
 use Rattle.merge_c.proofs.merge_to_cells.Reads as reads
 use Rattle.merge_c.proofs.merge_to_cells.Lts as lts
-use Rattle.exported.proofs.merged.put_merge.Reads as put-merge-reads
+use Rattle.exported_merge.proofs.put_merge.Reads as put-merge-reads
 use Rattle.merge.proofs.merge.Reads as merge-reads
 
 returns : tie.Need-returns

@@ -1,10 +1,10 @@
-use Rattle.exported.proofs.ProgressWritten.{left-alone, piece-exported}
+use Rattle.exported_readout.proofs.ProgressWritten.{left-alone, piece-exported}
 use borrow.Author.Needs.{needs}
 use Rattle.readout_c.proofs.readout_to_cells.Statement.{statement}
 use Rattle.readout_c.proofs.readout_to_cells.Tie as tie
 use Rattle.readout_c.proofs.readout_to_cells.Reads as reads
 use Rattle.readout_c.proofs.readout_to_cells.Lts as lts
-use Rattle.exported.proofs.progress.put_progress.Reads as put-progress-reads
+use Rattle.exported_readout.proofs.put_progress.Reads as put-progress-reads
 use Rattle.readout.proofs.readout_piece.Reads as readout-piece-reads
 
 returns : tie.Need-returns

@@ -11,9 +11,9 @@ use Rattle.record_entry.proofs.application_record.Lts as lts
 use Rattle.record_entry.proofs.application_there.Reads as application-there-reads
 use Rattle.row_entry.proofs.enter_row.Reads as enter-row-reads
 use Rattle.entry.proofs.rows.taken_arguments.Reads as taken-arguments-reads
-use Rattle.fields.proofs.application_in_range.Reads as application-in-range-reads
+use Rattle.ranges.proofs.application_in_range.Reads as application-in-range-reads
 use Rattle.record.proofs.count.Reads as count-reads
-use Rattle.record.proofs.fields.Reads as fields-reads
+use Rattle.record_fields.proofs.fields.Reads as fields-reads
 
 application-in-range-requires : tie.Need-application-in-range-requires
 application-in-range-requires c κs = search needs

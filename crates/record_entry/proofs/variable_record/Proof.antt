@@ -9,8 +9,8 @@ use Rattle.record_entry.proofs.variable_record.Tie as tie
 use Rattle.record_entry.proofs.variable_record.Reads as reads
 use Rattle.record_entry.proofs.variable_record.Lts as lts
 use Rattle.row_entry.proofs.enter_row.Reads as enter-row-reads
-use Rattle.fields.proofs.variable_in_range.Reads as variable-in-range-reads
-use Rattle.record.proofs.fields.Reads as fields-reads
+use Rattle.ranges.proofs.variable_in_range.Reads as variable-in-range-reads
+use Rattle.record_fields.proofs.fields.Reads as fields-reads
 
 variable-in-range-requires : tie.Need-variable-in-range-requires
 variable-in-range-requires c κs = search needs

@@ -12,7 +12,7 @@ use Rattle.step_fields.proofs.right_count.Reads as right-count-reads
 use Rattle.step_fields.proofs.rights_rise.Reads as rights-rise-reads
 use Rattle.inference.proofs.named_literal.Reads as named-literal-reads
 use Rattle.rights.proofs.refused_rights.Reads as refused-rights-reads
-use Rattle.record.proofs.fields.Reads as fields-reads
+use Rattle.record_fields.proofs.fields.Reads as fields-reads
 use Rattle.record.proofs.record_part.Reads as record-part-reads
 use Rattle.resolvents.proofs.resolve_atoms.Reads as resolve-atoms-reads
 

@@ -9,7 +9,7 @@ use Rattle.step_fields.proofs.several_in_range.Statement.{statement}
 use Rattle.step_fields.proofs.several_in_range.Tie as tie
 use Rattle.step_fields.proofs.several_in_range.Reads as reads
 use Rattle.step_fields.proofs.several_in_range.Lts as lts
-use Rattle.fields.proofs.zeros_from.Reads as zeros-from-reads
+use Rattle.ranges.proofs.zeros_from.Reads as zeros-from-reads
 use Rattle.record.proofs.count.Reads as count-reads
 
 count-requires : tie.Need-count-requires

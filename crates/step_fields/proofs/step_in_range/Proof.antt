@@ -2,7 +2,7 @@
 use lib.ListN.{drop}
 use Rattle.record.specs.Record.{fieldsOf}
 use Rattle.verdict.specs.Refusal.{zeros}
-use Rattle.fields.proofs.FieldLaws.{none-passed, none-failed}
+use Rattle.ranges.proofs.RangeLaws.{none-passed, none-failed}
 use borrow.Author.Needs.{needs}
 use Rattle.step_fields.proofs.step_in_range.Statement.{statement}
 use Rattle.step_fields.proofs.step_in_range.Tie as tie

@@ -8,7 +8,7 @@ use Rattle.step_unify.proofs.unify_resolve.Lts as lts
 use Rattle.clauses.proofs.index_cell.Reads as index-cell-reads
 use Rattle.following.proofs.values.clear.Reads as clear-reads
 use Rattle.loading.proofs.load.Reads as load-reads
-use Rattle.unify_atoms.proofs.unify_with_each.Reads as unify-with-each-reads
+use Rattle.unify_each.proofs.unify_with_each.Reads as unify-with-each-reads
 
 index-cell-requires : tie.Need-index-cell-requires
 index-cell-requires c κs = search needs

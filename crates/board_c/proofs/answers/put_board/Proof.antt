@@ -1,7 +1,7 @@
 use native.Mathlib.Omega.{arith}
 use Prim.Native.Nat.{_≤_}
 use lib.ListN.{length}
-use Rattle.board_c.proofs.BoardWritten.{three-stored}
+use Rattle.exported.proofs.ThreeStored.{stored}
 use borrow.Author.Needs.{needs}
 use Rattle.board_c.proofs.answers.put_board.Statement.{statement}
 use Rattle.board_c.proofs.answers.put_board.Tie as tie
@@ -27,7 +27,7 @@ same-length c = search needs
 
 returns : tie.Need-returns
 returns c =
-    three-stored _ _ _ _ (c .before .before .args .answer .now) (c .board-numbers .ensures) (c .before .before .pre)
+    stored _ _ _ _ (c .before .before .args .answer .now) (c .board-numbers .ensures) (c .before .before .pre)
 
 pub put-board-spec : {M : Type 1} → statement M
 put-board-spec =

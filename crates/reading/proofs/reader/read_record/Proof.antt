@@ -7,11 +7,11 @@ use Rattle.reading.proofs.reader.read_record.Tie as tie
 use Rattle.reading.proofs.reader.read_record.Reads as reads
 use Rattle.reading.proofs.reader.read_record.Lts as lts
 use Rattle.record_entry.proofs.application_record.Reads as application-record-reads
-use Rattle.record_entry.proofs.input_record.Reads as input-record-reads
+use Rattle.clause_entry.proofs.input_record.Reads as input-record-reads
 use Rattle.record_entry.proofs.symbol_record.Reads as symbol-record-reads
 use Rattle.record_entry.proofs.variable_record.Reads as variable-record-reads
 use Rattle.factoring.proofs.factor_record.Reads as factor-record-reads
-use Rattle.force.proofs.window.window_record.Reads as window-record-reads
+use Rattle.window_entry.proofs.window_record.Reads as window-record-reads
 use Rattle.record.proofs.kind.Reads as kind-reads
 use Rattle.record.proofs.record_part.Reads as record-part-reads
 use Rattle.resolution.proofs.resolve_record.Reads as resolve-record-reads

@@ -1,4 +1,4 @@
-use Rattle.shifting.proofs.WritingSteps.{symbol-dropped, other-kept}
+use Rattle.shifting.proofs.Dropping.{symbol-dropped, other-kept}
 use borrow.Author.Needs.{needs}
 use Rattle.shifting.proofs.writing.is_dropped.Statement.{statement}
 use Rattle.shifting.proofs.writing.is_dropped.Tie as tie

@@ -1,4 +1,4 @@
-use Rattle.shifting.proofs.WritingSteps.{symbol-counted, other-uncounted}
+use Rattle.shifting.proofs.Dropping.{symbol-counted, other-uncounted}
 use borrow.Author.Needs.{needs}
 use Rattle.shifting.proofs.writing.symbols_after.Statement.{statement}
 use Rattle.shifting.proofs.writing.symbols_after.Tie as tie

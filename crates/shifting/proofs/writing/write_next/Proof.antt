@@ -1,13 +1,13 @@
 use native.Mathlib.Omega.{arith}
 use Rattle.shifting.proofs.Placing.{next-dropped, next-room, next-put}
-use Rattle.shifting.proofs.WritingSteps.{tail-room}
+use Rattle.raising.proofs.Raising.{tail-room}
 use borrow.Author.Needs.{needs}
 use Rattle.shifting.proofs.writing.write_next.Statement.{statement}
 use Rattle.shifting.proofs.writing.write_next.Tie as tie
 use Rattle.shifting.proofs.writing.write_next.Reads as reads
 use Rattle.shifting.proofs.writing.write_next.Lts as lts
 use Rattle.shifting.proofs.writing.is_dropped.Reads as is-dropped-reads
-use Rattle.shifting.proofs.writing.put_shifted.Reads as put-shifted-reads
+use Rattle.raising.proofs.put_shifted.Reads as put-shifted-reads
 
 is-dropped-requires : tie.Need-is-dropped-requires
 is-dropped-requires c κs = search needs

@@ -3,7 +3,7 @@ use Prim.Native.Nat.{_-_}
 use native.Mathlib.Omega.{arith}
 use lib.ListN.{length}
 use Rattle.shifting.proofs.Placing.{Reached, reached-first, next-writable, reached-more, reached-end}
-use Rattle.shifting.proofs.WritingSteps.{tail-lent}
+use Rattle.raising.proofs.Raising.{tail-lent}
 use borrow.Author.Needs.{needs}
 use Rattle.shifting.proofs.writing.write_second.Statement.{statement}
 use Rattle.shifting.proofs.writing.write_second.Tie as tie

@@ -1,0 +1,18 @@
+-- Document 01, "Case sheet", the lengths of case C: for every file.
+use mathlib.Core.Path.{_≡_}
+use mathlib.Core.List.{List, [], _∷_}
+use Prim.Native.Nat.{ℕ}
+use lib.ListN.{length}
+use Rattle.verdict.specs.Refusal.{badLength}
+use Rattle.verdict.specs.Tables.{Tables, lengthsOf}
+use Rattle.verdict.specs.Verdict.{refusal, check, answerNumbers, Lengths}
+
+-- The lengths of C for every file, on every day and whatever the tables: one of 65,536 bytes is never refused with 1, and those of 15 and of 65,552 bytes
+-- always are.
+abbrev pub refusedForLength : List ℕ
+refusedForLength = 2 ∷ 1 ∷ 0 ∷ 0 ∷ 0 ∷ 0 ∷ 0 ∷ []
+
+pub record LengthsHold : Type 0 where
+  pub longest : (day : ℕ) (file : List ℕ) (tables : Tables) (k : ℕ) → length file ≡ 65536 → ¬ (check day file (lengthsOf tables) .verdict ≡ refusal badLength k)
+  pub fifteen : (day : ℕ) (file : List ℕ) (lengths : Lengths) → length file ≡ 15 → answerNumbers (check day file lengths) ≡ refusedForLength
+  pub tooLong : (day : ℕ) (file : List ℕ) (lengths : Lengths) → length file ≡ 65552 → answerNumbers (check day file lengths) ≡ refusedForLength

@@ -1,0 +1,9 @@
+pub mod Conditions
+pub mod Demands
+pub mod Outlines
+pub mod Repeats
+pub mod Several
+pub mod Total
+pub mod Lifting
+pub mod Days
+pub mod Lengths

@@ -1,0 +1,2 @@
+pub mod KeptFlags
+pub mod CheckLaws
