@@ -3,8 +3,8 @@
 mod children;
 
 use children::put_children;
-use following::nodes::Origins;
 use flagging::in_force;
+use following::nodes::Origins;
 use tables::cell;
 use tables::clear;
 use tables::set_cell;

@@ -18,9 +18,9 @@ ghost use Rattle.entry.specs.Progress.{tablesWith};
 ghost use Rattle.checker.specs.Contract.{workspaceWith};
 ghost use Rattle.exported.specs.Exported.{Exported};
 ghost use Rattle.exported.specs.ExportedWith.{ExportedWith};
-ghost use Rattle.exported.specs.ExportedReadout.{ExportedReadout};
-ghost use Rattle.exported.specs.ExportedCovers.{ExportedCovers};
-ghost use Rattle.exported.specs.ExportedMerge.{ExportedMerge};
+ghost use Rattle.exported_readout.specs.ExportedReadout.{ExportedReadout};
+ghost use Rattle.exported_covers.specs.ExportedCovers.{ExportedCovers};
+ghost use Rattle.exported_merge.specs.ExportedMerge.{ExportedMerge};
 ghost use Rattle.board_c.specs.ExportedBoard.{ExportedOpening, ExportedCall};
 
 // The check of a file on a day, with the answer in seven cells. Where `answer` has fewer, nothing is touched.
