@@ -2,13 +2,13 @@
 use mathlib.Core.Path.{_≡_, refl, sym, ap, _∙_, subst}
 use mathlib.Core.Bool.{Bool, true, false, _&&_}
 use mathlib.Core.Option.{Option, none, some}
-use mathlib.Core.List.{List, [], _∷_}
+use mathlib.Core.List.{List, [], _∷_, _++_}
 use Prim.Native.Nat.{ℕ, _+_, _*_, _%_, _≤_}
 use native.Mathlib.Omega.{arith}
 use lib.Dec.{eqb, leb, ltb}
 use lib.ListN.{length, getD, length-map}
 use borrow.Author.Tests.{le-ltb}
-use Rattle.record.specs.Record.{records}
+use Rattle.record.specs.Record.{pick, records}
 use Rattle.record.proofs.Records.{records-length, records-shaped}
 use Rattle.unification.proofs.Lists.{Each}
 use Rattle.unification.proofs.Tests.{both-true}
@@ -30,7 +30,7 @@ use Rattle.demands.proofs.Reading.{stands-ok}
 use Rattle.demands.proofs.RangeTests.{at-most}
 use Rattle.demands.proofs.Standing.{inputs-of}
 use Rattle.demands.proofs.TableCells.{sizeOf, read-size}
-use Rattle.boards.specs.Board.{Presence, allPresent, changed, standsWith, answerAfresh, Answer, answered, refusedWith, Call, afterCalls}
+use Rattle.boards.specs.Board.{Presence, allPresent, changed, standsWith, answerAfresh, Answer, answered, refusedWith, Call, afterCall, afterCalls}
 use Rattle.boards.specs.Cells.{boardOf, callAnswer}
 use Rattle.boards.specs.Opening.{stateLeft, unlessRefused, boardUnlessRefused, openingAnswer, boardOpened}
 use Rattle.boards.specs.Promised.{UsesPresent, UsesClause, boardAfterCalls, BoardPromised}
@@ -128,6 +128,27 @@ module _ (day : ℕ) (file : List ℕ) (tables : Tables) (board : List ℕ) (S :
   after-calls : (calls : List Call) → boardAfterCalls file C (boardOpened day file tables board) calls ≡ boardOf day S (afterCalls S allPresent calls) board
   after-calls calls = ap (λ (B : List ℕ). boardAfterCalls file C B calls) opened-so ∙ boards-called day S board few long file C H record-cells literal-cells allPresent calls
 
+  -- One call more.
+  last-call : (P : Presence) (calls : List Call) (call : Call) → afterCalls S P (calls ++ (call ∷ [])) ≡ afterCall S (afterCalls S P calls) call
+  last-call P [] call = refl
+  last-call P (first ∷ calls) call = last-call (afterCall S P first) calls call
+
+  others-same : (calls : List Call) (call : Call) (m : ℕ) (c : Derivation) → clauseOf S m ≡ some c → ¬ UsesClause c (call .clause)
+      → (standsWith (afterCalls S allPresent (calls ++ (call ∷ []))) c ≡ standsWith (afterCalls S allPresent calls) c)
+      × (getD (boardAfterCalls file C (boardOpened day file tables board) (calls ++ (call ∷ []))) m 0 ≡ getD (boardAfterCalls file C (boardOpened day file tables board) calls) m 0)
+  others-same calls call m c q h = (
+    unused-same (afterCalls S allPresent (calls ++ (call ∷ []))) (afterCalls S allPresent calls) (uses c) same,
+    ap (λ (B : List ℕ). getD B m 0) (after-calls (calls ++ (call ∷ []))) ∙ cell-same day S board few long file C H record-cells literal-cells (afterCalls S allPresent (calls ++ (call ∷ []))) (afterCalls S allPresent calls) m c q same ∙ ap (λ (B : List ℕ). getD B m 0) (sym (after-calls calls)),
+  )
+    where
+      by : (u : Use) → OneOf u (uses c) → (b : Bool) → pick b (changed (afterCalls S allPresent calls) (call .clause) (call .present)) (afterCalls S allPresent calls) (u .0) ≡ afterCalls S allPresent calls (u .0)
+      by u o true = changed-other (afterCalls S allPresent calls) (call .clause) (call .present) (u .0) (λ e. h (u, o, e))
+      by u o false = refl
+
+      same : Each (λ (u : Use). afterCalls S allPresent (calls ++ (call ∷ [])) (u .0) ≡ afterCalls S allPresent calls (u .0)) (uses c)
+      same = all-uses (λ (u : Use). afterCalls S allPresent (calls ++ (call ∷ [])) (u .0) ≡ afterCalls S allPresent calls (u .0)) (uses c)
+          (λ u o. ap (λ (P : Presence). P (u .0)) (last-call allPresent calls call) ∙ by u o (isInput (clauseOf S (call .clause))))
+
   pub board-promised : BoardPromised day file tables board S
   board-promised = record {
     opened = opened-so;
@@ -140,8 +161,6 @@ module _ (day : ℕ) (file : List ℕ) (tables : Tables) (board : List ℕ) (S :
     answers = λ calls call.
         ap (λ (B : List ℕ). callAnswer file C B (call .clause) (call .present)) (after-calls calls)
         ∙ call-answered day S board few long file C H record-cells literal-cells (afterCalls S allPresent calls) call;
-    otherClauses = λ P n b m c q h.
-        let same = all-uses (λ (u : Use). changed P n b (u .0) ≡ P (u .0)) (uses c) (λ u o. changed-other P n b (u .0) (λ e. h (u, o, e))) in
-        (unused-same (changed P n b) P (uses c) same, cell-same day S board few long file C H record-cells literal-cells (changed P n b) P m c q same);
+    otherClauses = others-same;
     refuted = refuted-by;
   }

@@ -1,8 +1,8 @@
 -- Document 02, Q-9: what is shown of a board that was opened and then changed by calls alone, while nobody else writes board, file or tables.
 use mathlib.Core.Path.{_≡_}
-use mathlib.Core.Bool.{Bool, true, false}
+use mathlib.Core.Bool.{true}
 use mathlib.Core.Option.{some}
-use mathlib.Core.List.{List, [], _∷_}
+use mathlib.Core.List.{List, [], _∷_, _++_}
 use Prim.Native.Nat.{ℕ}
 use lib.ListN.{length, getD}
 use Rattle.derivation.specs.Derivation.{Derivation, Use, uses}
@@ -11,7 +11,7 @@ use Rattle.demands.specs.Demands.{UsesInForce, Refutation}
 use Rattle.verdict.specs.Refusal.{isInput}
 use Rattle.verdict.specs.State.{State, clauseOf}
 use Rattle.verdict.specs.Tables.{Tables, tablesAfter}
-use Rattle.boards.specs.Board.{Presence, allPresent, changed, standsWith, answerAfresh, answered, Call, afterCalls, answerToCall}
+use Rattle.boards.specs.Board.{Presence, allPresent, standsWith, answerAfresh, answered, Call, afterCalls, answerToCall}
 use Rattle.boards.specs.Cells.{boardOf, boardAfter, callAnswer}
 use Rattle.boards.specs.Opening.{openingAnswer, boardOpened}
 
@@ -43,7 +43,9 @@ pub record BoardPromised (day : ℕ) (file : List ℕ) (tables : Tables) (board 
       → callAnswer file (tablesAfter file tables .clauses) (boardAfterCalls file (tablesAfter file tables .clauses) (boardOpened day file tables board) calls) (call .clause) (call .present)
       ≡ answerToCall day S (afterCalls S allPresent calls) call
   -- A call about one clause alters no clause that does not use it: neither its standing nor its cell.
-  pub otherClauses : (P : Presence) (n : ℕ) (present : Bool) (m : ℕ) (c : Derivation) → clauseOf S m ≡ some c → ¬ UsesClause c n
-      → (standsWith (changed P n present) c ≡ standsWith P c) × (getD (boardOf day S (changed P n present) board) m 0 ≡ getD (boardOf day S P board) m 0)
+  pub otherClauses : (calls : List Call) (call : Call) (m : ℕ) (c : Derivation) → clauseOf S m ≡ some c → ¬ UsesClause c (call .clause)
+      → (standsWith (afterCalls S allPresent (calls ++ (call ∷ []))) c ≡ standsWith (afterCalls S allPresent calls) c)
+      × (getD (boardAfterCalls file (tablesAfter file tables .clauses) (boardOpened day file tables board) (calls ++ (call ∷ []))) m 0
+      ≡ getD (boardAfterCalls file (tablesAfter file tables .clauses) (boardOpened day file tables board) calls) m 0)
   -- The clause answered has demand 3, and its instances are of present clauses in force on the day.
   pub refuted : (P : Presence) (n : ℕ) → answerAfresh day S P ≡ some n → Refutation (λ c. UsesInForce file day c × UsesPresent P c) file tables S n

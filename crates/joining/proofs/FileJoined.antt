@@ -137,27 +137,21 @@ module _ (first second : List ℕ) (symbols rows clauses others : ℕ) (output :
 
   pub to-join : (b : Bool) → b ≡ tooMany (length first) (length second) symbols others → b ≡ false → Joinable first second symbols rows clauses output
   to-join b q f = record {
-    ofFirst = B .ofFirst;
-    ofSecond = B .ofSecond;
-    firstStands = B .firstStands;
-    secondStands = B .secondStands;
-    symbolsOfFirst = B .symbolsOfFirst;
-    rowsOfFirst = B .rowsOfFirst;
-    clausesOfFirst = B .clausesOfFirst;
-    room = B .room;
+    others = others;
+    stand = B;
     few = not-below 4096 (length (merged (records first) (records second))) (sym counted-many ∙ sym q ∙ f);
   }
 
 -- ── The file is written ──
 module _ (first second : List ℕ) (symbols rows clauses : ℕ) (output : List ℕ) (J : Joinable first second symbols rows clauses output) where
   symbols-are : symbols ≡ howMany isSymbol (records first)
-  symbols-are = let a = stands-counted first (J .ofFirst) (J .firstStands) .symbols in let b = J .symbolsOfFirst in omega arith
+  symbols-are = let a = stands-counted first (J .stand .ofFirst) (J .stand .firstStands) .symbols in let b = J .stand .symbolsOfFirst in omega arith
 
   rows-are : rows ≡ howMany isRow (records first)
-  rows-are = let a = stands-counted first (J .ofFirst) (J .firstStands) .rows in let b = J .rowsOfFirst in omega arith
+  rows-are = let a = stands-counted first (J .stand .ofFirst) (J .stand .firstStands) .rows in let b = J .stand .rowsOfFirst in omega arith
 
   clauses-are : clauses ≡ howMany isClause (records first)
-  clauses-are = let a = stands-counted first (J .ofFirst) (J .firstStands) .clauses in let b = J .clausesOfFirst in omega arith
+  clauses-are = let a = stands-counted first (J .stand .ofFirst) (J .stand .firstStands) .clauses in let b = J .stand .clausesOfFirst in omega arith
 
   abbrev kept : List Record
   kept = withoutSymbols symbols 0 (records second)
@@ -175,35 +169,35 @@ module _ (first second : List ℕ) (symbols rows clauses : ℕ) (output : List �
 
   -- What copying and writing ask.
   pub copy-room : length first ≤ length output
-  copy-room = let a = short-file first (J .ofFirst) (J .firstStands) in let b = J .room in omega arith
+  copy-room = let a = short-file first (J .stand .ofFirst) (J .stand .firstStands) in let b = J .stand .room in omega arith
 
   pub second-writable : (copied : List ℕ) (at : ℕ) → at ≡ length first → copied ≡ take (length first) first ++ drop (length first) output → SecondWritable second symbols copied at
   second-writable copied at e q = record {
-    whole = whole-file second (J .ofSecond) (J .secondStands);
-    few = short-file second (J .ofSecond) (J .secondStands);
+    whole = whole-file second (J .stand .ofSecond) (J .stand .secondStands);
+    few = short-file second (J .stand .ofSecond) (J .stand .secondStands);
     room =
-        let a = whole-file first (J .ofFirst) (J .firstStands) in
+        let a = whole-file first (J .stand .ofFirst) (J .stand .firstStands) in
         let b = merged-length in
         let c = J .few in
-        let d = J .room in
+        let d = J .stand .room in
         let s : length copied ≡ length output = ap length q ∙ length-append (take (length first) first) (drop (length first) output) ∙ ap₂ _+_ (length-take (length first) first) (length-drop (length first) output) ∙ (let x = copy-room in omega arith) in
         omega arith;
   }
 
   bytes-are : Bytes second → shiftedBytes rows clauses kept ≡ fileBytes (map (λ r. shifted rows clauses r) kept)
   bytes-are b =
-      let x = few-counted first (J .ofFirst) (J .firstStands) in
-      let y = few-counted second (J .ofSecond) (J .secondStands) in
-      let r = J .rowsOfFirst in
-      let c = J .clausesOfFirst in
-      ap fileBytes (all-wrapped (λ q. shifted rows clauses q) kept (kept-fit (λ q. shifted rows clauses q) symbols 0 (records second) (shifted-fit rows clauses (let z = x .0 in omega arith) (let z = x .1 in omega arith) second (J .ofSecond) b (J .secondStands) (y .0) (y .1))))
+      let x = few-counted first (J .stand .ofFirst) (J .stand .firstStands) in
+      let y = few-counted second (J .stand .ofSecond) (J .stand .secondStands) in
+      let r = J .stand .rowsOfFirst in
+      let c = J .stand .clausesOfFirst in
+      ap fileBytes (all-wrapped (λ q. shifted rows clauses q) kept (kept-fit (λ q. shifted rows clauses q) symbols 0 (records second) (shifted-fit rows clauses (let z = x .0 in omega arith) (let z = x .1 in omega arith) second (J .stand .ofSecond) b (J .stand .secondStands) (y .0) (y .1))))
 
   file-is : Bytes first → Bytes second → mergedFile first second ≡ first ++ shiftedBytes rows clauses kept
   unfolding mergedFile
   file-is a b =
       ap fileBytes merged-is
       ∙ file-joined (records first) (map (λ r. shifted rows clauses r) kept)
-      ∙ ap₂ _++_ (file-rewritten first (whole-file first (J .ofFirst) (J .firstStands)) a) (sym (bytes-are b))
+      ∙ ap₂ _++_ (file-rewritten first (whole-file first (J .stand .ofFirst) (J .stand .firstStands)) a) (sym (bytes-are b))
 
   pub both-written : Bytes first → Bytes second → (copied : List ℕ) (at : ℕ) → at ≡ length first → copied ≡ take (length first) first ++ drop (length first) output
       → (left : List ℕ) (end : ℕ) → SecondWritten second symbols rows clauses copied at left end → FileWritten first second output left end

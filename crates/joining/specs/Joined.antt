@@ -29,16 +29,10 @@ pub record BothStand (first second : List ℕ) (symbols rows clauses others : �
   pub symbolsOfSecond : others ≡ length (ofSecond .symbols)
   pub room : 65536 ≤ length output
 
--- And their records are not too many.
+-- And their records are not too many, however many symbols the second file has.
 pub record Joinable (first second : List ℕ) (symbols rows clauses : ℕ) (output : List ℕ) : Type 0 where
-  pub ofFirst : State
-  pub ofSecond : State
-  pub firstStands : Stands first ofFirst
-  pub secondStands : Stands second ofSecond
-  pub symbolsOfFirst : symbols ≡ length (ofFirst .symbols)
-  pub rowsOfFirst : rows ≡ length (ofFirst .rows)
-  pub clausesOfFirst : clauses ≡ length (ofFirst .clauses)
-  pub room : 65536 ≤ length output
+  pub others : ℕ
+  pub stand : BothStand first second symbols rows clauses others output
   pub few : length (merged (records first) (records second)) ≤ 4096
 
 pub record FileWritten (first second : List ℕ) (output : List ℕ) (left : List ℕ) (end : ℕ) : Type 0 where

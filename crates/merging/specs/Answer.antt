@@ -1,15 +1,15 @@
 -- Document 02, Q-8: the answer to a merge, and what it leaves in the tables and in the output.
-use mathlib.Core.Bool.{Bool, true, false, _&&_, not}
+use mathlib.Core.Bool.{Bool, true, false}
 use mathlib.Core.Option.{Option, none, some}
 use mathlib.Core.List.{List, [], _∷_, _++_}
 use Prim.Native.Nat.{ℕ, suc, _*_}
 use lib.Dec.{eqb, ltb}
 use lib.ListN.{length, drop}
-use Rattle.record.specs.Record.{pick, Record, records}
+use Rattle.record.specs.Record.{Record, records}
 use Rattle.verdict.specs.Refusal.{reasonNumber}
 use Rattle.verdict.specs.Tables.{Tables, lengthsOf, tablesAfter}
 use Rattle.verdict.specs.Verdict.{Verdict, accepted, open′, refusal, check}
-use Rattle.merging.specs.Merging.{isSymbol, isStep, merged, mergedFile}
+use Rattle.merging.specs.Merging.{isSymbol, isStep, merged}
 
 -- Written, with the file's length; or refused, with a number, a file (0 neither, 1 the first, 2 the second) and a record.
 pub data Merge : Type 0 where
