@@ -1,24 +1,23 @@
 -- Opening a board, on each way that the program takes.
-use mathlib.Core.Path.{_≡_, refl, sym, ap, ap₂, _∙_, subst}
+use mathlib.Core.Path.{_≡_, refl, sym, ap, _∙_, subst}
 use mathlib.Core.Bool.{Bool, true, false, _&&_, and-true}
 use mathlib.Core.Option.{Option, none, some}
 use mathlib.Core.List.{List, [], _∷_}
-use Prim.Native.Nat.{ℕ, _+_, _*_, _≤_, _<_}
+use Prim.Native.Nat.{ℕ, _*_, _≤_, _<_}
 use native.Mathlib.Omega.{arith}
 use lib.Dec.{ltb}
-use lib.ListN.{length, getD, replicate, length-map}
+use lib.ListN.{length, getD, length-map}
 use borrow.Author.Tests.{lt-ltb, le-ltb}
 use Rattle.record.specs.Record.{pick}
 use Rattle.unification.proofs.Tests.{true-not-false}
-use Rattle.derivation.specs.Derivation.{Derivation, Use, uses}
+use Rattle.derivation.specs.Derivation.{Derivation, uses}
 use Rattle.demands.specs.Conditions.{TableShort}
 use Rattle.demands.specs.Demands.{TablesHold}
 use Rattle.verdict.specs.Force.{usesInForce}
-use Rattle.verdict.specs.Refusal.{Reason, reasonNumber}
 use Rattle.verdict.specs.State.{State, entry, derivations, clauseOf}
 use Rattle.verdict.specs.Step.{stateOf}
 use Rattle.verdict.specs.Tables.{Tables, lengthsOf, tablesAfter}
-use Rattle.verdict.specs.Verdict.{Verdict, accepted, open′, refusal, verdictNumbers, check, firstEmpty, longEnough, standing, stateGiven, ending, Stands}
+use Rattle.verdict.specs.Verdict.{Verdict, verdictNumbers, check, firstEmpty, longEnough, standing, stateGiven, Stands}
 use Rattle.verdict.specs.Verdict as definition
 use Rattle.demands.proofs.Demanded.{demand1, not-refused, stands-check, tables-fail}
 use Rattle.verdict.proofs.Endings.{reading-records}
@@ -30,8 +29,8 @@ use Rattle.answer.proofs.GivenNumbers.{verdict-given, clauses-given, stands-not
 use Rattle.entry.specs.Progress.{ReadTo, tablesWith}
 use Rattle.force.specs.Flags.{flagsInForce}
 use Rattle.file_reading.proofs.KeptFlags.{few-clauses, kept-flag}
-use Rattle.checker.specs.Contract.{Checked, CheckedWith, workspaceWith}
-use Rattle.boards.specs.Board.{allPresent, allStand, standsWith, answerAfresh, Answer, answered, refusedWith, answerNumbers}
+use Rattle.checker.specs.Contract.{CheckedWith, workspaceWith}
+use Rattle.boards.specs.Board.{allPresent, standsWith, answerAfresh, Answer, answered, refusedWith, answerNumbers}
 use Rattle.boards.specs.Cells.{boardOf}
 use Rattle.boards.specs.Opening.{stateLeft, unlessRefused, boardUnlessRefused, openingAnswer, boardOpened, tablesOpened}
 use Rattle.boards.specs.Promised.{BoardPromised}
@@ -40,22 +39,18 @@ use Rattle.boards.proofs.Parents.{stands-kept}
 use Rattle.board_cells.specs.Given.{boardGiven}
 use Rattle.board_cells.specs.declared.lowest.BoardAnswer as board
 use Rattle.board_cells.specs.declared.lowest.BoardAnswer.the-variants as given
-use Rattle.board_opening.specs.Filling.{filledBoard, Fillable, Openable}
-use Rattle.board_opening.proofs.OpenedBoard.{opened-board}
+use Rattle.board_opening.specs.Filling.{filledBoard, Openable}
+use Rattle.board_opening.proofs.OpenedBoard.{all-stand, opened-board}
 use Rattle.board.specs.Contract.{BoardOpened}
 
 -- ── Verdicts and answers ──
 
 -- With all input clauses present the answer is the one that the check gives.
-present : (us : List Use) → allStand allPresent us ≡ true
-present [] = refl
-present (u ∷ us) = present us
-
 all-afresh : (day : ℕ) (S : State) → answerAfresh day S allPresent ≡ firstEmpty (usesInForce S day) (derivations S)
 all-afresh day S = ap (λ (test : Derivation → Bool). firstEmpty test (derivations S)) (λ i c. same c i)
   where
     same : (c : Derivation) → (usesInForce S day c && standsWith allPresent c) ≡ usesInForce S day c
-    same c = ap (λ (b : Bool). usesInForce S day c && b) (present (uses c)) ∙ and-true (usesInForce S day c)
+    same c = ap (λ (b : Bool). usesInForce S day c && b) (all-stand (uses c)) ∙ and-true (usesInForce S day c)
 
 standing-numbers : (o : Option ℕ) → verdictNumbers (standing o) ≡ answerNumbers (answered o)
 standing-numbers none = refl

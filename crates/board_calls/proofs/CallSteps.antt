@@ -1,6 +1,6 @@
 -- A call on a board, on each way that the program takes.
 use mathlib.Core.Path.{_≡_, refl, sym, ap, ap₂, _∙_}
-use mathlib.Core.Bool.{Bool, true, false, _&&_, not}
+use mathlib.Core.Bool.{Bool, true, false, _&&_}
 use mathlib.Core.Option.{Option, none, some}
 use mathlib.Core.List.{List}
 use Prim.Native.Nat.{ℕ, suc, _+_, _-_, _*_, _≤_, _<_}
@@ -11,7 +11,7 @@ use lib.ListN.{length, getD, set}
 use borrow.Author.Tests.{lt-ltb, le-ltb, le-leb, lt-leb, ltb-true}
 use Rattle.record.specs.Record.{pick, recordPart, kindOf}
 use Rattle.unification.proofs.Tests.{both-true}
-use Rattle.boards.specs.Board.{answered, refusedWith, Answer, answerNumbers, same}
+use Rattle.boards.specs.Board.{answered, refusedWith, answerNumbers, same}
 use Rattle.boards.specs.Cells.{cellWith, childCell, isClauseCell, forceCell, standsCell, passed, lowestAnswer, isInputCell, recordOfClause, withCell, refusal, boardAfter, callAnswer}
 use Rattle.board_cells.specs.Given.{boardGiven}
 use Rattle.board_cells.specs.declared.lowest.BoardAnswer as board

@@ -1,17 +1,17 @@
 -- The cells that the program fills are those of the board of all input clauses present.
 use mathlib.Core.Path.{_≡_, refl, sym, ap, ap₂, _∙_, subst}
 use mathlib.Core.Logic.{_⊎_, inl, inr}
-use mathlib.Core.Bool.{Bool, true, false, _&&_, _||_}
-use mathlib.Core.Option.{Option, none, some}
-use mathlib.Core.List.{List, [], _∷_, _++_}
-use Prim.Native.Nat.{ℕ, zero, suc, _+_, _-_, _*_, _/_, _%_, _≤_, _<_}
+use mathlib.Core.Bool.{Bool, true, false, _||_}
+use mathlib.Core.Option.{some}
+use mathlib.Core.List.{List, [], _∷_}
+use Prim.Native.Nat.{ℕ, zero, suc, _+_, _-_, _*_, _%_, _≤_, _<_}
 use native.Mathlib.Omega.{arith}
 use lib.Dec.{eqb, ltb, ltb→lt}
 use lib.ListN.{length, getD, set, drop, replicate, length-append, length-replicate, length-drop, length-set, getD-replicate, List·getD-append}
 use lib.Seq.{getD-append-add, getD-drop, getD-set-same, getD-set-other, ext-getD}
 use borrow.Author.Tests.{ne-eqb}
-use Rattle.record.specs.Record.{pick, recordPart, kindOf, fieldOf}
-use Rattle.unification.proofs.Tests.{to-T, from-T}
+use Rattle.record.specs.Record.{pick, kindOf, fieldOf}
+use Rattle.unification.proofs.Tests.{to-T}
 use Rattle.derivation.specs.Derivation.{Derivation, input, resolve, factor, clauseNumber, Use, uses}
 use Rattle.tables.specs.Cells.{clearedPart}
 use Rattle.verdict.specs.Force.{usesInForce}
@@ -19,12 +19,12 @@ use Rattle.verdict.specs.State.{State, entry, derivations, clauseOf}
 use Rattle.demands.proofs.Inversions.{entry-below, entry-more, entry-new, entry-some, not-below}
 use Rattle.demands.proofs.RangeTests.{equal, unequal}
 use Rattle.demands.proofs.Sources.{earlier, source-of, number-of, SourceOf}
-use Rattle.boards.specs.Board.{Presence, allPresent, allStand, standsWith}
-use Rattle.boards.specs.Cells.{hasParent, lastChild, cellWith, clauseCell, boardOf, recordOfClause}
+use Rattle.boards.specs.Board.{allPresent, allStand}
+use Rattle.boards.specs.Cells.{hasParent, lastChild, cellWith, boardOf, recordOfClause}
 use Rattle.boards.proofs.Parents.{Recorded, Kept}
 use Rattle.boards.proofs.Passing.{board-cell, no-cell, tail-cell, board-length, recorded, older}
 use Rattle.board_opening.specs.Filling.{firstCell, cellsPut, withChild, childByKind, childPut, childrenPut, filledBoard}
-use Rattle.board_opening.proofs.FillSteps.{cells-length, child-length, put-length, children-length}
+use Rattle.board_opening.proofs.FillSteps.{cells-length, child-length, children-length}
 
 -- ── The cells of clauses ──
 pub put-cell : (L : List ℕ) (n : ℕ) (B : List ℕ) (i : ℕ) → i < n → n ≤ length B → getD (cellsPut L n B) i 0 ≡ firstCell L i
@@ -112,7 +112,7 @@ module _ (F C : List ℕ) where
       ∙ untouched-cell cs (λ i d p. R i d (entry-more c cs i d p)) B q l (λ i d p. h i d (entry-more c cs i d p))
 
 -- ── Every clause stands ──
-all-stand : (us : List Use) → allStand allPresent us ≡ true
+pub all-stand : (us : List Use) → allStand allPresent us ≡ true
 all-stand [] = refl
 all-stand (u ∷ us) = all-stand us
 

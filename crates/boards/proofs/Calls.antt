@@ -1,35 +1,31 @@
 -- Calls on a board: what becomes of it, and the answers.
-use mathlib.Core.Path.{_≡_, refl, sym, ap, ap₂, _∙_, subst}
+use mathlib.Core.Path.{_≡_, refl, sym, ap, ap₂, _∙_}
 use mathlib.Core.Logic.{_⊎_, inl, inr}
 use mathlib.Core.Bool.{Bool, true, false, _&&_}
 use mathlib.Core.Option.{Option, none, some}
-use mathlib.Core.List.{List, [], _∷_, _++_}
+use mathlib.Core.List.{List, [], _∷_}
 use Prim.Native.Nat.{ℕ, zero, suc, _+_, _-_, _*_, _%_, _≤_, _<_}
 use native.Mathlib.Omega.{arith}
-use lib.Dec.{eqb, leb, ltb, eqb-refl, ltb→lt, lt→ltb}
-use lib.ListN.{length, getD, set, length-set, length-map}
+use lib.Dec.{eqb, ltb, eqb-refl, ltb→lt}
+use lib.ListN.{length, getD, set, length-set}
 use lib.Seq.{getD-set-same, getD-set-other, ext-getD}
 use borrow.Author.Tests.{eq-eqb, ne-eqb, lt-ltb, le-ltb}
 use Rattle.record.specs.Record.{pick, kindOf}
 use Rattle.unification.proofs.Lists.{Each, each-append, each-more}
-use Rattle.unification.proofs.Tests.{to-T, from-T, both-true, true-not-false, some-not-none, some-injective}
+use Rattle.unification.proofs.Tests.{to-T, from-T, both-true, true-not-false, some-not-none}
 use Rattle.derivation.specs.Derivation.{Derivation, literals, input, resolve, factor, clauseNumber, Use, uses, Literal}
-use Rattle.demands.specs.Conditions.{OneOf, TableShort}
-use Rattle.demands.specs.Demands.{UsesInForce, LowestEmpty, Refutation}
+use Rattle.demands.specs.Conditions.{OneOf}
 use Rattle.verdict.specs.Force.{usesInForce}
 use Rattle.verdict.specs.Refusal.{isInput}
 use Rattle.verdict.specs.State.{State, entry, derivations, clauseOf}
-use Rattle.verdict.specs.Tables.{Tables, tablesAfter, lengthsOf}
-use Rattle.verdict.specs.Verdict.{isEmpty, firstEmpty, longEnough, Stands}
+use Rattle.verdict.specs.Verdict.{isEmpty}
 use Rattle.demands.proofs.Acceptance.{first-lowest, some-first}
-use Rattle.demands.proofs.Demanded.{refutation-of}
-use Rattle.demands.proofs.InForceShown.{uses-in-force, of-uses-in-force}
 use Rattle.demands.proofs.Inversions.{entry-below, entry-some, entry-none, not-below}
-use Rattle.demands.proofs.RangeTests.{not-true, equal, unequal}
+use Rattle.demands.proofs.RangeTests.{not-true, equal}
 use Rattle.demands.proofs.Sources.{SourceOf, earlier, source-of, number-of}
-use Rattle.boards.specs.Board.{Presence, allPresent, changed, allStand, standsWith, answerAfresh, answered, refusedWith, Call, afterCall, afterCalls, same, answerToCall}
-use Rattle.boards.specs.Cells.{lastChild, cellWith, childCell, isClauseCell, forceCell, standsCell, clauseCell, boardOf, recordOfClause, passed, answers, lowestAnswer, isInputCell, withCell, refusal, boardAfter, callAnswer}
-use Rattle.boards.specs.Promised.{UsesPresent, UsesClause, boardAfterCalls, BoardPromised}
+use Rattle.boards.specs.Board.{Presence, changed, allStand, standsWith, answerAfresh, answered, refusedWith, Call, afterCall, afterCalls, same, answerToCall}
+use Rattle.boards.specs.Cells.{lastChild, cellWith, childCell, isClauseCell, forceCell, standsCell, clauseCell, boardOf, recordOfClause, answers, lowestAnswer, isInputCell, withCell, refusal, boardAfter, callAnswer}
+use Rattle.boards.specs.Promised.{boardAfterCalls}
 use Rattle.boards.proofs.Parents.{Recorded, Kept, with-record}
 use Rattle.boards.proofs.Passing.{force-of, stands-of, child-of, clause-of, child-below, board-cell, past-cell, no-cell, board-length, recorded, older, cell-child, pass-right}
 

@@ -2,24 +2,23 @@
 use mathlib.Core.Path.{_≡_, refl, sym, ap, _∙_, subst}
 use mathlib.Core.Logic.{_⊎_, inl, inr}
 use mathlib.Core.Bool.{Bool, true, false}
-use mathlib.Core.Option.{Option, none, some}
+use mathlib.Core.Option.{some}
 use mathlib.Core.List.{List, [], _∷_, map}
-use Prim.Native.Nat.{ℕ, zero, suc, _≤_, _<_}
+use Prim.Native.Nat.{ℕ, suc}
 use native.Mathlib.Omega.{arith}
-use lib.Dec.{eqb, ltb, ltb→lt}
+use lib.Dec.{eqb}
 use lib.ListN.{length, drop, length-drop, length-map}
-use Rattle.record.specs.Record.{pick, Record, records, recordCount, recordPart, decoded, kindOf, fieldOf, fieldA, fieldC}
+use Rattle.record.specs.Record.{pick, Record, records, recordPart, decoded, kindOf, fieldOf, fieldA, fieldC}
 use Rattle.record.proofs.Records.{Shaped, records-length, records-shaped, record-numbered}
 use Rattle.unification.proofs.Lists.{Each}
-use Rattle.unification.proofs.Tests.{to-T, some-not-none, some-injective}
-use Rattle.derivation.specs.Derivation.{Derivation, input, resolve, factor, clauseNumber, RowLiteral}
+use Rattle.unification.proofs.Tests.{some-not-none, some-injective}
+use Rattle.derivation.specs.Derivation.{Derivation, input, resolve, factor, clauseNumber}
 use Rattle.demands.specs.Conditions.{RightLiterals, ofOne, ofSome}
 use Rattle.demands.specs.Demands.{Adds, addsSymbol, addsVariable, addsApplication, addsInput, addsResolvent, addsFactor, addsWindow}
 use Rattle.verdict.specs.State.{State, emptyState, entry, derivations, clauseOf}
 use Rattle.verdict.specs.Step.{stands, refused, Result, step, read, allStand, refusedAt}
 use Rattle.verdict.specs.Verdict.{ending, Stands}
 use Rattle.demands.proofs.Added.{step-adds}
-use Rattle.demands.proofs.Inversions.{entry-each}
 use Rattle.verdict.proofs.Endings.{ending-stands, stands-not-refused}
 use Rattle.demands.proofs.Sources.{Sourced, step-sourced, number-of}
 

@@ -1,9 +1,9 @@
 -- A call on the cells of a board changes them to those of the presence after it.
 use mathlib.Core.Path.{_≡_, refl, sym, ap, ap₂, _∙_, subst}
 use mathlib.Core.Logic.{_⊎_, inl, inr}
-use mathlib.Core.Bool.{Bool, true, false, _&&_, _||_}
-use mathlib.Core.Option.{Option, none, some}
-use mathlib.Core.List.{List, [], _∷_, _++_, map, reverse}
+use mathlib.Core.Bool.{Bool, true, false, _&&_, _||_, and-assoc, and-self, or-true}
+use mathlib.Core.Option.{some}
+use mathlib.Core.List.{List, [], _∷_, _++_, map}
 use Prim.Native.Nat.{ℕ, zero, suc, _+_, _-_, _*_, _/_, _%_, _≤_, _<_}
 use native.Mathlib.Omega.{arith}
 use lib.Dec.{eqb, leb, ltb, eqb-refl, ltb→lt}
@@ -11,16 +11,16 @@ use lib.ListN.{length, getD, set, drop, replicate, length-append, length-map, le
 use lib.Seq.{getD-append-add, getD-set-same, getD-set-other, ext-getD}
 use borrow.Author.Tests.{eq-eqb, ne-eqb, le-leb, leb-true, leb-false}
 use Rattle.record.specs.Record.{pick, recordPart, kindOf, fieldOf}
-use Rattle.unification.proofs.Tests.{to-T, from-T, both-true, true-not-false, some-not-none, some-injective}
-use Rattle.derivation.specs.Derivation.{Derivation, input, resolve, factor, clauseNumber, Use, uses, RowLiteral}
-use Rattle.verdict.specs.Force.{inForce, allInForce, usesInForce}
-use Rattle.verdict.specs.Refusal.{isInput}
-use Rattle.verdict.specs.State.{State, Window, entry, derivations, clauseOf}
+use Rattle.unification.proofs.Tests.{to-T, from-T, some-not-none, some-injective}
+use Rattle.derivation.specs.Derivation.{Derivation, input, resolve, factor, clauseNumber, Use, uses}
+use Rattle.verdict.specs.Force.{usesInForce}
+use Rattle.verdict.specs.State.{State, entry, derivations, clauseOf}
 use Rattle.demands.proofs.Inversions.{entry-below, entry-more, entry-some, entry-each, not-below}
-use Rattle.demands.proofs.RangeTests.{not-true, equal}
-use Rattle.demands.proofs.Sources.{Sourced, SourceOf, earlier, source-of, earlier-length, number-of}
+use Rattle.demands.proofs.RangeTests.{equal}
+use Rattle.demands.proofs.Sources.{SourceOf, earlier, source-of, earlier-length, number-of}
 use Rattle.demands.proofs.TableCells.{reversed-at}
-use Rattle.boards.specs.Board.{Presence, changed, allStand, standsWith}
+use Rattle.force.proofs.FlagLaws.{all-joined}
+use Rattle.boards.specs.Board.{Presence, allStand, standsWith}
 use Rattle.boards.specs.Cells.{hasParent, lastChild, cellWith, childCell, isClauseCell, forceCell, standsCell, clauseCell, clauseCells, boardOf, recordOfClause, fromParents, cellByKind, newCell, larger, lastAfter, passed}
 use Rattle.boards.proofs.Parents.{Recorded, Kept, with-record}
 
@@ -53,10 +53,6 @@ from-both : (x r : ℕ) (f s : Bool) (q : ℕ) (g t : Bool) → fromParents x (c
 from-both x r f s q g t = λ i. cellWith (childCell x) (force-of r f s i && force-of q g t i) (stands-of r f s i && stands-of q g t i)
 
 -- ── Last children ──
-or-true : (a : Bool) → (a || true) ≡ true
-or-true true = refl
-or-true false = refl
-
 -- A clause comes no later than the last child of its parent.
 pub child-later : (cs : List Derivation) (i p : ℕ) (c : Derivation) → entry cs i ≡ some c → hasParent c p ≡ true → i ≤ lastChild cs p
 child-later [] i p c q t = absurd (some-not-none refl q)
@@ -88,22 +84,10 @@ child-below (k ∷ ks) p l = try (hasParent k p) (ltb 0 (length ks)) refl (child
     try false true e ih = let h = ih (ltb→lt 0 (length ks) (to-T (ltb 0 (length ks)) e)) in omega arith
     try false false e ih = let h = none-yet ks (not-below 0 (length ks) e) in omega arith
 
-and-same : (b : Bool) → (b && b) ≡ b
-and-same true = refl
-and-same false = refl
-
 -- ── Uses of clauses ──
-and-assoc : (a b c : Bool) → ((a && b) && c) ≡ (a && (b && c))
-and-assoc true b c = refl
-and-assoc false b c = refl
-
 stand-joined : (P : Presence) (us vs : List Use) → allStand P (us ++ vs) ≡ (allStand P us && allStand P vs)
 stand-joined P [] vs = refl
 stand-joined P (u ∷ us) vs = ap (λ (b : Bool). P (u .0) && b) (stand-joined P us vs) ∙ sym (and-assoc (P (u .0)) (allStand P us) (allStand P vs))
-
-force-joined : (ws : List Window) (day : ℕ) (us vs : List Use) → allInForce ws day (us ++ vs) ≡ (allInForce ws day us && allInForce ws day vs)
-force-joined ws day [] vs = refl
-force-joined ws day (u ∷ us) vs = ap (λ (b : Bool). inForce ws day (u .0) && b) (force-joined ws day us vs) ∙ sym (and-assoc (inForce ws day (u .0)) (allInForce ws day us) (allInForce ws day vs))
 
 -- A clause among the earlier ones is at its number.
 earlier-entry : (cs : List Derivation) (n m : ℕ) (c : Derivation) → entry (earlier cs n) m ≡ some c → entry cs m ≡ some c
@@ -212,7 +196,7 @@ module _ (day : ℕ) (S : State) (board : List ℕ) (few : length (derivations S
             ∙ ap₂ (fromParents (getD B m 0)) (parent (clauseNumber l) (fieldOf (recordOfClause F C m) 0) l (R .1) u (x .1)) (parent (clauseNumber r) (fieldOf (recordOfClause F C m) 2) r (R .2) v (y .1))
             ∙ from-both (getD B m 0) (lastChild (derivations S) (clauseNumber l)) (usesInForce S day l) (standsWith Q l) (lastChild (derivations S) (clauseNumber r)) (usesInForce S day r) (standsWith Q r)
             ∙ ap (λ (x : ℕ). cellWith x (usesInForce S day l && usesInForce S day r) (standsWith Q l && standsWith Q r)) (own-child (resolve number l a r ns bs) p)
-            ∙ ap₂ (cellWith (lastChild (derivations S) number)) (sym (force-joined (S .windows) day (uses l) (uses r))) (sym (stand-joined Q (uses l) (uses r)))
+            ∙ ap₂ (cellWith (lastChild (derivations S) number)) (sym (all-joined (S .windows) day (uses l) (uses r))) (sym (stand-joined Q (uses l) (uses r)))
           where
             which : (kindOf (recordOfClause F C m) ≡ 5) ⊎ (kindOf (recordOfClause F C m) ≡ 7) → cellByKind (recordOfClause F C m) B m ≡ fromParents (getD B m 0) (getD B (fieldOf (recordOfClause F C m) 0) 0) (getD B (fieldOf (recordOfClause F C m) 2) 0)
             which (inl k) = kind-is 5 k
@@ -223,7 +207,7 @@ module _ (day : ℕ) (S : State) (board : List ℕ) (few : length (derivations S
             kind-is 6 (R .0) ∙ ap₂ (fromParents (getD B m 0)) w w
             ∙ from-both (getD B m 0) (lastChild (derivations S) (clauseNumber d)) (usesInForce S day d) (standsWith Q d) (lastChild (derivations S) (clauseNumber d)) (usesInForce S day d) (standsWith Q d)
             ∙ ap (λ (x : ℕ). cellWith x (usesInForce S day d && usesInForce S day d) (standsWith Q d && standsWith Q d)) (own-child (factor number d a b bs) p)
-            ∙ ap₂ (cellWith (lastChild (derivations S) number)) (and-same (usesInForce S day d)) (and-same (standsWith Q d))
+            ∙ ap₂ (cellWith (lastChild (derivations S) number)) (and-self (usesInForce S day d)) (and-self (standsWith Q d))
 
     -- The last child of a clause, by its cell.
     pub cell-child : (P : Presence) (m : ℕ) (c : Derivation) → clauseOf S m ≡ some c → childCell (getD (boardOf day S P board) m 0) ≡ lastChild (derivations S) m

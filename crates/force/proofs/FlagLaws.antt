@@ -149,7 +149,7 @@ both-flags true b = refl
 both-flags false b = refl
 
 -- All uses of two lists are in force where those of each are.
-all-joined : (ws : List Window) (day : ℕ) (us vs : List Use) → allInForce ws day (us ++ vs) ≡ (allInForce ws day us && allInForce ws day vs)
+pub all-joined : (ws : List Window) (day : ℕ) (us vs : List Use) → allInForce ws day (us ++ vs) ≡ (allInForce ws day us && allInForce ws day vs)
 all-joined ws day [] vs = refl
 all-joined ws day (u ∷ us) vs =
     ap (λ (b : Bool). inForce ws day (u .0) && b) (all-joined ws day us vs)
