@@ -1,12 +1,25 @@
 -- The cell of a clause off its record, on each way that the program takes.
 use mathlib.Core.Path.{_≡_, refl, sym, ap, ap₂, _∙_}
-use mathlib.Core.Bool.{Bool, _&&_}
+use mathlib.Core.Bool.{Bool, true, false, _&&_}
 use mathlib.Core.List.{List}
-use Prim.Native.Nat.{ℕ, _*_}
+use Prim.Native.Nat.{ℕ, _+_, _*_, _/_, _≤_}
+use native.Mathlib.Omega.{arith}
+use mir.Val.{boolByte}
 use lib.ListN.{getD}
 use borrow.Author.Tests.{ne-eqb}
 use Rattle.record.specs.Record.{recordPart, kindOf, fieldOf}
 use Rattle.boards.specs.Cells.{cellWith, childCell, forceCell, standsCell, fromParents, cellByKind, newCell}
+
+-- Two answers as numbers, in the last bits of a cell.
+pub small-byte : (b : Bool) → boolByte b ≤ 1
+small-byte true = omega arith
+small-byte false = omega arith
+
+pub with-bytes : (x : ℕ) (f s : Bool) → 8 * (x / 8) + 4 + 2 * boolByte f + boolByte s ≡ cellWith (childCell x) f s
+with-bytes x true true = omega arith
+with-bytes x true false = omega arith
+with-bytes x false true = omega arith
+with-bytes x false false = omega arith
 
 -- A cell of both parents' parts.
 pub of-parts : (x left right : ℕ) {f g s t force stands : Bool} → f ≡ forceCell left → g ≡ forceCell right → force ≡ (f && g) → s ≡ standsCell left → t ≡ standsCell right → stands ≡ (s && t)

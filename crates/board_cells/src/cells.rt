@@ -11,11 +11,7 @@ ghost use Rattle.boards.specs.Cells.{cellWith, childCell, forceCell, standsCell
 pub fn cell_like(x: u16, force: bool, stands: bool) -> u16
     ensures { λ r. ⌜ r ≡ cellWith (childCell x) force stands ⌝ }
 {
-    let child = 8 * (x / 8);
-    if force {
-        return if stands { child + 7 } else { child + 6 };
-    }
-    if stands { child + 5 } else { child + 4 }
+    8 * (x / 8) + 4 + 2 * (force as u16) + (stands as u16)
 }
 
 // The last child of a clause, by its cell.
