@@ -13,7 +13,10 @@ use crate::check::check;
 #[derive(Clone, PartialEq, Eq, Debug)]
 enum Made {
     /// An input clause, with its days, and whether it is present.
-    Input { days: RangeInclusive<u16>, present: bool },
+    Input {
+        days: RangeInclusive<u16>,
+        present: bool,
+    },
     Factor(u16),
     Resolve(u16, u16),
 }

@@ -78,10 +78,8 @@ fn pass(file: &[u8], clauses: &[u16], board: &mut [u16], from: usize) {
 /// The cell of a clause of two parents, or of one that is named twice.
 fn from_parents(board: &[u16], left: u16, right: u16) -> u16 {
     let [one, other] = [left, right].map(|parent| at(board, usize::from(parent)));
-    let state = ClauseState {
-        in_force: in_force(one) && in_force(other),
-        stands: stands(one) && stands(other),
-    };
+    let state =
+        ClauseState { in_force: in_force(one) && in_force(other), stands: stands(one) && stands(other) };
     state.cell()
 }
 
