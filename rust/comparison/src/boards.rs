@@ -4,6 +4,7 @@
 use yestrwyn::exported::{board_open_numbers, board_return_numbers, board_withdraw_numbers};
 use yestrwyn_second::board::{cells, Afresh};
 use yestrwyn_types::limits::{BOARD_CELLS, CLAUSE_CELLS, RECORD_BYTES};
+use yestrwyn_types::record::kind;
 use yestrwyn_types::{BoardAnswer, BOARD_ANSWER_CELLS, LENGTHS};
 use yestrwyn_vectors::board_script;
 use yestrwyn_vectors::boarding::random_calls;
@@ -11,6 +12,9 @@ use yestrwyn_vectors::examples::boards::{Call, Script};
 use yestrwyn_vectors::random::SplitMix64;
 
 use crate::compare::{day_and_file_of, differ, Difference, Lengths, Lent};
+
+/// Cells of a clause in the table of clauses, the first of which is its record.
+const CLAUSE: usize = 5;
 
 /// The names of the parts where a difference is shown.
 const NAMES: [&str; 5] =
@@ -249,6 +253,7 @@ impl Any {
     pub fn of(seed: u64) -> Any {
         let mut random = SplitMix64::new(seed ^ 0xb0a2_a117_0000_0000);
         let mut any = if random.one_in(2) { Any::altered(&mut random) } else { Any::drawn(&mut random) };
+        any.call = any.drawn_call(&mut random);
         any.lengths(&mut random);
         any
     }
@@ -269,7 +274,7 @@ impl Any {
             let place = random.below(clause_count + 2);
             match random.below(4) {
                 0 => board[place] = number(random),
-                1 => clauses[5 * place + random.below(2)] = number(random),
+                1 => clauses[CLAUSE * place + random.below(2)] = number(random),
                 2 => {
                     let drawn = random.below(file.len());
                     if let Some(byte) = file.get_mut(drawn) {
@@ -279,7 +284,7 @@ impl Any {
                 _ => board[BOARD_CELLS - 1] = number(random),
             }
         }
-        Any { file, clauses, board, answer: BOARD_ANSWER_CELLS, call: any_call(random, clause_count) }
+        Any { file, clauses, board, answer: BOARD_ANSWER_CELLS, call: Call::Withdraw(0) }
     }
 
     /// Everything drawn: small numbers, which meet each other, and any.
@@ -293,7 +298,23 @@ impl Any {
         let board = (0..BOARD_CELLS)
             .map(|cell| if cell < clause_count { 4 + small(random, 5) } else { small(random, 9) })
             .collect();
-        Any { file, clauses, board, answer: BOARD_ANSWER_CELLS, call: any_call(random, clause_count) }
+        Any { file, clauses, board, answer: BOARD_ANSWER_CELLS, call: Call::Withdraw(0) }
+    }
+
+    /// A call that mostly goes through: about a clause that the cells call an input clause, in the other condition. At times about
+    /// any clause.
+    fn drawn_call(&self, random: &mut SplitMix64) -> Call {
+        let kind = |number: usize| self.file.get(RECORD_BYTES * usize::from(self.clauses[CLAUSE * number]));
+        let is_input = |number: &usize| self.board[*number] >= 4 && kind(*number) == Some(&kind::INPUT);
+        let inputs: Vec<usize> = (0..BOARD_CELLS - 1).filter(is_input).collect();
+        let drawn = inputs.get(random.below(inputs.len())).copied().unwrap_or(0);
+        let clause = if random.one_in(8) { number(random) } else { drawn as u16 };
+        let stands = self.board.get(usize::from(clause)).is_some_and(|cell| cell % 2 == 1);
+        if stands == random.one_in(8) {
+            Call::Return(clause)
+        } else {
+            Call::Withdraw(clause)
+        }
     }
 
     /// Other lengths, one part at a time, at times.
@@ -345,15 +366,5 @@ fn number(random: &mut SplitMix64) -> u16 {
         1 => 4095 + random.below(4) as u16,
         2 | 3 => random.below(16) as u16,
         _ => random.next_u64() as u16,
-    }
-}
-
-/// A call about a clause that there is, or about any.
-fn any_call(random: &mut SplitMix64, clauses: usize) -> Call {
-    let clause = if random.one_in(6) { number(random) } else { random.below(clauses + 1) as u16 };
-    if random.one_in(2) {
-        Call::Withdraw(clause)
-    } else {
-        Call::Return(clause)
     }
 }

@@ -82,7 +82,7 @@ fn any_cells_files_and_tables() {
                 panic!("{difference}; seed {seed}, {:?}", any.call);
             }
         }
-        assert!(boards.met.kinds.iter().all(|&kind| kind > 300), "{:?}", boards.met);
+        assert!(boards.met.kinds.iter().all(|&kind| kind > 800), "{:?}", boards.met);
         assert!(boards.met.untouched > 100, "{:?}", boards.met);
     });
 }
@@ -92,9 +92,10 @@ fn any_cells_files_and_tables() {
 fn stored_vectors() {
     with_stack(|| {
         let mut boards = Boards::default();
-        for example in groups().into_iter().flat_map(|group| group.examples) {
-            let calls = [Call::Withdraw(0), Call::Withdraw(1), Call::Return(0), Call::Withdraw(2)];
-            // Afresh, a long derivation takes long.
+        let calls = [Call::Withdraw(0), Call::Withdraw(1), Call::Return(0), Call::Withdraw(2)];
+        // The deep ones have a test of their own: afresh, a long derivation takes long.
+        let groups = groups().into_iter().filter(|group| group.name != "deep");
+        for example in groups.flat_map(|group| group.examples) {
             let few = if example.file.len() > 20_000 { 1 } else { 4 };
             let script = Script::new(&example.name, example.day, example.file, &calls[..few]);
             same(&mut boards, &script, BoardLengths::longer(1));

@@ -4,8 +4,8 @@
 //! Every call has an answer, and says what becomes of each cell, whatever board, file and table of clauses hold: what is past the
 //! end of any of them is 0, and so is a record that is not wholly inside the file.
 
-use yestrwyn_types::limits::{BOARD_CELLS, RECORDS};
-use yestrwyn_types::record::{kind, read, Record};
+use yestrwyn_types::limits::{BOARD_CELLS, RECORDS, RECORD_BYTES};
+use yestrwyn_types::record::{kind, part};
 use yestrwyn_types::{BoardAnswer, BoardRefusal, ClauseState, Reason, Tables, Verdict};
 
 use crate::check::check_tables;
@@ -47,7 +47,7 @@ fn call(file: &[u8], clauses: &[u16], board: &mut [u16], clause: u16, present: b
     if board.len() < BOARD_CELLS {
         return refused(Reason::Table);
     }
-    let is_input = record_of(file, clauses, number).kind == kind::INPUT;
+    let is_input = kind_of(record_of(file, clauses, number)) == kind::INPUT;
     if number >= RECORDS || board[number] < 4 || !is_input {
         return refused(Reason::NotAnInput);
     }
@@ -66,11 +66,10 @@ fn pass(file: &[u8], clauses: &[u16], board: &mut [u16], from: usize) {
             return;
         }
         let record = record_of(file, clauses, number);
-        let [a, _, c, ..] = record.fields;
-        match record.kind {
+        match kind_of(record) {
             kind::INPUT => {}
-            kind::FACTOR => board[number] = from_parents(board, a, a),
-            _ => board[number] = from_parents(board, a, c),
+            kind::FACTOR => board[number] = from_parents(board, field(record, 2), field(record, 2)),
+            _ => board[number] = from_parents(board, field(record, 2), field(record, 6)),
         }
     }
 }
@@ -92,9 +91,20 @@ fn lowest(clauses: &[u16], board: &[u16]) -> Option<u16> {
     (0..RECORDS as u16).find(right)
 }
 
-/// The record of a clause by the table of clauses, or one of zeros if it is not wholly inside the file.
-fn record_of(file: &[u8], clauses: &[u16], number: usize) -> Record {
-    read(file, at(clauses, CLAUSE * number)).unwrap_or(Record::new(0, 0, &[]))
+/// The record of a clause by the table of clauses, or one of zeros if it is not wholly inside the file. A pass reads many, and of
+/// each only its kind and its parents.
+fn record_of<'a>(file: &'a [u8], clauses: &[u16], number: usize) -> &'a [u8; RECORD_BYTES] {
+    part(file, at(clauses, CLAUSE * number)).try_into().unwrap_or(&[0; RECORD_BYTES])
+}
+
+/// Byte 0 of a record.
+fn kind_of(record: &[u8; RECORD_BYTES]) -> u8 {
+    record[0]
+}
+
+/// The field of a record that begins at a byte: a at 2, c at 6.
+fn field(record: &[u8; RECORD_BYTES], byte: usize) -> u16 {
+    u16::from_le_bytes([record[byte], record[byte + 1]])
 }
 
 /// A cell, which is 0 past the end.
