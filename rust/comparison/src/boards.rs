@@ -118,16 +118,22 @@ impl BoardLent {
     }
 }
 
+/// A proved function that withdraws or returns a clause.
+type Proved = fn(&[u8], &[u16], &mut [u16], u16, &mut [u16]);
+
 /// The proved function of a call.
-fn proved(call: Call) -> fn(&[u8], &[u16], &mut [u16], u16, &mut [u16]) {
+fn proved(call: Call) -> Proved {
     match call {
         Call::Withdraw(_) => board_withdraw_numbers,
         Call::Return(_) => board_return_numbers,
     }
 }
 
+/// A function of the second implementation that does, over cells.
+type OverCells = fn(&[u8], &[u16], &mut [u16], u16) -> BoardAnswer;
+
 /// The second implementation of a call, over cells.
-fn over_cells(call: Call) -> fn(&[u8], &[u16], &mut [u16], u16) -> BoardAnswer {
+fn over_cells(call: Call) -> OverCells {
     match call {
         Call::Withdraw(_) => cells::withdraw,
         Call::Return(_) => cells::give_back,
@@ -162,38 +168,52 @@ impl Boards {
     /// Has both open the board of a script and run its calls, with tables, board and answer of some lengths; says at which call
     /// they differ. Where there is a board, it is compared with what is worked out afresh.
     pub fn compare(&mut self, script: &Script, lengths: BoardLengths, mark: u16) -> Result<(), String> {
+        self.proved.fill(lengths, mark);
+        self.second.fill(lengths, mark);
+        let mut afresh = self.open(script, lengths)?;
+        script.calls.iter().try_for_each(|&call| self.call(&script.file, call, lengths, &mut afresh))
+    }
+
+    /// Opens a board by both; gives the one without a board, if the file has one.
+    fn open(&mut self, script: &Script, lengths: BoardLengths) -> Result<Option<Afresh>, String> {
         let Boards { proved, second, met } = self;
-        let Script { day, file, calls, .. } = script;
-        proved.fill(lengths, mark);
-        second.fill(lengths, mark);
+        let Script { day, file, .. } = script;
         proved.open_proved(*day, file);
+        met.count(&proved.cells.answer);
         if lengths.answered() {
             second.open_cells(*day, file);
         }
-        met.count(&proved.cells.answer);
-        proved.differ(&second).map_err(|difference| format!("opening: {difference}"))?;
+        proved.differ(second).map_err(|difference| format!("opening: {difference}"))?;
         let opened = lengths.answered() && proved.cells.answer[0] != 2;
-        let mut afresh = opened.then(|| Afresh::open(*day, file)).and_then(Result::ok);
+        let afresh = opened.then(|| Afresh::open(*day, file)).and_then(Result::ok);
         if let Some(afresh) = &afresh {
             second.put(BoardAnswer::Answered(afresh.answer()));
             second.put_afresh(afresh);
-            proved.differ(&second).map_err(|difference| format!("opening, afresh: {difference}"))?;
+            proved.differ(second).map_err(|difference| format!("opening, afresh: {difference}"))?;
         }
-        for &call in calls {
-            proved.call_proved(file, call);
-            met.count(&proved.cells.answer);
-            match &mut afresh {
-                Some(afresh) => {
-                    second.put(afresh_call(afresh, call));
-                    second.put_afresh(afresh);
-                }
-                // Without a board of the file's own: whatever the cells hold.
-                None if lengths.answered() => second.call_cells(file, call),
-                None => {}
+        Ok(afresh)
+    }
+
+    /// A call by both: worked out afresh, or where the file has no board, on whatever the cells hold.
+    fn call(
+        &mut self,
+        file: &[u8],
+        call: Call,
+        lengths: BoardLengths,
+        afresh: &mut Option<Afresh>,
+    ) -> Result<(), String> {
+        let Boards { proved, second, met } = self;
+        proved.call_proved(file, call);
+        met.count(&proved.cells.answer);
+        match afresh {
+            Some(afresh) => {
+                second.put(afresh_call(afresh, call));
+                second.put_afresh(afresh);
             }
-            proved.differ(&second).map_err(|difference| format!("{call:?}: {difference}"))?;
+            None if lengths.answered() => second.call_cells(file, call),
+            None => {}
         }
-        Ok(())
+        proved.differ(second).map_err(|difference| format!("{call:?}: {difference}"))
     }
 
     /// A call on any contents, by both.

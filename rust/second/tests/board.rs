@@ -363,7 +363,7 @@ fn garbage_is_read_by_the_rule() {
         }
         let number = usize::from(clause);
         assert!(board[..number] == before[..number]);
-        assert!((4..8).contains(&board[number]) && board[number] % 2 == 0);
+        assert!((4..8).contains(&board[number]) && board[number].is_multiple_of(2));
         let end = (number + 1..BOARD_CELLS - 1).find(|&place| before[place] < 4).unwrap_or(BOARD_CELLS - 1);
         assert!(board[end..] == before[end..]);
     }
