@@ -309,7 +309,8 @@ impl Any {
 
     /// Everything drawn: small numbers, which meet each other, and any.
     fn drawn(random: &mut SplitMix64) -> Any {
-        let clause_count = random.below(40);
+        // At times every cell is that of a clause.
+        let clause_count = if random.one_in(8) { BOARD_CELLS } else { random.below(40) };
         let records = random.below(50);
         let file = (0..records).flat_map(|_| any_record(random)).collect();
         let clauses = (0..CLAUSE_CELLS)

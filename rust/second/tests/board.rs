@@ -321,6 +321,22 @@ fn any_cells_have_an_answer() {
     assert_eq!(board[..5], [7, 7, 3, 6, 0]);
 }
 
+/// A pass goes up to clause 4,095 and leaves the day alone; no file has steps on so many clauses, but cells can say so.
+#[test]
+fn a_pass_over_every_clause() {
+    let file = [step(4, 0, 0), step(6, 0, 0)].concat();
+    let mut clauses: Vec<u16> = (0..4100).flat_map(|_| [1, 1, 1, 0, 0]).collect();
+    (clauses[0], clauses[5 * 4095 + 1]) = (0, 0);
+    let mut board = vec![6; BOARD_CELLS + 2];
+    assert_eq!(cells::give_back(&file, &clauses, &mut board, 0), BoardAnswer::Answered(Some(4095)));
+    assert_eq!(board, [&[7; 4096][..], &[6; 3]].concat());
+    // Input clauses keep their cells as they are, whatever else these hold.
+    let file = [step(4, 0, 0), step(4, 0, 0)].concat();
+    let mut board = vec![0x106; BOARD_CELLS];
+    assert_eq!(cells::give_back(&file, &clauses, &mut board, 0), BoardAnswer::Answered(None));
+    assert_eq!(board, [&[7; 1][..], &[0x106; 4096]].concat());
+}
+
 #[test]
 fn short_tables_and_files_are_read_as_zeros() {
     // Without a table every clause has record 0 and no literals.
