@@ -20,7 +20,7 @@ use yestrwyn_comparison::rounds::Rounds;
 use yestrwyn_types::limits::{FILE_BYTES, RECORD_BYTES};
 use yestrwyn_types::{Answer, Cells};
 use yestrwyn_vectors::boards::Lent;
-use yestrwyn_vectors::examples::boards::Call;
+use yestrwyn_vectors::examples::boards::{Call, Script};
 use yestrwyn_vectors::examples::merges::Merge;
 use yestrwyn_vectors::examples::{cases, heavy, Example};
 use yestrwyn_vectors::stored::groups;
@@ -197,7 +197,9 @@ fn board_lines(called: &Called) {
         || time_all(&[(0, file)], |day, file, cells| workspace.check_into_here(day, file, &mut cells.lend()));
     for (which, clauses) in clauses {
         let mut board = Board::open_here(0, file.as_slice()).expect("the file stands");
-        let mut lent = Lent { tables: board.tables().clone(), board: board.cells().to_vec() };
+        let script = Script::new(name, 0, file.clone(), &[]);
+        let mut lent = Lent::new(&script);
+        assert!(lent.open(&script).result().is_ok(), "the file stands");
         let mut proved = || {
             time_calls(clauses, |call| match call {
                 Call::Withdraw(clause) => board.withdraw(clause),
