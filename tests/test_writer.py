@@ -146,19 +146,24 @@ class Board:
                 self.clauses.append(((a, c), self.clauses[a][1] - 1 + self.clauses[c][1] - gone))
             elif kind == 8:
                 self.days[a] = (b, c)
-        self.uses = []
+        self.uses, self.children = [], [0] * len(self.clauses)
         for number, (parents, _) in enumerate(self.clauses):
+            for parent in parents or ():
+                self.children[parent] = number
             self.uses.append({number} if parents is None else set().union(*(self.uses[parent] for parent in parents)))
 
     def in_force(self, clause):
         first, last = self.days.get(clause, (0, 65535))
         return first <= self.day <= last
 
+    def state(self, uses):
+        return 4 + 2 * all(map(self.in_force, uses)) + (not uses & self.withdrawn)
+
     def cells(self):
-        return [4 + 2 * all(map(self.in_force, uses)) + (not uses & self.withdrawn) for uses in self.uses]
+        return [8 * child + self.state(uses) for child, uses in zip(self.children, self.uses)]
 
     def answer(self):
-        right = (n for n, cell in enumerate(self.cells()) if cell == 7 and self.clauses[n][1] == 0)
+        right = (n for n, cell in enumerate(self.cells()) if cell % 8 == 7 and self.clauses[n][1] == 0)
         clause = next(right, None)
         return [0, 0, 0] if clause is None else [1, clause, 0]
 
@@ -250,7 +255,7 @@ class Boards(unittest.TestCase):
             for word, *rest in lines[1:]:
                 if word == "cells":
                     cells = board.cells()
-                    self.assertEqual(rest[1:], ["".join(map(str, cells))] if 1 <= len(cells) <= 40 else [], name)
+                    self.assertEqual(rest[1:], [str(cell) for cell in cells] if len(cells) <= 40 else [], name)
                     whole = cells + [0] * (4096 - len(cells)) + [day]
                     self.assertEqual(rest[0], fnv(struct.pack("<4097H", *whole)), name)
                 else:

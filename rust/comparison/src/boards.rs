@@ -140,11 +140,13 @@ fn over_cells(call: Call) -> OverCells {
     }
 }
 
-/// How many calls gave each kind of answer (none, a clause, refused), openings among them, and how many had no room for one.
+/// How many calls gave each kind of answer (none, a clause, refused), openings among them, and how many had no room for one; and how
+/// many calls on any contents altered more cells than that of the clause called.
 #[derive(Default, Clone, Copy, PartialEq, Eq, Debug)]
 pub struct Met {
     pub kinds: [u64; 3],
     pub untouched: u64,
+    pub followed: u64,
 }
 
 impl Met {
@@ -232,6 +234,8 @@ impl Boards {
             second.call_cells(&any.file, any.call);
         }
         met.count(&proved.cells.answer);
+        let altered = proved.board.iter().zip(&any.board).filter(|(after, before)| after != before);
+        met.followed += u64::from(altered.count() > 1);
         differ("answer of board", &proved.cells.answer, &second.cells.answer)?;
         differ("clauses of board", &proved.cells.tables[2], &second.cells.tables[2])?;
         differ("board", &proved.board, &second.board)
@@ -317,7 +321,7 @@ impl Any {
             .map(|cell| if cell < 300 { small(random, 50) } else { number(random) })
             .collect();
         let board = (0..BOARD_CELLS)
-            .map(|cell| if cell < clause_count { 4 + small(random, 5) } else { small(random, 9) })
+            .map(|cell| if cell < clause_count { any_cell(random, cell) } else { small(random, 9) })
             .collect();
         Any { file, clauses, board, answer: BOARD_ANSWER_CELLS, call: Call::Withdraw(0) }
     }
@@ -369,6 +373,18 @@ fn any_record(random: &mut SplitMix64) -> [u8; RECORD_BYTES] {
         field.copy_from_slice(&small(random, 45).to_le_bytes());
     }
     record
+}
+
+/// The cell of a clause: mostly with a last child that comes soon after it or is none, at times with any; at times a cell that no
+/// clause has.
+fn any_cell(random: &mut SplitMix64, clause: usize) -> u16 {
+    let child = match random.below(8) {
+        0 | 1 => 0,
+        2 => small(random, 60),
+        _ => small(random, 12).wrapping_add(clause as u16),
+    };
+    let state = if random.one_in(12) { random.below(8) } else { 4 + random.below(4) };
+    child.wrapping_mul(8) + state as u16
 }
 
 /// A number below a bound, and at times any.

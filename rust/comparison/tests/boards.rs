@@ -83,7 +83,7 @@ fn any_cells_files_and_tables() {
             }
         }
         assert!(boards.met.kinds.iter().all(|&kind| kind > 800), "{:?}", boards.met);
-        assert!(boards.met.untouched > 100, "{:?}", boards.met);
+        assert!(boards.met.untouched > 100 && boards.met.followed > 1000, "{:?}", boards.met);
     });
 }
 

@@ -7,8 +7,8 @@ use std::collections::HashSet;
 use yestrwyn_second::board::{cells, Afresh};
 use yestrwyn_second::{check, check_into};
 use yestrwyn_types::limits::{BOARD_CELLS, RECORD_BYTES};
-use yestrwyn_types::record::{kind, Record};
-use yestrwyn_types::{BoardAnswer, BoardRefusal, Cells, Reason, Tables, Verdict, LENGTHS};
+use yestrwyn_types::record::{kind, read, Record};
+use yestrwyn_types::{BoardAnswer, BoardRefusal, Cells, ClauseState, Reason, Tables, Verdict, LENGTHS};
 use yestrwyn_vectors::board_script;
 use yestrwyn_vectors::boards::Lent;
 use yestrwyn_vectors::examples::boards::{examples, Call, Script};
@@ -42,7 +42,9 @@ fn refused(reason: Reason) -> BoardAnswer {
 #[test]
 fn every_cell_by_hand() {
     // Clauses +p, -p +q, -q in force from day 5 on, and the empty clause of all three in two steps; then -p and the empty clause
-    // of clauses 0 and 5.
+    // of clauses 0 and 5. The last children are these.
+    const CHILDREN: [u16; 7] = [6, 3, 4, 4, 0, 6, 0];
+    let cells_of = |states: [u16; 7]| std::array::from_fn(|clause| 8 * CHILDREN[clause] + states[clause]);
     let mut file = Sketch::new();
     let [p, q] = [0, 0].map(|arity| app(file.symbol(arity), []));
     file.clause(&[pos(p.clone())]);
@@ -55,7 +57,8 @@ fn every_cell_by_hand() {
     file.resolve(0, 1, 5, 1);
     let file = file.finish();
     let (mut tables, mut board) = (Cells::new(), vec![9; BOARD_CELLS + 2]);
-    let on = |board: &[u16], day: u16, first: [u16; 7]| {
+    let on = |board: &[u16], day: u16, states: [u16; 7]| {
+        let first: [u16; 7] = cells_of(states);
         let mut right = first.to_vec();
         right.resize(BOARD_CELLS - 1, 0);
         right.extend([day, 9, 9]);
@@ -70,7 +73,10 @@ fn every_cell_by_hand() {
         let answer = call(&file, &tables.clauses, &mut board, clause);
         (answer.to_string(), board[..7].to_vec())
     };
-    let right = |answer: &str, cells: [u16; 7]| (answer.to_string(), cells.to_vec());
+    let right = |answer: &str, states: [u16; 7]| {
+        let first: [u16; 7] = cells_of(states);
+        (answer.to_string(), first.to_vec())
+    };
     assert_eq!(call(true, 1), right("clause 6", [7, 6, 7, 6, 6, 7, 7]));
     assert_eq!(call(true, 1), right("refused 21 at 0", [7, 6, 7, 6, 6, 7, 7]));
     assert_eq!(call(true, 5), right("none", [7, 6, 7, 6, 6, 6, 6]));
@@ -80,6 +86,31 @@ fn every_cell_by_hand() {
     assert_eq!(call(false, 0), right("clause 4", [7, 7, 7, 7, 7, 6, 6]));
     assert_eq!(call(false, 5), right("clause 4", [7, 7, 7, 7, 7, 7, 7]));
     assert_eq!(call(false, 7), right("refused 20 at 0", [7, 7, 7, 7, 7, 7, 7]));
+    // Clause 3, whose last child is 4, comes between clause 0 and its last child, 6.
+    assert_eq!(call(true, 0), right("none", [6, 7, 7, 6, 6, 7, 6]));
+    assert_eq!(call(false, 0), right("clause 4", [7, 7, 7, 7, 7, 7, 7]));
+}
+
+/// The last children of every kind of step: of both parents, of one that is named twice, and of the last of several children.
+#[test]
+fn last_children_by_hand() {
+    let children = |name: &str| {
+        let script = named(name);
+        let mut lent = Lent::new(&script);
+        lent.open(&script);
+        let clauses = lent.board[..BOARD_CELLS - 1].iter().take_while(|&&cell| cell >= 4);
+        clauses.map(|&cell| ClauseState::last_child(cell)).collect::<Vec<u16>>()
+    };
+    assert_eq!(children("two-parents"), [2, 2, 0]);
+    assert_eq!(children("an-unused-clause"), [3, 3, 0, 0]);
+    assert_eq!(children("factor"), [2, 3, 3, 0]);
+    assert_eq!(children("kind-7"), [2, 2, 0]);
+    assert_eq!(children("one-parent-in-common"), [4, 3, 4, 0, 0]);
+    assert_eq!(children("with-itself"), [3, 4, 5, 4, 5, 0]);
+    assert_eq!(children("empty-input-clauses"), [0, 0, 0]);
+    let many = children("4091-steps");
+    assert_eq!((many.len(), &many[..2]), (4093, &[4092, 4092][..]));
+    assert!(many[2..].iter().all(|&child| child == 0));
 }
 
 #[test]
@@ -291,34 +322,60 @@ fn table(empty: usize) -> Vec<u16> {
 
 #[test]
 fn any_cells_have_an_answer() {
-    // Clause 1 names clauses that come later, itself, and cells that are no clauses: their bits are read all the same.
+    // Clause 1 names clauses that come later, itself, and cells that are no clauses: their bits are read all the same. It keeps its
+    // own last child.
     let mut board = vec![0; 6000];
-    (board[0], board[1], board[2], board[4096], board[5000]) = (0xfffe, 9, 4, 3, 0xffff);
+    (board[0], board[1], board[2], board[4096], board[5000]) = (22, 9, 4, 3, 0xffff);
     for (a, c, right) in
-        [(5000, 0, 7), (4096, 5000, 7), (4096, 2, 4), (1, 0, 5), (5999, 0, 4), (65_535, 0, 4)]
+        [(5000, 0, 15), (4096, 5000, 15), (4096, 2, 12), (1, 0, 13), (5999, 0, 12), (65_535, 0, 12)]
     {
         let mut board = board.clone();
         let file = [step(4, 0, 0), step(5, a, c), step(4, 0, 0)].concat();
         let answer = cells::give_back(&file, &table(1), &mut board, 0);
-        assert_eq!(board[0], 7, "a cell of all bits keeps only whether it is in force, and what is called");
-        assert_eq!((board[1], board[2]), (right, 4), "{a} and {c}");
-        assert_eq!(answer, BoardAnswer::Answered((right == 7).then_some(1)), "{a} and {c}");
+        assert_eq!(board[..3], [23, right, 4], "{a} and {c}");
+        assert_eq!(answer, BoardAnswer::Answered((right == 15).then_some(1)), "{a} and {c}");
         assert_eq!(board[3..], [&[0; 4093][..], &[3], &[0; 903], &[0xffff], &[0; 999]].concat());
     }
     // A factor has one parent; every other kind that is no input clause has two, also a kind that there is not.
     for (kind, right) in [(6, 7), (5, 6), (7, 6), (0, 6), (8, 6), (255, 6)] {
         let mut board = vec![0; BOARD_CELLS];
-        (board[0], board[1], board[2]) = (6, 6, 4);
+        (board[0], board[1], board[2]) = (22, 6, 4);
         let file = [step(4, 0, 0), step(4, 0, 0), step(kind, 0, 1)].concat();
         cells::give_back(&file, &table(9), &mut board, 0);
-        assert_eq!(board[..4], [7, 6, right, 0], "kind {kind}");
+        assert_eq!(board[..4], [23, 6, right, 0], "kind {kind}");
     }
-    // A pass ends at the first cell without a clause.
-    let mut board = vec![0; BOARD_CELLS];
-    (board[0], board[1], board[2], board[3]) = (6, 6, 3, 6);
-    let file = [step(4, 0, 0), step(6, 0, 0), step(6, 0, 0), step(6, 0, 0)].concat();
-    assert_eq!(cells::give_back(&file, &table(3), &mut board, 0), BoardAnswer::Answered(None));
-    assert_eq!(board[..5], [7, 7, 3, 6, 0]);
+    // A cell of 4 and more is a clause, whichever of its bits that is; one below 4 is none.
+    for (cell, right) in [(3, 3), (2, 2), (4, 5), (6, 7), (8, 13), (10, 15), (0x7ff8, 0x7ffd)] {
+        let mut board = vec![0; BOARD_CELLS];
+        board[0] = cell;
+        cells::give_back(&step(4, 0, 0), &table(9), &mut board, 0);
+        assert_eq!(board[0], right, "{cell}");
+    }
+}
+
+/// Where a pass ends, with clauses that are all factors of the first, which is returned. A cell that its clause alone has is 6, or
+/// 7 where it stands.
+#[test]
+fn a_pass_ends_behind_the_last_child_of_what_has_changed() {
+    let child = |number: u16| 8 * number + 6;
+    let cases = [
+        ("no children", [6, 6, 6, 6, 6], [7, 6, 6, 6, 6]),
+        ("up to the last child", [child(2), 6, 6, 6, 6], [child(2) + 1, 7, 7, 6, 6]),
+        ("moved on", [child(1), child(3), 6, 6, 6], [child(1) + 1, child(3) + 1, 7, 7, 6]),
+        ("moved on twice", [child(1), child(2), child(4), 6, 6], [15, 23, child(4) + 1, 7, 7]),
+        ("not moved back", [child(3), child(1), 6, 6, 6], [child(3) + 1, child(1) + 1, 7, 7, 6]),
+        ("no change", [child(1), child(3) + 1, 6, 6, 6], [child(1) + 1, child(3) + 1, 6, 6, 6]),
+        ("a change to a clause", [child(1), 8 * 3 + 3, 6, 6, 6], [child(1) + 1, child(3) + 1, 7, 7, 6]),
+        ("over cells without a clause", [child(3), 0, 3, 6, 6], [child(3) + 1, 7, 7, 7, 6]),
+    ];
+    for (name, before, after) in cases {
+        let mut board = vec![0; BOARD_CELLS];
+        board[..5].copy_from_slice(&before);
+        let file = [&step(4, 0, 0)[..], &[step(6, 0, 0); 5].concat()].concat();
+        cells::give_back(&file, &table(9), &mut board, 0);
+        assert_eq!(board[..5], after, "{name}");
+        assert!(board[5..].iter().all(|&cell| cell == 0), "{name}");
+    }
 }
 
 /// A pass goes up to clause 4,095 and leaves the day alone; no file has steps on so many clauses, but cells can say so.
@@ -327,14 +384,19 @@ fn a_pass_over_every_clause() {
     let file = [step(4, 0, 0), step(6, 0, 0)].concat();
     let mut clauses: Vec<u16> = (0..4100).flat_map(|_| [1, 1, 1, 0, 0]).collect();
     (clauses[0], clauses[5 * 4095 + 1]) = (0, 0);
-    let mut board = vec![6; BOARD_CELLS + 2];
-    assert_eq!(cells::give_back(&file, &clauses, &mut board, 0), BoardAnswer::Answered(Some(4095)));
-    assert_eq!(board, [&[7; 4096][..], &[6; 3]].concat());
+    // With a last child that is past every clause; and with one that each clause moves on, the last one to the day.
+    let rising: Vec<u16> = (1..).map(|next| 8 * next + 6).take(BOARD_CELLS + 2).collect();
+    for before in [vec![0xfffe; BOARD_CELLS + 2], rising] {
+        let mut board = before.clone();
+        assert_eq!(cells::give_back(&file, &clauses, &mut board, 0), BoardAnswer::Answered(Some(4095)));
+        assert!(board[..4096].iter().zip(&before).all(|(after, before)| *after == before + 1));
+        assert_eq!(board[4096..], before[4096..]);
+    }
     // Input clauses keep their cells as they are, whatever else these hold.
     let file = [step(4, 0, 0), step(4, 0, 0)].concat();
-    let mut board = vec![0x106; BOARD_CELLS];
+    let mut board = vec![0xff02; BOARD_CELLS];
     assert_eq!(cells::give_back(&file, &clauses, &mut board, 0), BoardAnswer::Answered(None));
-    assert_eq!(board, [&[7; 1][..], &[0x106; 4096]].concat());
+    assert_eq!(board, [&[0xff07; 1][..], &[0xff02; 4096]].concat());
 }
 
 #[test]
@@ -350,9 +412,10 @@ fn short_tables_and_files_are_read_as_zeros() {
     }
     // A clause whose record is past the end is made of clause 0 twice.
     let mut board = vec![6; BOARD_CELLS];
+    board[0] = 14;
     let clauses = [0, 1, 0, 0, 0, 4000, 0, 0, 0, 0];
     assert_eq!(cells::give_back(&file, &clauses, &mut board, 0), BoardAnswer::Answered(Some(1)));
-    assert_eq!(board[..3], [7, 7, 6]);
+    assert_eq!(board[..3], [15, 7, 6]);
     // The day's cell is no clause.
     let mut board = vec![7; BOARD_CELLS];
     board[0] = 4;
@@ -361,15 +424,21 @@ fn short_tables_and_files_are_read_as_zeros() {
     }
 }
 
-/// Any cells, tables and files: there is an answer, and it is the rule's word by word.
+/// Any cells, tables and files: there is an answer, and every cell is what the rule says, seen from its end.
 #[test]
 fn garbage_is_read_by_the_rule() {
     let mut random = SplitMix64::new(9);
-    for _ in 0..300 {
+    let mut followed = 0;
+    for _ in 0..800 {
         let clauses: Vec<u16> = (0..random.below(200)).map(|_| random.below(12) as u16).collect();
-        let file: Vec<u8> = (0..random.below(200)).map(|_| [0, 1, 4, 5, 6, 7, 9][random.below(7)]).collect();
+        let records = (0..12).map(|_| {
+            let kind = [0, 4, 4, 4, 5, 5, 6, 7, 9][random.below(9)];
+            step(kind, random.below(45) as u16, random.below(45) as u16)
+        });
+        let mut file = records.collect::<Vec<_>>().concat();
+        file.truncate(200 - random.below(60));
         let mut board: Vec<u16> =
-            (0..BOARD_CELLS + random.below(9)).map(|_| random.below(12) as u16).collect();
+            (0..BOARD_CELLS + random.below(9)).map(|_| random.below(8 * 45) as u16).collect();
         let clause = random.below(20) as u16;
         let before = board.clone();
         let answer = cells::withdraw(&file, &clauses, &mut board, clause);
@@ -379,10 +448,37 @@ fn garbage_is_read_by_the_rule() {
         }
         let number = usize::from(clause);
         assert!(board[..number] == before[..number]);
-        assert!((4..8).contains(&board[number]) && board[number].is_multiple_of(2));
-        let end = (number + 1..BOARD_CELLS - 1).find(|&place| before[place] < 4).unwrap_or(BOARD_CELLS - 1);
-        assert!(board[end..] == before[end..]);
+        assert_eq!(board[number], before[number] / 8 * 8 + 4 + before[number] / 2 % 2 * 2);
+        let (mut place, mut last) = (number + 1, usize::from(before[number] / 8));
+        while place <= last {
+            assert_eq!(board[place], by_the_rule(&file, &clauses, &before, &board, place));
+            if board[place] != before[place] {
+                last = last.max(usize::from(before[place] / 8));
+                followed += 1;
+            }
+            place += 1;
+        }
+        assert!(board[place..] == before[place..]);
     }
+    assert!(followed > 500, "{followed} clauses follow what is withdrawn");
+}
+
+/// What a clause that is passed has afterwards, from the boards before and after: earlier parents are as they are afterwards,
+/// itself and later ones as they were before.
+fn by_the_rule(file: &[u8], clauses: &[u16], before: &[u16], after: &[u16], place: usize) -> u16 {
+    let record = clauses.get(5 * place).copied().unwrap_or(0);
+    let record = read(file, record).unwrap_or(Record::new(0, 0, &[]));
+    let cell = |parent: u16| {
+        let cells = if usize::from(parent) < place { after } else { before };
+        cells.get(usize::from(parent)).copied().unwrap_or(0)
+    };
+    let [a, _, c, ..] = record.fields;
+    let state = match record.kind {
+        4 => return before[place],
+        6 => cell(a),
+        _ => cell(a) & cell(c),
+    };
+    before[place] / 8 * 8 + 4 + state % 4
 }
 
 /// As many clauses as there can be, and derivations as long.
@@ -397,11 +493,11 @@ fn long_derivations() {
     let mut lent = Lent::new(&Script::new("chain", 0, Vec::new(), &[]));
     let script = Script::new("chain", 0, deep::derivation(4000), &[]);
     lent.open(&script);
-    assert!(lent.board[..4002].iter().all(|&cell| cell == 7));
+    assert!(lent.board[..4002].iter().all(|&cell| cell % 8 == 7));
     lent.call(&script.file, Call::Withdraw(0));
     let afresh = Afresh::open(0, &script.file).expect("it stands");
     let users = (0..4002).filter(|&number| afresh.uses(number).contains(&0)).count();
-    assert_eq!(lent.board.iter().filter(|&&cell| cell == 6).count(), users);
+    assert_eq!(lent.board.iter().filter(|&&cell| cell % 8 == 6).count(), users);
 }
 
 #[test]

@@ -105,12 +105,19 @@ pub struct ClauseState {
 }
 
 impl ClauseState {
-    /// The cell of a clause in this state: 4, and 2 more if it is in force, and 1 more if it stands.
-    pub fn cell(self) -> u16 {
-        4 + 2 * u16::from(self.in_force) + u16::from(self.stands)
+    /// The cell of a clause in this state: 4, and 2 more if it is in force, and 1 more if it stands; and eight times the number of
+    /// its last child, the last clause that has it for a parent, which is 0 if none has. A last child is below 8,192, or its higher
+    /// bits are lost.
+    pub fn cell(self, last_child: u16) -> u16 {
+        last_child << 3 | 4 | u16::from(self.in_force) << 1 | u16::from(self.stands)
     }
 
-    /// What a cell says; nothing where there is no clause.
+    /// The last child that a cell has.
+    pub fn last_child(cell: u16) -> u16 {
+        cell / 8
+    }
+
+    /// What a cell says of its clause; nothing where there is no clause.
     pub fn from_cell(cell: u16) -> Option<ClauseState> {
         (cell >= 4).then_some(ClauseState { in_force: cell / 2 % 2 == 1, stands: cell % 2 == 1 })
     }

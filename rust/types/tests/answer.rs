@@ -103,7 +103,11 @@ fn states_of_clauses_are_their_cells() {
     let states = [(false, false), (false, true), (true, false), (true, true)];
     for (cell, (in_force, stands)) in (4..).zip(states) {
         let state = ClauseState { in_force, stands };
-        assert_eq!((state.cell(), ClauseState::from_cell(cell)), (cell, Some(state)));
+        for child in [0, 1, 2, 4095, 8191] {
+            let cell = 8 * child + cell;
+            assert_eq!((state.cell(child), ClauseState::from_cell(cell)), (cell, Some(state)));
+            assert_eq!(ClauseState::last_child(cell), child);
+        }
     }
     assert!((0..4).all(|cell| ClauseState::from_cell(cell).is_none()));
 }

@@ -88,13 +88,13 @@ fn joined(answer: BoardAnswer) -> String {
     answer.numbers().map(|number| number.to_string()).join(" ")
 }
 
-/// The hash of a board's cells, and the digits of those that have a clause, if there are few.
+/// The hash of a board's cells, and those that have a clause, if there are few.
 fn cells_line(board: &[u16]) -> String {
     let named = &board[..board.len().min(BOARD_CELLS)];
     let hash = hash(named.iter().flat_map(|cell| cell.to_le_bytes()));
-    let digits: Vec<String> = named.iter().take_while(|&&cell| cell >= 4).map(u16::to_string).collect();
-    match digits.len() {
-        1..=CLAUSES_IN_FULL => format!("cells {hash:016x} {}", digits.concat()),
+    let clauses: Vec<String> = named.iter().take_while(|&&cell| cell >= 4).map(u16::to_string).collect();
+    match clauses.len() {
+        1..=CLAUSES_IN_FULL => format!("cells {hash:016x} {}", clauses.join(" ")),
         _ => format!("cells {hash:016x}"),
     }
 }

@@ -21,6 +21,17 @@ enum Made {
     Resolve(u16, u16),
 }
 
+impl Made {
+    /// Is this clause a parent?
+    fn has_parent(&self, clause: u16) -> bool {
+        match *self {
+            Made::Input { .. } => false,
+            Made::Factor(parent) => parent == clause,
+            Made::Resolve(left, right) => left == clause || right == clause,
+        }
+    }
+}
+
 /// A clause: how it is made, and how many literals it has.
 #[derive(Clone, PartialEq, Eq, Debug)]
 struct Clause {
@@ -114,10 +125,16 @@ impl Afresh {
         state
     }
 
+    /// The last clause that has a clause for a parent, or 0 if none has: clause 0 has no parents.
+    pub fn last_child(&self, clause: u16) -> u16 {
+        let child = self.clauses.iter().rposition(|later| later.made.has_parent(clause));
+        child.unwrap_or(0) as u16
+    }
+
     /// The cells that a board would have: one for each clause, zeros after them, and the day.
     pub fn cells(&self) -> Vec<u16> {
-        let mut cells: Vec<u16> =
-            (0..).zip(&self.clauses).map(|(number, _)| self.state(number).cell()).collect();
+        let cell = |number: u16| self.state(number).cell(self.last_child(number));
+        let mut cells: Vec<u16> = (0..).zip(&self.clauses).map(|(number, _)| cell(number)).collect();
         cells.resize(BOARD_CELLS - 1, 0);
         cells.push(self.day);
         cells

@@ -1,5 +1,6 @@
 //! A board as cells that are lent: one for each clause, and the day. Opening it writes all of them; a call about an input clause
-//! alters that clause's cell and passes over those after it, each from its parents.
+//! alters that clause's cell and passes over those after it, each from its parents, as far as a parent has changed: a cell also
+//! has the last clause that has its own for a parent.
 //!
 //! Every call has an answer, and says what becomes of each cell, whatever board, file and table of clauses hold: what is past the
 //! end of any of them is 0, and so is a record that is not wholly inside the file.
@@ -9,6 +10,8 @@ use yestrwyn_types::record::{kind, part};
 use yestrwyn_types::{BoardAnswer, BoardRefusal, ClauseState, Reason, Tables, Verdict};
 
 use crate::check::check_tables;
+use crate::checker::Checker;
+use crate::clause::{Clause, Origin};
 
 /// Cells of a clause in the table of clauses: the first is its record, the second its number of literals.
 const CLAUSE: usize = 5;
@@ -23,12 +26,35 @@ pub fn open(day: u16, file: &[u8], tables: &mut Tables<'_>, board: &mut [u16]) -
         return BoardAnswer::Refused(BoardRefusal { reason, record });
     }
     cells.fill(0);
-    let in_force = checker.map(|checker| checker.in_force(day)).unwrap_or_default();
-    for (cell, in_force) in cells.iter_mut().zip(in_force) {
-        *cell = ClauseState { in_force, stands: true }.cell();
+    let opened = checker.map(|checker| all_present(&checker, day)).unwrap_or_default();
+    for (cell, opened) in cells.iter_mut().zip(opened) {
+        *cell = opened;
     }
     cells[BOARD_CELLS - 1] = day;
     BoardAnswer::Answered(lowest(tables.clauses, board))
+}
+
+/// The cells of the clauses that stand, on a day, with every input clause present.
+fn all_present(checker: &Checker, day: u16) -> Vec<u16> {
+    let children = last_children(checker.clauses());
+    let clauses = checker.in_force(day).into_iter().zip(children);
+    clauses.map(|(in_force, child)| ClauseState { in_force, stands: true }.cell(child)).collect()
+}
+
+/// For each clause the last one that has it for a parent, or 0 if none has.
+fn last_children(clauses: &[Clause]) -> Vec<u16> {
+    let mut children = vec![0; clauses.len()];
+    for (number, clause) in (0..).zip(clauses) {
+        match clause.origin {
+            Origin::Input(_) => {}
+            Origin::Factor { parent, .. } => children[usize::from(parent)] = number,
+            Origin::Resolve { left, right, .. } => {
+                children[usize::from(left)] = number;
+                children[usize::from(right)] = number;
+            }
+        }
+    }
+    children
 }
 
 /// Withdraws an input clause.
@@ -54,39 +80,46 @@ fn call(file: &[u8], clauses: &[u16], board: &mut [u16], clause: u16, present: b
     if stands(board[number]) == present {
         return refused(Reason::Already);
     }
-    board[number] = ClauseState { in_force: in_force(board[number]), stands: present }.cell();
-    pass(file, clauses, board, number + 1);
+    let child = last_child(board[number]);
+    board[number] = ClauseState { in_force: in_force(board[number]), stands: present }.cell(child);
+    pass(file, clauses, board, number + 1, usize::from(child));
     BoardAnswer::Answered(lowest(clauses, board))
 }
 
-/// One pass over the clauses from a number on, in their order, up to the first cell without a clause.
-fn pass(file: &[u8], clauses: &[u16], board: &mut [u16], from: usize) {
+/// One pass over the clauses from a number on, in their order, up to the last child of those that have changed: past it none has
+/// a parent that did. It begins with the last child of the clause called, and each clause that changes may move it on.
+fn pass(file: &[u8], clauses: &[u16], board: &mut [u16], from: usize, mut last: usize) {
     for number in from..RECORDS {
-        if board[number] < 4 {
+        if number > last {
             return;
         }
-        let record = record_of(file, clauses, number);
-        match kind_of(record) {
-            kind::INPUT => {}
-            kind::FACTOR => board[number] = from_parents(board, field(record, 2), field(record, 2)),
-            _ => board[number] = from_parents(board, field(record, 2), field(record, 6)),
+        let (before, after) = (board[number], made_anew(file, clauses, board, number));
+        if after != before {
+            board[number] = after;
+            last = last.max(usize::from(last_child(before)));
         }
     }
 }
 
-/// The cell of a clause of two parents, or of one that is named twice.
-fn from_parents(board: &[u16], left: u16, right: u16) -> u16 {
-    let [one, other] = [left, right].map(|parent| at(board, usize::from(parent)));
+/// The cell of a clause from those of its parents; that of an input clause is its own.
+fn made_anew(file: &[u8], clauses: &[u16], board: &[u16], number: usize) -> u16 {
+    let record = record_of(file, clauses, number);
+    let parents = match kind_of(record) {
+        kind::INPUT => return board[number],
+        kind::FACTOR => [field(record, 2); 2],
+        _ => [field(record, 2), field(record, 6)],
+    };
+    let [one, other] = parents.map(|parent| at(board, usize::from(parent)));
     let state =
         ClauseState { in_force: in_force(one) && in_force(other), stands: stands(one) && stands(other) };
-    state.cell()
+    state.cell(last_child(board[number]))
 }
 
 /// The lowest clause that stands, is in force and has no literals.
 fn lowest(clauses: &[u16], board: &[u16]) -> Option<u16> {
     let right = |number: &u16| {
         let number = usize::from(*number);
-        at(board, number) == 7 && at(clauses, CLAUSE * number + 1) == 0
+        at(board, number) % 8 == 7 && at(clauses, CLAUSE * number + 1) == 0
     };
     (0..RECORDS as u16).find(right)
 }
@@ -120,6 +153,11 @@ fn in_force(cell: u16) -> bool {
 /// Does a cell say that the clause stands?
 fn stands(cell: u16) -> bool {
     cell % 2 == 1
+}
+
+/// The last child that a cell has. Any number can be asked.
+fn last_child(cell: u16) -> u16 {
+    ClauseState::last_child(cell)
 }
 
 /// A refusal that is about no record.
