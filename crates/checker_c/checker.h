@@ -7,6 +7,9 @@
  * ExportedWith.antt, ExportedReadout.antt, ExportedCovers.antt and
  * ExportedMerge.antt in specs/ of the crate exported).
  * They never fail, never block, ask for no memory and keep nothing between calls.
+ * The contracts of the board are ExportedOpening, of checker_board_open, and
+ * ExportedCall, of the other two, in ExportedBoard.antt in specs/ of the crate
+ * board_c.
  *
  * That they come to an end asks for a stack of 8 MiB: call them on a thread
  * that has that much left. An ordinary file takes less than 1.5 MiB of it, and
@@ -312,8 +315,10 @@ void checker_merge(const uint8_t *first, size_t first_len,
  *
  * A board is 4,097 cells. Cell n, for n under 4,096, is that of clause n: 0 where
  * there is no clause; otherwise 4, and 2 more if all input clauses of its
- * derivation are in force on the day, and 1 more if it stands. Cell 4,096 is the
- * day. A board may be longer: cells past the 4,097th are never altered.
+ * derivation are in force on the day, and 1 more if it stands, and 8 times the
+ * number of the last clause that has clause n for a parent, which is 0 if none
+ * has; by these a call ends as soon as nothing can change. Cell 4,096 is the day.
+ * A board may be longer: cells past the 4,097th are never altered.
  *
  * While nobody else writes board, file or table of clauses between the calls,
  * every answer is the one worked out afresh from the clauses now present, and a

@@ -17,7 +17,7 @@ type Change = fn(&[u8], &[u16], &mut [u16], u16, &mut [u16]);
 /// At the start every input clause is present. One that is withdrawn, because a notice is lifted, can be returned later. A derived
 /// clause stands if all input clauses of its derivation are present. The answer is the lowest standing empty clause whose input
 /// clauses are all in force on the day, or none: while there is one, the clauses that are present and in force cannot all be
-/// true. A call passes over the cells of the clauses, and does not check the file again.
+/// true. A call passes over the cells of the clauses after it as far as anything can change, and does not check the file again.
 ///
 /// The board owns file, tables and cells, so that nobody else can write to them between calls; then every answer is proved to be the
 /// one worked out afresh from the clauses that are present.
@@ -117,7 +117,8 @@ impl Board {
         &self.tables
     }
 
-    /// The cells of the board: one for each clause, zeros up to 4,096, and the day.
+    /// The cells of the board: one for each clause, zeros up to 4,096, and the day. That of a clause has its [`ClauseState`] and its
+    /// last child, the last clause that has it for a parent.
     pub fn cells(&self) -> &[u16] {
         &self.cells
     }
