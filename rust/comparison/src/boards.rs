@@ -294,8 +294,10 @@ impl Any {
         let mut clauses = std::mem::take(&mut lent.cells.tables[2]);
         let (mut board, mut file) = (lent.board, script.file);
         let clause_count = board.iter().take_while(|&&cell| cell >= 4).count().min(BOARD_CELLS - 1);
+        // A board that was not opened, because its file is refused, has clauses throughout.
+        let places = (clause_count + 2).min(BOARD_CELLS - 1);
         for _ in 0..random.below(5) {
-            let place = random.below(clause_count + 2);
+            let place = random.below(places);
             match random.below(4) {
                 0 => board[place] = number(random),
                 1 => clauses[CLAUSE * place + random.below(2)] = number(random),
