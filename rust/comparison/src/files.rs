@@ -86,11 +86,13 @@ impl Called {
     }
 }
 
-/// Files of some 4,000 clauses: a chain of steps with a rule each, in turn; steps that all use the first clause; and steps on
-/// two clauses alone; and input clauses alone. The last clause of the first two is empty.
+/// Files of some 4,000 clauses: a chain of steps with a rule each, in turn; steps that all use the first clause; steps on two
+/// clauses alone; input clauses alone; and rules and steps on any earlier clauses, in no order, of which a call alters some and
+/// not others. The last clause of the first two is empty.
 pub fn called() -> Vec<Called> {
     let in_turn: Vec<u16> = (0..=2001).map(|rule| (2 * rule as u16).saturating_sub(1)).collect();
     let all: Vec<u16> = (0..4000).collect();
+    let (drawn, drawn_inputs) = drawn_steps(4000);
     vec![
         Called::new("a chain of 2,000 steps and their rules in turn", rules_in_turn(true), &in_turn),
         Called::new(
@@ -100,6 +102,7 @@ pub fn called() -> Vec<Called> {
         ),
         Called::new("a count to 4,000 from two clauses", deep::derivation(4000), &[0, 1]),
         Called::new("4,000 input clauses", input_clauses(4000), &all),
+        Called::new("4,000 rules and steps on drawn clauses", drawn, &drawn_inputs),
     ]
 }
 
@@ -116,6 +119,23 @@ fn rules_in_turn(chain: bool) -> Vec<u8> {
     let goal = file.clause(&[neg(app(q, []))]);
     file.resolve(known, 1, goal, 1);
     file.finish()
+}
+
+/// So many clauses -q +q, and which of them are input clauses: half of them are, and the others are resolved from two earlier
+/// ones. Which ones is drawn.
+fn drawn_steps(count: usize) -> (Vec<u8>, Vec<u16>) {
+    let mut random = SplitMix64::new(4001);
+    let (mut file, mut inputs) = (Sketch::new(), Vec::new());
+    let q = file.symbol(0);
+    for earlier in 0..count {
+        if earlier == 0 || random.one_in(2) {
+            inputs.push(file.clause(&[neg(app(q, [])), pos(app(q, []))]));
+        } else {
+            let [left, right] = [(); 2].map(|()| random.below(earlier) as u16);
+            file.resolve(left, 2, right, 1);
+        }
+    }
+    (file.finish(), inputs)
 }
 
 /// So many clauses +q.
