@@ -1,5 +1,5 @@
 #!/usr/bin/env bash
-# The proved check, which clause covers which, the merge and the program proofread against the second implementation in one run, and the
+# The proved check, which clause covers which, the merge, calls of boards and the program proofread against the second implementation in one run, and the
 # deepest files under a stack of 4 MiB.
 set -eu
 cd "$(dirname "$0")/.."

@@ -1,6 +1,7 @@
 """What the Python writer writes is, byte for byte, a stored example, and the readouts stored beside them say accepted; and files
-merged in Python, by the words of the guide, are the stored ones."""
+merged in Python, by the words of the guide, are the stored ones; and boards worked out in Python give the stored answers and cells."""
 
+import re
 import struct
 import sys
 import unittest
@@ -129,6 +130,62 @@ def stored_merges():
             yield name, files["first"], files["second"], answer, found.get("merged")
 
 
+class Board:
+    """A file that stands, on a day, as docs/FORMAT.md says it: worked out anew at each call. Nothing is checked."""
+
+    def __init__(self, day, file):
+        self.day, self.clauses, self.days, self.withdrawn = day, [], {}, set()
+        for record in records(file):
+            kind, size, a, b, c, *_ = struct.unpack("<BB7H", record)
+            if kind == 4:
+                self.clauses.append((None, size))
+            elif kind == 6:
+                self.clauses.append(((a,), self.clauses[a][1] - 1))
+            elif kind in (5, 7):
+                gone = 1 if kind == 5 else size
+                self.clauses.append(((a, c), self.clauses[a][1] - 1 + self.clauses[c][1] - gone))
+            elif kind == 8:
+                self.days[a] = (b, c)
+        self.uses, self.children = [], [0] * len(self.clauses)
+        for number, (parents, _) in enumerate(self.clauses):
+            for parent in parents or ():
+                self.children[parent] = number
+            self.uses.append({number} if parents is None else set().union(*(self.uses[parent] for parent in parents)))
+
+    def in_force(self, clause):
+        first, last = self.days.get(clause, (0, 65535))
+        return first <= self.day <= last
+
+    def state(self, uses):
+        return 4 + 2 * all(map(self.in_force, uses)) + (not uses & self.withdrawn)
+
+    def cells(self):
+        return [8 * child + self.state(uses) for child, uses in zip(self.children, self.uses)]
+
+    def answer(self):
+        right = (n for n, cell in enumerate(self.cells()) if cell % 8 == 7 and self.clauses[n][1] == 0)
+        clause = next(right, None)
+        return [0, 0, 0] if clause is None else [1, clause, 0]
+
+    def call(self, word, clause):
+        if clause >= len(self.clauses) or self.clauses[clause][0] is not None:
+            return [2, 20, 0]
+        if (clause in self.withdrawn) == (word == "withdraw"):
+            return [2, 21, 0]
+        self.withdrawn ^= {clause}
+        return self.answer()
+
+
+def stored_boards():
+    """Each stored board whose file is stored in full: its name, day, file, the cells lent, and its further lines."""
+    for part in re.split(r"^board ", (ROOT / "rust" / "vectors" / "boards.txt").read_text(), flags=re.M)[1:]:
+        name, day, length, *lines = part.splitlines()
+        file = bytes.fromhex("".join(line[2:] for line in lines if line.startswith("| ")))
+        lent, *calls = (line.split() for line in lines if not line.startswith("| "))
+        if len(file) == int(length.split()[1]):
+            yield name, int(day.split()[1]), file, int(lent[1]), calls
+
+
 class Writer(unittest.TestCase):
     def is_stored(self, name, written, readout=None):
         self.assertEqual(written, (EXAMPLES / f"{name}.proof").read_bytes())
@@ -184,6 +241,28 @@ class Merging(unittest.TestCase):
                 self.assertEqual(answer, [0, len(file), 0, 0], name)
                 written += 1
         self.assertGreater(written, 40)
+
+
+class Boards(unittest.TestCase):
+    def test_stored_boards(self):
+        answered = 0
+        for name, day, file, lent, lines in stored_boards():
+            opened = [int(number) for number in lines[0][1:]]
+            if opened[0] == 2 or lent < 4097:
+                continue
+            board = Board(day, file)
+            self.assertEqual(opened, board.answer(), name)
+            for word, *rest in lines[1:]:
+                if word == "cells":
+                    cells = board.cells()
+                    self.assertEqual(rest[1:], [str(cell) for cell in cells] if len(cells) <= 40 else [], name)
+                    whole = cells + [0] * (4096 - len(cells)) + [day]
+                    self.assertEqual(rest[0], fnv(struct.pack("<4097H", *whole)), name)
+                else:
+                    clause, *answer = map(int, rest)
+                    self.assertEqual(answer, board.call(word, clause), f"{name}: {word} {clause}")
+                    answered += 1
+        self.assertGreater(answered, 400)
 
 
 if __name__ == "__main__":

@@ -1,5 +1,6 @@
 /* The check of a resolution-proof file, the same for services, the readout,
- * which input clause covers which, and two files merged into one.
+ * which input clause covers which, two files merged into one, and the board of a
+ * file, on which input clauses are withdrawn and returned.
  *
  * Link with libchecker_c.a. All functions are proved to meet their contracts,
  * for every day, every file and whatever else they are lent (Exported.antt,
@@ -7,6 +8,9 @@
  * ExportedMerge.antt in specs/ of the crates exported, exported_readout,
  * exported_covers and exported_merge).
  * They never fail, never block, ask for no memory and keep nothing between calls.
+ * The contracts of the board are ExportedOpening, of checker_board_open, and
+ * ExportedCall, of the other two, in ExportedBoard.antt in specs/ of the crate
+ * board_c.
  *
  * That they come to an end asks for a stack of 8 MiB: call them on a thread
  * that has that much left. An ordinary file takes less than 1.5 MiB of it, and
@@ -33,6 +37,11 @@ extern "C" {
 #define CHECKER_PROGRESS 3
 #define CHECKER_COVERING 10
 #define CHECKER_MERGED 4
+#define CHECKER_BOARD_ANSWER 3
+
+/* The least length of a board, in cells: one for each clause that a file can
+ * have, and the day. */
+#define CHECKER_BOARD 4097
 
 /* The lengths of the three parts of a workspace, in cells. */
 #define CHECKER_NODES 32768
@@ -47,20 +56,22 @@ extern "C" {
 #define CHECKER_FILE 65536
 
 /* The first number of an answer: of a check, of which clause covers which, of a
- * merge. Whatever is none of these names, take as a refusal. */
+ * merge, of a board. Whatever is none of these names, take as a refusal. */
 enum { CHECKER_OPEN = 0, CHECKER_ACCEPTED = 1, CHECKER_REFUSED = 2 };
 enum { CHECKER_NO = 0, CHECKER_YES = 1 };
 enum { CHECKER_WRITTEN = 0 };
+enum { CHECKER_NONE = 0, CHECKER_CLAUSE = 1 };
 
 /* The first number of the progress of a readout. */
 enum { CHECKER_COMPLETE = 0, CHECKER_MORE = 1, CHECKER_TOO_SHORT = 2 };
 
 /* Why something is refused. The format may get further numbers: treat an unknown
  * one as a refusal too. 6 is never given. 15 is given by checker_covers alone, 17
- * to 19 by checker_merge alone. */
+ * to 19 by checker_merge alone, 20 and 21 by checker_board_withdraw and
+ * checker_board_return alone. */
 enum {
     CHECKER_REASON_LENGTH = 1,           /* over 65,536, or no multiple of 16 */
-    CHECKER_REASON_TABLE = 2,            /* a table or an output too short */
+    CHECKER_REASON_TABLE = 2,            /* a table, board or output too short */
     CHECKER_REASON_KIND = 3,             /* a kind that there is not */
     CHECKER_REASON_RANGE = 4,            /* out of range, or not zero */
     CHECKER_REASON_MISSING = 5,          /* named, but not there */
@@ -76,7 +87,9 @@ enum {
     CHECKER_REASON_CROSSED = 16,         /* first day after last */
     CHECKER_REASON_MERGED_STEP = 17,     /* a file to be merged has a step */
     CHECKER_REASON_MERGED_SYMBOLS = 18,  /* neither symbol list begins the other */
-    CHECKER_REASON_MERGED_LENGTH = 19    /* over 4,096 records when merged */
+    CHECKER_REASON_MERGED_LENGTH = 19,   /* over 4,096 records when merged */
+    CHECKER_REASON_NOT_AN_INPUT = 20,    /* no input clause of that number */
+    CHECKER_REASON_ALREADY = 21          /* in that condition already */
 };
 
 /* Checks a proof file on a day, writes the answer and fills four tables.
@@ -295,6 +308,89 @@ void checker_merge(const uint8_t *first, size_t first_len,
                    uint16_t *bindings, size_t bindings_len,
                    uint8_t *output, size_t output_len,
                    uint32_t *answer, size_t answer_len);
+
+/* The board of a file: each input clause is present or withdrawn. A derived
+ * clause stands if all input clauses of its derivation are present, an input
+ * clause if it is. The answer is the lowest standing empty clause whose input
+ * clauses are all in force on the board's day, or none.
+ *
+ * A board is 4,097 cells. Cell n, for n under 4,096, is that of clause n: 0 where
+ * there is no clause; otherwise 4, and 2 more if all input clauses of its
+ * derivation are in force on the day, and 1 more if it stands, and 8 times the
+ * number of the last clause that has clause n for a parent, which is 0 if none
+ * has; by these a call ends as soon as nothing can change. Cell 4,096 is the day.
+ * A board may be longer: cells past the 4,097th are never altered.
+ *
+ * While nobody else writes board, file or table of clauses between the calls,
+ * every answer is the one worked out afresh from the clauses now present, and a
+ * call alters no clause but the one that it is about and those that use it.
+ *
+ * The numbers of the answer, of all three functions:
+ *   answer[0]  0 none, 1 a clause, 2 refused
+ *   answer[1]  the clause, or the reason; otherwise 0
+ *   answer[2]  refused by the check when the board is opened: the record;
+ *              otherwise 0
+ *
+ * If answer has fewer than 3 cells, nothing at all is touched. Cells of answer
+ * past the third are left alone.
+ *
+ * checker_board_open checks a file on a day and opens its board, with every input
+ * clause present.
+ *
+ *   day, file, symbols, rows, clauses, bindings
+ *             as for checker_check; the tables are left as the check leaves them
+ *   board     at least CHECKER_BOARD cells; what they held does not matter
+ *   answer    three numbers; at least 3 cells
+ *
+ * What is said there of lengths and pointers holds here too, and none of the
+ * seven parts may overlap another.
+ *
+ * A board that is too short is refused with 2 at record 0, before all else, and
+ * nothing is touched, no table either. A file that is refused gets no board but
+ * the check's reason and record, and the board is left alone. */
+void checker_board_open(uint16_t day,
+                        const uint8_t *file, size_t file_len,
+                        uint16_t *symbols, size_t symbols_len,
+                        uint16_t *rows, size_t rows_len,
+                        uint16_t *clauses, size_t clauses_len,
+                        uint16_t *bindings, size_t bindings_len,
+                        uint16_t *board, size_t board_len,
+                        uint16_t *answer, size_t answer_len);
+
+/* Withdraws an input clause, or returns one that was withdrawn, and gives the
+ * answer anew. The file is not checked again.
+ *
+ *   file, clauses
+ *             the file and the table of clauses, as the opening was lent the one
+ *             and left the other; both are only read
+ *   board     as the opening and the calls since have left it
+ *   clause    the number of the input clause, from 0
+ *   answer    three numbers; at least 3 cells
+ *
+ * Each pointer must be valid for its length, aligned and not null, also where the
+ * length is 0, and neither board nor answer may overlap another part.
+ *
+ * The reasons, in this order, at record 0, with the board unaltered:
+ *   2          the board has fewer than CHECKER_BOARD cells
+ *   20         there is no input clause of that number: it is derived, or not
+ *              there at all
+ *   21         it is in that condition already
+ *
+ * Whatever board, file and table of clauses hold, however long they are, the
+ * calls come to an end, stay inside them and alter only the board and the
+ * answer: `boardAfter` and `callAnswer` in Cells.antt in specs/ of the crate
+ * boards say how. */
+void checker_board_withdraw(const uint8_t *file, size_t file_len,
+                            const uint16_t *clauses, size_t clauses_len,
+                            uint16_t *board, size_t board_len,
+                            uint16_t clause,
+                            uint16_t *answer, size_t answer_len);
+
+void checker_board_return(const uint8_t *file, size_t file_len,
+                          const uint16_t *clauses, size_t clauses_len,
+                          uint16_t *board, size_t board_len,
+                          uint16_t clause,
+                          uint16_t *answer, size_t answer_len);
 
 #ifdef __cplusplus
 }

@@ -3,7 +3,9 @@
 mod pages;
 
 use pages::{cells, hexadecimal, indented, section, stored, text};
+use yestrwyn_second::board::Afresh;
 use yestrwyn_types::record::{kind, read};
+use yestrwyn_types::BoardAnswer;
 
 #[path = "../examples/trips/covers.rs"]
 mod covers;
@@ -93,6 +95,31 @@ fn the_page_says_what_merging_gives() {
         })
         .collect();
     assert_eq!(told.len(), 7, "{told:?}");
+}
+
+#[test]
+fn the_page_says_what_the_board_answers() {
+    let (page, file) = (text("examples/README.md"), declined::file().expect("it is built"));
+    let mut board = Afresh::open(21_000, &file).expect("it stands");
+    let mut told = 0;
+    let calls = cells(section(&page, "lifted")).filter(|(_, answer)| answer.starts_with('`'));
+    for (call, answer) in calls {
+        let right = match call.split_once(' ') {
+            Some(("withdraw", clause)) => board.withdraw(clause.parse().expect("a clause")),
+            Some(("return", clause)) => board.give_back(clause.parse().expect("a clause")),
+            _ => BoardAnswer::Answered(board.answer()),
+        };
+        let numbers = right.numbers().map(|number| number.to_string()).join(" ");
+        assert_eq!(answer, format!("`{numbers}`"), "{call}");
+        told += 1;
+    }
+    assert_eq!(told, 10);
+    // Clauses 6 to 10 use the curfew, and no clause but itself the rule on slots.
+    let users =
+        |input: u16| (0..=10).filter(|&clause| board.uses(clause).contains(&input)).collect::<Vec<u16>>();
+    assert_eq!((users(1), users(2), users(5)), (vec![1, 6, 7, 8, 9, 10], vec![2], vec![5, 8, 10]));
+    let other_day = Afresh::open(21_001, &file).expect("it stands");
+    assert_eq!(other_day.answer(), None);
 }
 
 #[test]

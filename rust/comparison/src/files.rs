@@ -1,11 +1,12 @@
-//! Files that are measured beside the heavy ones: of some thousand records, ordinary ones of some dozens, and pairs that are
-//! merged.
+//! Files that are measured beside the heavy ones: of some thousand records, ordinary ones of some dozens, pairs that are merged,
+//! and files whose boards are called.
 
 use std::fs;
 use std::path::Path;
 
 use yestrwyn_vectors::examples::merges::{self, Merge};
 use yestrwyn_vectors::examples::{cases, deep, edges, repeats, Example};
+use yestrwyn_vectors::random::SplitMix64;
 use yestrwyn_vectors::sketch::{app, neg, pos, var, Sketch};
 
 /// The files by what they do.
@@ -60,6 +61,91 @@ pub fn merged() -> Vec<Merge> {
         Merge::new(said, first, second)
     }));
     pairs
+}
+
+/// A file of some 4,000 clauses whose board is called, and the input clauses that are withdrawn and returned, by what they are.
+pub struct Called {
+    pub name: &'static str,
+    pub file: Vec<u8>,
+    pub clauses: Vec<(&'static str, Vec<u16>)>,
+}
+
+impl Called {
+    /// A file with its first, middle and last input clause, and with some of them drawn at random.
+    fn new(name: &'static str, file: Vec<u8>, inputs: &[u16]) -> Called {
+        let mut random = SplitMix64::new(4000);
+        let drawn = (0..64).map(|_| inputs[random.below(inputs.len())]).collect();
+        let one = |place: usize| vec![inputs[place]];
+        let clauses = vec![
+            ("the first", one(0)),
+            ("the middle one", one(inputs.len() / 2)),
+            ("the last", one(inputs.len() - 1)),
+            ("any, of 64 drawn", drawn),
+        ];
+        Called { name, file, clauses }
+    }
+}
+
+/// Files of some 4,000 clauses: a chain of steps with a rule each, in turn; steps that all use the first clause; steps on two
+/// clauses alone; input clauses alone; and rules and steps on any earlier clauses, in no order, of which a call alters some and
+/// not others. The last clause of the first two is empty.
+pub fn called() -> Vec<Called> {
+    let in_turn: Vec<u16> = (0..=2001).map(|rule| (2 * rule as u16).saturating_sub(1)).collect();
+    let all: Vec<u16> = (0..4000).collect();
+    let (drawn, drawn_inputs) = drawn_steps(4000);
+    vec![
+        Called::new("a chain of 2,000 steps and their rules in turn", rules_in_turn(true), &in_turn),
+        Called::new(
+            "2,000 steps on the first clause and their rules in turn",
+            rules_in_turn(false),
+            &in_turn,
+        ),
+        Called::new("a count to 4,000 from two clauses", deep::derivation(4000), &[0, 1]),
+        Called::new("4,000 input clauses", input_clauses(4000), &all),
+        Called::new("4,000 rules and steps on drawn clauses", drawn, &drawn_inputs),
+    ]
+}
+
+/// +q, then 2,000 times -q +q and a step that resolves it with the last result, or with +q; then -q, and the empty clause.
+fn rules_in_turn(chain: bool) -> Vec<u8> {
+    let mut file = Sketch::new();
+    let q = file.symbol(0);
+    let first = file.clause(&[pos(app(q, []))]);
+    let mut known = first;
+    for _ in 0..2000 {
+        let rule = file.clause(&[neg(app(q, [])), pos(app(q, []))]);
+        known = file.resolve(if chain { known } else { first }, 1, rule, 1);
+    }
+    let goal = file.clause(&[neg(app(q, []))]);
+    file.resolve(known, 1, goal, 1);
+    file.finish()
+}
+
+/// So many clauses -q +q, and which of them are input clauses: half of them are, and the others are resolved from two earlier
+/// ones. Which ones is drawn.
+fn drawn_steps(count: usize) -> (Vec<u8>, Vec<u16>) {
+    let mut random = SplitMix64::new(4001);
+    let (mut file, mut inputs) = (Sketch::new(), Vec::new());
+    let q = file.symbol(0);
+    for earlier in 0..count {
+        if earlier == 0 || random.one_in(2) {
+            inputs.push(file.clause(&[neg(app(q, [])), pos(app(q, []))]));
+        } else {
+            let [left, right] = [(); 2].map(|()| random.below(earlier) as u16);
+            file.resolve(left, 2, right, 1);
+        }
+    }
+    (file.finish(), inputs)
+}
+
+/// So many clauses +q.
+fn input_clauses(count: usize) -> Vec<u8> {
+    let mut file = Sketch::new();
+    let q = file.symbol(0);
+    for _ in 0..count {
+        file.clause(&[pos(app(q, []))]);
+    }
+    file.finish()
 }
 
 /// The rulebook of 17 records and 2,017 rules more: each of a row of its own and a clause of three literals.

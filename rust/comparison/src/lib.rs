@@ -1,6 +1,7 @@
-//! The proved check, plain and for services, the proved readout, which clause covers which and the proved merge, compared
-//! with the second implementation: every answer, every cell and every byte; and the time that they take.
+//! The proved check, plain and for services, the proved readout, which clause covers which, the proved merge and boards,
+//! compared with the second implementation: every answer, every cell and every byte; and the time that they take.
 
+pub mod boards;
 pub mod clock;
 pub mod compare;
 pub mod covers;

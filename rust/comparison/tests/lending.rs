@@ -2,14 +2,18 @@
 
 use std::mem::size_of;
 
+use yestrwyn::exported::{board_open_numbers, board_return_numbers, board_withdraw_numbers};
 use yestrwyn::exported::{check_numbers, check_numbers_with, Arrays, Nodes, Origins, Values};
 use yestrwyn::exported::{covers_numbers, merge_numbers, readout_numbers, PROGRESS_CELLS};
 use yestrwyn::{Tables, LENGTHS};
+use yestrwyn_comparison::boards::script_of;
 use yestrwyn_comparison::compare::day_and_file_of;
 use yestrwyn_comparison::covers::Clauses;
 use yestrwyn_comparison::merges::pair_of;
-use yestrwyn_types::limits::FILE_BYTES;
-use yestrwyn_types::{Cells, ANSWER_CELLS, COVERING_CELLS, MERGED_CELLS};
+use yestrwyn_types::limits::{BOARD_CELLS, FILE_BYTES};
+use yestrwyn_types::{Cells, ANSWER_CELLS, BOARD_ANSWER_CELLS, COVERING_CELLS, MERGED_CELLS};
+use yestrwyn_vectors::boards::Lent;
+use yestrwyn_vectors::examples::boards::{self, Call, Script};
 use yestrwyn_vectors::examples::merges::Merge;
 use yestrwyn_vectors::examples::{cases, days, edges, merges, published, refusals};
 use yestrwyn_vectors::random::SplitMix64;
@@ -236,4 +240,43 @@ fn merge_stays_inside_what_it_was_lent() {
             .for_each(|pair| merge_in_the_middle(&pair))
     };
     yestrwyn::with_stack(merge).expect("a thread");
+}
+
+/// Opens a board and runs its calls with everything lent from the middle of larger buffers.
+fn board_in_the_middle(script: &Script) {
+    let Script { name, day, file, calls, .. } = script;
+    let lent = in_the_middle(file);
+    let file = &lent[64..64 + file.len()];
+    let mut buffer = buffer();
+    let [symbols, rows, clauses, bindings, _] = parts(&mut buffer);
+    let mut tables = Tables { symbols, rows, clauses, bindings };
+    let (mut board, mut answer) = (Watched::new(BOARD_CELLS), [7; BOARD_ANSWER_CELLS + 4]);
+    let middle = 2..2 + BOARD_ANSWER_CELLS;
+    let cells: &mut [u16; BOARD_CELLS] = board.array();
+    board_open_numbers(*day, file, &mut tables, cells, &mut answer[middle.clone()]);
+    let mut second = Lent::new(script);
+    second.board.copy_from_slice(Watched::new(BOARD_CELLS).array::<BOARD_CELLS>());
+    assert_eq!(answer[middle.clone()], second.open(script).numbers(), "{name}");
+    assert!(margins_hold(&buffer) && board.holds(), "{name}");
+    for &call in calls {
+        let before = buffer.clone();
+        let [_, _, clauses, _, _] = parts(&mut buffer);
+        let run = if let Call::Withdraw(_) = call { board_withdraw_numbers } else { board_return_numbers };
+        run(file, clauses, board.array::<BOARD_CELLS>(), call.clause(), &mut answer[middle.clone()]);
+        assert_eq!(answer[middle.clone()], second.call(file, call).numbers(), "{name} at {call:?}");
+        assert!(*board.array::<BOARD_CELLS>() == second.board[..], "{name} at {call:?}");
+        assert!(board.holds() && buffer == before, "{name} at {call:?}");
+    }
+    assert_eq!((&answer[..2], &answer[2 + BOARD_ANSWER_CELLS..]), (&[7; 2][..], &[7; 2][..]));
+    // The file is only read.
+    assert!(lent == in_the_middle(&script.file), "{name}");
+}
+
+#[test]
+fn boards_stay_inside_what_they_were_lent() {
+    let run = || {
+        let named = boards::examples().into_iter().filter(|script| script.cells == BOARD_CELLS);
+        named.chain((0..200).map(script_of)).for_each(|script| board_in_the_middle(&script));
+    };
+    yestrwyn::with_stack(run).expect("a thread");
 }

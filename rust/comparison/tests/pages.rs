@@ -5,16 +5,19 @@ use std::ffi::c_void;
 use std::mem::size_of;
 use std::slice;
 
+use yestrwyn::exported::{board_open_numbers, board_return_numbers, board_withdraw_numbers};
 use yestrwyn::exported::{check_numbers_with, Arrays, Nodes, Origins, Values};
 use yestrwyn::{
     check_here, covers_here, merge_here, readout_piece_here, Cells, Rest, Tables, ENOUGH, LENGTHS,
 };
-use yestrwyn_types::limits::FILE_BYTES;
-use yestrwyn_types::ANSWER_CELLS;
+use yestrwyn_types::limits::{BOARD_CELLS, FILE_BYTES};
+use yestrwyn_types::{ANSWER_CELLS, BOARD_ANSWER_CELLS};
+use yestrwyn_vectors::boards::Lent;
+use yestrwyn_vectors::examples::boards::{self, Call, Script};
 use yestrwyn_vectors::examples::merges::{self, Merge};
 use yestrwyn_vectors::examples::{cases, days, deep, edges, published, Example};
 use yestrwyn_vectors::merges::{damaged_pair, random_pair};
-use yestrwyn_vectors::{covering_file, dated_file, random_file};
+use yestrwyn_vectors::{board_script, covering_file, dated_file, random_file};
 
 const PAGE: usize = 4096;
 
@@ -179,6 +182,39 @@ fn merges_beside_unreadable_pages() {
         for pair in named.chain((0..150).map(random_pair)).chain((0..100).map(damaged_pair)) {
             same_merge(&pair, Place::Last);
             same_merge(&pair, Place::First);
+        }
+    };
+    yestrwyn::with_stack(compare).expect("a thread");
+}
+
+/// Opens a board and runs its calls, with file and board against unreadable pages and tables that fill theirs.
+fn same_board(script: &Script, place: Place) {
+    let Script { name, day, file, calls, .. } = script;
+    let mut pages = Guarded::new(file.len());
+    let lent = put(&mut pages, file, place);
+    let mut guarded = LENGTHS.map(|cells| Guarded::new(2 * cells));
+    let [symbols, rows, clauses, bindings] = guarded.each_mut().map(|table| table.cells());
+    let mut tables = Tables { symbols, rows, clauses, bindings };
+    let mut board_pages = Guarded::new(2 * BOARD_CELLS);
+    let board: &mut [u16; BOARD_CELLS] = at(board_pages.cells(), place);
+    let (mut second, mut answer) = (Lent::new(script), [0; BOARD_ANSWER_CELLS]);
+    board_open_numbers(*day, lent, &mut tables, board, &mut answer);
+    assert_eq!(answer, second.open(script).numbers(), "{name} {place:?}");
+    for &call in calls {
+        let run = if let Call::Withdraw(_) = call { board_withdraw_numbers } else { board_return_numbers };
+        run(lent, tables.clauses, board, call.clause(), &mut answer);
+        assert_eq!(answer, second.call(file, call).numbers(), "{name} {place:?} at {call:?}");
+    }
+    assert!(*board == second.board[..], "{name} {place:?}");
+}
+
+#[test]
+fn boards_beside_unreadable_pages() {
+    let compare = || {
+        let named = boards::examples().into_iter().filter(|script| script.cells == BOARD_CELLS);
+        for script in named.chain((0..150).map(board_script)) {
+            same_board(&script, Place::Last);
+            same_board(&script, Place::First);
         }
     };
     yestrwyn::with_stack(compare).expect("a thread");

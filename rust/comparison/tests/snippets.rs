@@ -1,5 +1,5 @@
 //! The programs that the guide to the format quotes compile, and print what the stored readouts say; so do the programs
-//! in C that ask which clause covers which and that merge two files.
+//! in C that ask which clause covers which, that merge two files and that open a board.
 
 use std::fs;
 use std::path::{Path, PathBuf};
@@ -7,6 +7,11 @@ use std::process::{Command, Output, Stdio};
 use std::sync::OnceLock;
 
 use yestrwyn::{Covering, MergeRefusal, Outcome};
+use yestrwyn_second::board::Afresh;
+
+#[allow(dead_code)]
+#[path = "../../yestrwyn/examples/board.rs"]
+mod board;
 
 #[allow(dead_code)]
 #[path = "../../yestrwyn/examples/check.rs"]
@@ -88,6 +93,12 @@ fn covers_program() -> &'static Path {
 fn merge_program() -> &'static Path {
     static PROGRAM: OnceLock<PathBuf> = OnceLock::new();
     PROGRAM.get_or_init(|| compiled("merge"))
+}
+
+/// The program `board`, compiled once.
+fn board_program() -> &'static Path {
+    static PROGRAM: OnceLock<PathBuf> = OnceLock::new();
+    PROGRAM.get_or_init(|| compiled("board"))
 }
 
 /// Compiles a program of `snippets` against the library and returns where it lies.
@@ -243,6 +254,76 @@ fn merge_from_rust() {
     assert_eq!(refusal.to_string(), "file 2: refused 17 at 30");
 }
 
+/// The calls of the examples' page, as the programs read them: the curfew is lifted and restored, and so is the request; then calls
+/// that are refused.
+const CALLS: [&str; 10] = ["-1", "+1", "-3", "-1", "+3", "+1", "+1", "-6", "-2", "-65535"];
+
+/// The lines that the program `board` is to print for an example on a day, worked out afresh.
+fn board_lines(example: &str, day: u16, calls: &[&str]) -> String {
+    let file = fs::read(path(&format!("examples/{example}.proof"))).expect("a stored example");
+    let mut afresh = match Afresh::open(day, &file) {
+        Ok(afresh) => afresh,
+        Err(refusal) => return format!("{refusal}\n"),
+    };
+    let mut lines = vec![yestrwyn::BoardAnswer::Answered(afresh.answer()).to_string()];
+    for call in calls {
+        let clause = call[1..].parse().expect("a clause");
+        let answer = if call.starts_with('-') { afresh.withdraw(clause) } else { afresh.give_back(clause) };
+        lines.push(answer.to_string());
+    }
+    lines.iter().map(|line| format!("{line}\n")).collect()
+}
+
+#[test]
+fn boards_from_c_and_rust() {
+    for example in EXAMPLES {
+        for day in [0, 21_000] {
+            let name = path(&format!("examples/{example}.proof"));
+            let output = Command::new(board_program()).arg(day.to_string()).arg(&name).args(CALLS).output();
+            let output = output.expect("it runs");
+            let right = board_lines(example, day, &CALLS);
+            assert!(output.status.success(), "{example} on {day}");
+            assert_eq!(String::from_utf8_lossy(&output.stdout), right, "{example} on {day}");
+            let file = fs::read(&name).expect("a stored example");
+            let answers = board::answers(day, file, &CALLS.map(str::to_string)).expect("answers");
+            let lines: String = answers.iter().map(|answer| format!("{answer}\n")).collect();
+            assert_eq!(lines, right, "{example} on {day}");
+        }
+    }
+    let right = ["clause 10", "none", "clause 10", "none", "none", "none", "clause 10", "refused 21 at 0"];
+    let declined = board_lines("declined", 21_000, &CALLS);
+    assert_eq!(declined.lines().take(8).collect::<Vec<_>>(), right);
+}
+
+/// Words that are no day or no calls, a missing file, a folder, and a full device.
+#[test]
+fn failed_boards() {
+    let good = path("examples/declined.proof");
+    let good = good.to_string_lossy();
+    for words in ["", "0", "x F", "65536 F", "0 F 1", "0 F -x", "0 F --1", "0 F -+1", "0 F -65536", "0 F +"] {
+        let words: Vec<String> = words.split_whitespace().map(|word| word.replace('F', &good)).collect();
+        let output = Command::new(board_program()).args(&words).output().expect("it runs");
+        assert!(!output.status.success() && output.stdout.is_empty(), "{words:?}");
+        assert!(String::from_utf8_lossy(&output.stderr).starts_with("usage: "), "{words:?}");
+    }
+    for name in ["examples/missing.proof", "examples"] {
+        let output = Command::new(board_program()).arg(DAY).arg(path(name)).output().expect("it runs");
+        assert!(!output.status.success() && output.stdout.is_empty() && !output.stderr.is_empty(), "{name}");
+    }
+    let full = fs::File::options().write(true).open("/dev/full").expect("a full device");
+    let mut program = Command::new(board_program());
+    program.args([DAY, &good, "-0"]).stdout(Stdio::from(full)).stderr(Stdio::piped());
+    let written = program.spawn().and_then(|child| child.wait_with_output()).expect("it runs");
+    assert!(!written.status.success());
+    assert!(String::from_utf8_lossy(&written.stderr).starts_with("standard output: "));
+    let calls = |words: &[&str]| {
+        board::answers(0, Vec::new(), &words.iter().map(|word| word.to_string()).collect::<Vec<_>>())
+    };
+    for words in [&["1"][..], &["-"], &["-x"], &[""], &["-0", "x0"], &["-65536"]] {
+        assert!(calls(words).expect_err("no call").to_string().starts_with("usage: "), "{words:?}");
+    }
+}
+
 /// Words that are no day, none, and more than one.
 #[test]
 fn words_that_are_no_day() {
@@ -343,6 +424,8 @@ fn the_guide_quotes_the_programs() {
         ("c", "comparison/snippets/readout.c"),
         ("c", "comparison/snippets/merge.c"),
         ("rust", "yestrwyn/examples/merge.rs"),
+        ("c", "comparison/snippets/board.c"),
+        ("rust", "yestrwyn/examples/board.rs"),
     ];
     for (language, program) in quoted {
         let block = format!("```{language}\n{}```\n", text(&format!("rust/{program}")));

@@ -5,7 +5,8 @@ use std::thread::Builder;
 
 use yestrwyn::limits::FILE_BYTES;
 use yestrwyn::{check, check_into, covers, covers_into, merge, merge_into, readout, readout_piece};
-use yestrwyn::{write_readout, write_readout_here, Cells, Rest, Workspace, ENOUGH};
+use yestrwyn::{write_readout, write_readout_here, Board, Cells, Rest, Workspace, ENOUGH};
+use yestrwyn_second::board::Afresh;
 use yestrwyn_vectors::examples::deep;
 
 /// Runs something on a thread of 128 KiB. A test's own thread has 2 MiB, and the check alone takes more
@@ -25,6 +26,9 @@ fn the_deepest_files_on_a_small_thread() {
         let text = yestrwyn_second::readout(0, file);
         let covering = yestrwyn_second::covers(file, 0, 0);
         let merged = yestrwyn_second::merge(&[], file);
+        let mut afresh = Afresh::open(0, file);
+        let answer = afresh.as_ref().map(Afresh::answer).map_err(|refusal| *refusal);
+        let after = afresh.as_mut().map(|board| board.withdraw(1).result()).map_err(|refusal| *refusal);
         on_a_small_thread(|| {
             assert_eq!(check(0, file).expect("an answer"), expected);
             assert_eq!(check_into(0, file, &mut cells.lend()).expect("an answer"), expected);
@@ -40,6 +44,10 @@ fn the_deepest_files_on_a_small_thread() {
             assert_eq!(length, merged.as_ref().ok().map(Vec::len));
             assert_eq!(covers(file, 0, 0).expect("an answer"), covering);
             assert_eq!(covers_into(file, 0, 0, &mut cells.lend()).expect("an answer"), covering);
+            let mut opened = Board::open(0, file.as_slice()).expect("an answer");
+            assert_eq!(opened.as_ref().map(Board::answer).map_err(|refusal| *refusal), answer);
+            // A call runs on this thread, and takes little of its stack.
+            assert_eq!(opened.as_mut().map(|board| board.withdraw(1)).map_err(|refusal| *refusal), after);
         });
         assert!(cells == second, "{}", example.name);
     }

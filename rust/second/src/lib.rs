@@ -3,11 +3,13 @@
 //! A file holds symbols, rows (shared terms), input clauses, and resolution and factoring steps.
 //! [`check()`] answers whether every record stands and whether some clause is empty that is made of
 //! rules in force on a day, and fills four tables; [`readout()`] writes every clause in plain symbols;
-//! [`covers()`] answers whether one input clause covers another; [`merge()`] makes one file of two. Derived
-//! clauses are never written out: a clause is its parents and the bindings that its own unification added.
+//! [`covers()`] answers whether one input clause covers another; [`merge()`] makes one file of two; [`board`] says
+//! which empty clause stands while input clauses are withdrawn and returned. Derived clauses are never written out: a
+//! clause is its parents and the bindings that its own unification added.
 
 #![forbid(unsafe_code)]
 
+pub mod board;
 pub mod check;
 pub mod checker;
 pub mod clause;

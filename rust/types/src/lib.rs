@@ -1,5 +1,5 @@
-//! What a check of a proof file answers, the tables that it fills, the answers to whether one clause covers another and to
-//! a merge of two files, and the numbers of the format.
+//! What a check of a proof file answers, the tables that it fills, the answers to whether one clause covers another, to a
+//! merge of two files and of a board, and the numbers of the format.
 //!
 //! The package `yestrwyn` (the proved check) gives all of these on, and `yestrwyn-builder` the limits, records and reasons;
 //! there is no need to name this package beside them.
@@ -11,6 +11,7 @@ pub mod limits;
 pub mod record;
 
 mod answer;
+mod board;
 mod cover;
 mod inputs;
 mod merge;
@@ -18,6 +19,7 @@ mod reason;
 mod tables;
 
 pub use answer::{Answer, Verdict, ANSWER_CELLS};
+pub use board::{BoardAnswer, BoardRefusal, ClauseState, BOARD_ANSWER_CELLS};
 pub use cover::{Covering, Outcome, COVERING_CELLS};
 pub use inputs::{input_clauses, InputClause};
 pub use merge::{MergeRefusal, Merged, MERGED_CELLS};

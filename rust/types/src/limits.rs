@@ -34,6 +34,8 @@ pub const ROW_CELLS: usize = RECORDS;
 pub const CLAUSE_CELLS: usize = 5 * RECORDS;
 /// Cells of the binding table that are used, four for each binding.
 pub const BINDING_CELLS: usize = 4 * BINDINGS;
+/// Cells of a board that are used: one for each clause that a file can have, and the day.
+pub const BOARD_CELLS: usize = RECORDS + 1;
 
 /// A literal with more variable and symbol occurrences than this is read out as `~`.
 pub const READOUT_OCCURRENCES: usize = 64;

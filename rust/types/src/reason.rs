@@ -1,16 +1,16 @@
-//! Why a file, a question about it or a merge of two files is refused.
+//! Why a file, a question about it, a merge of two files or a call of a board is refused.
 
 use std::error::Error;
 use std::fmt;
 
-/// Why a file, a question about it or a merge of two files is refused. The format may get further numbers, so a match needs a last arm; treat what
-/// it catches as a refusal too.
+/// Why a file, a question about it, a merge of two files or a call of a board is refused. The format may get further numbers, so
+/// a match needs a last arm; treat what it catches as a refusal too.
 #[non_exhaustive]
 #[derive(Clone, Copy, PartialEq, Eq, Hash, Debug)]
 pub enum Reason {
     /// Length over 65,536 or not a multiple of 16.
     Length,
-    /// A lent table is too short, or the output that a file is to be written to.
+    /// A lent table or board is too short, or the output that a file is to be written to.
     Table,
     /// Kind not 1 to 8.
     Kind,
@@ -50,12 +50,17 @@ pub enum Reason {
     MergedSymbols,
     /// The merged file would have over 4,096 records.
     MergedLength,
+    /// An input clause is to be withdrawn or returned, and there is none of that number: it is derived, or not there at all. No
+    /// check gives this and the next one, only a call of a board.
+    NotAnInput,
+    /// The clause is in that condition already: withdrawn where it is to be withdrawn, present where it is to be returned.
+    Already,
     /// A number that this version does not know: a refusal all the same.
     Other(u16),
 }
 
 /// The reasons that have a name, from number 1 on.
-const NAMED: [Reason; 19] = [
+const NAMED: [Reason; 21] = [
     Reason::Length,
     Reason::Table,
     Reason::Kind,
@@ -75,6 +80,8 @@ const NAMED: [Reason; 19] = [
     Reason::MergedStep,
     Reason::MergedSymbols,
     Reason::MergedLength,
+    Reason::NotAnInput,
+    Reason::Already,
 ];
 
 impl Reason {
@@ -100,6 +107,8 @@ impl Reason {
             Reason::MergedStep => 17,
             Reason::MergedSymbols => 18,
             Reason::MergedLength => 19,
+            Reason::NotAnInput => 20,
+            Reason::Already => 21,
             Reason::Other(number) => number,
         }
     }
@@ -115,7 +124,7 @@ impl fmt::Display for Reason {
     fn fmt(&self, out: &mut fmt::Formatter<'_>) -> fmt::Result {
         out.write_str(match self {
             Reason::Length => "the length is over 65,536 bytes or not a multiple of 16",
-            Reason::Table => "a lent table or output is too short",
+            Reason::Table => "a lent table, board or output is too short",
             Reason::Kind => "the kind is not 1 to 8",
             Reason::Range => {
                 "byte 1 or the variable number is out of its range, or an unused field is not zero"
@@ -138,6 +147,8 @@ impl fmt::Display for Reason {
             Reason::MergedStep => "a file that is to be merged holds a step",
             Reason::MergedSymbols => "of two files that are to be merged, neither list of symbols begins the other",
             Reason::MergedLength => "the merged file would have over 4,096 records",
+            Reason::NotAnInput => "there is no input clause of that number",
+            Reason::Already => "the clause is in that condition already",
             Reason::Other(number) => return write!(out, "reason {number}"),
         })
     }

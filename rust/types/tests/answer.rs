@@ -1,7 +1,10 @@
 //! Answers, verdicts and reasons as numbers and as text.
 
+use std::error::Error;
+
 use yestrwyn_types::{
-    Answer, Cells, Covering, MergeRefusal, Merged, Outcome, Reason, Tables, Verdict, LENGTHS,
+    Answer, BoardAnswer, BoardRefusal, Cells, ClauseState, Covering, MergeRefusal, Merged, Outcome, Reason,
+    Tables, Verdict, LENGTHS,
 };
 
 #[test]
@@ -9,7 +12,7 @@ fn reasons_are_their_numbers() {
     for number in 0..100 {
         let reason = Reason::from_number(number);
         assert_eq!(reason.number(), number);
-        assert_eq!(matches!(reason, Reason::Other(_)), !(1..=19).contains(&number), "{reason:?}");
+        assert_eq!(matches!(reason, Reason::Other(_)), !(1..=21).contains(&number), "{reason:?}");
     }
     assert_eq!(Reason::Clash.to_string(), "two different symbols meet");
     assert_eq!(Reason::Order.to_string(), "the right literals of the step do not strictly rise");
@@ -20,7 +23,10 @@ fn reasons_are_their_numbers() {
     assert_eq!(merging.map(Reason::number), [17, 18, 19]);
     assert_eq!(Reason::MergedStep.to_string(), "a file that is to be merged holds a step");
     assert_eq!(Reason::MergedLength.to_string(), "the merged file would have over 4,096 records");
-    assert_eq!(Reason::Other(20).to_string(), "reason 20");
+    assert_eq!([Reason::NotAnInput, Reason::Already].map(Reason::number), [20, 21]);
+    assert_eq!(Reason::NotAnInput.to_string(), "there is no input clause of that number");
+    assert_eq!(Reason::Already.to_string(), "the clause is in that condition already");
+    assert_eq!(Reason::Other(22).to_string(), "reason 22");
 }
 
 #[test]
@@ -68,6 +74,42 @@ fn merges_are_their_numbers() {
         [symbols, short].map(|refusal| refusal.to_string()),
         ["file 2: refused 18 at 4095", "refused 2"]
     );
+}
+
+#[test]
+fn answers_of_a_board_are_their_numbers() {
+    let call = BoardRefusal::of_the_call(Reason::NotAnInput);
+    let opening = BoardRefusal { reason: Reason::Missing, record: 4095 };
+    let answers = [
+        (BoardAnswer::Answered(None), [0, 0, 0], "none"),
+        (BoardAnswer::Answered(Some(0)), [1, 0, 0], "clause 0"),
+        (BoardAnswer::Answered(Some(4095)), [1, 4095, 0], "clause 4095"),
+        (BoardAnswer::Refused(call), [2, 20, 0], "refused 20 at 0"),
+        (BoardAnswer::Refused(opening), [2, 5, 4095], "refused 5 at 4095"),
+    ];
+    for (answer, numbers, text) in answers {
+        assert_eq!((answer.numbers(), answer.to_string()), (numbers, text.to_string()));
+        assert_eq!(BoardAnswer::from_numbers(numbers), answer);
+        assert_eq!(BoardAnswer::from(answer.result()), answer);
+    }
+    // Nothing that is not said to be answered is taken for it.
+    let odd = BoardRefusal::of_the_call(Reason::Other(7_000));
+    assert_eq!(BoardAnswer::from_numbers([3, 7_000, 0]), BoardAnswer::Refused(odd));
+    assert_eq!(call.source().map(ToString::to_string), Some(Reason::NotAnInput.to_string()));
+}
+
+#[test]
+fn states_of_clauses_are_their_cells() {
+    let states = [(false, false), (false, true), (true, false), (true, true)];
+    for (cell, (in_force, stands)) in (4..).zip(states) {
+        let state = ClauseState { in_force, stands };
+        for child in [0, 1, 2, 4095, 8191] {
+            let cell = 8 * child + cell;
+            assert_eq!((state.cell(child), ClauseState::from_cell(cell)), (cell, Some(state)));
+            assert_eq!(ClauseState::last_child(cell), child);
+        }
+    }
+    assert!((0..4).all(|cell| ClauseState::from_cell(cell).is_none()));
 }
 
 #[test]

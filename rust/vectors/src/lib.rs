@@ -1,10 +1,12 @@
 //! Proof files for tests: the case sheet, examples from the literature, files at the edge of every
-//! limit, deep, heavy and random ones, files with days, pairs of files that are merged; and the vectors that are stored of
-//! them.
+//! limit, deep, heavy and random ones, files with days, pairs of files that are merged, calls of boards; and the vectors that
+//! are stored of them.
 
 #![forbid(unsafe_code)]
 
 pub mod alone;
+pub mod boarding;
+pub mod boards;
 pub mod clashing;
 pub mod covering;
 pub mod dated;
@@ -18,6 +20,7 @@ pub mod shapes;
 pub mod sketch;
 pub mod stored;
 
+pub use boarding::board_script;
 pub use clashing::{clashing_file, clashing_several_file};
 pub use covering::covering_file;
 pub use dated::dated_file;

@@ -2,12 +2,14 @@
 //!
 //! All run on the caller's stack; [`check_here`](crate::check_here) says how much it must have.
 
+mod board;
 mod check;
 mod covers;
 mod merge;
 mod readout;
 mod services;
 
+pub use board::{board_open_numbers, board_return_numbers, board_withdraw_numbers};
 pub use check::check_numbers;
 pub use covers::covers_numbers;
 pub use merge::merge_numbers;

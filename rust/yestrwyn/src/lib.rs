@@ -1,5 +1,5 @@
-//! The proved check and readout of resolution proof files, which of their clauses covers which, and two files merged into
-//! one.
+//! The proved check and readout of resolution proof files, which of their clauses covers which, two files merged into one, and
+//! boards, on which input clauses are withdrawn and returned.
 //!
 //! ```no_run
 //! let file = std::fs::read("trip.proof")?;
@@ -19,12 +19,13 @@
 //!
 //! [`check()`], [`readout()`], [`covers()`] and [`merge()`] take care of the stack themselves. Functions that end in
 //! `_here` run on the caller's, and say how much of it they need. A service that checks many files keeps a
-//! [`Workspace`].
+//! [`Workspace`]; one that follows which rules are lifted and restored keeps a [`Board`].
 
 #![warn(missing_docs)]
 
 pub mod exported;
 
+mod board;
 mod check;
 mod cover;
 mod merge;
@@ -32,6 +33,7 @@ mod readout;
 mod stack;
 mod workspace;
 
+pub use board::Board;
 pub use check::{check, check_here, check_into};
 pub use cover::{covers, covers_here, covers_into};
 pub use merge::{merge, merge_here, merge_into};
@@ -42,6 +44,7 @@ pub use stack::{with_stack, STACK};
 pub use workspace::Workspace;
 pub use yestrwyn_types::{input_clauses, limits, record};
 pub use yestrwyn_types::{
-    Answer, Cells, Covering, InputClause, MergeRefusal, Merged, Outcome, Reason, Tables, Verdict,
+    Answer, BoardAnswer, BoardRefusal, Cells, ClauseState, Covering, InputClause, MergeRefusal, Merged,
+    Outcome, Reason, Tables, Verdict,
 };
-pub use yestrwyn_types::{ANSWER_CELLS, COVERING_CELLS, LENGTHS, MERGED_CELLS};
+pub use yestrwyn_types::{ANSWER_CELLS, BOARD_ANSWER_CELLS, COVERING_CELLS, LENGTHS, MERGED_CELLS};

@@ -1,4 +1,4 @@
-//! Compares the proved check, plain and for services, the proved readout, which clause covers which and the proved merge
+//! Compares the proved check, plain and for services, the proved readout, which clause covers which, the proved merge and boards
 //! with the second implementation on files from a seed on, each on a day of its own:
 //!
 //! ```text
@@ -7,16 +7,18 @@
 //!
 //! All files are checked for services with one workspace. Of each readout it takes two pieces: the first with
 //! room for every line, and one from any clause with any room. Of the clauses of each file it compares two pairs. With each
-//! file goes a pair of files that it merges. Prints one line; at the first difference it prints the file, or the pair that
-//! differs, in hexadecimal and ends with 1.
+//! file goes a pair of files that it merges, a board with a sequence of calls, and a call on any contents of a board. Prints one
+//! line; at the first difference it prints the file, or what differs, in hexadecimal and ends with 1.
 
 use std::process::ExitCode;
 
 use yestrwyn::with_stack;
+use yestrwyn_comparison::boards::{script_of, Any, BoardLengths, Boards};
 use yestrwyn_comparison::compare::{day_and_file_of, lengths_of, Pair};
 use yestrwyn_comparison::covers::{for_covering, Clauses, Coverings};
 use yestrwyn_comparison::merges::{pair_of, MergeLengths, Merges};
 use yestrwyn_comparison::pieces::Second;
+use yestrwyn_vectors::examples::boards::Script;
 use yestrwyn_vectors::random::SplitMix64;
 
 /// Pairs of clauses that are compared of each file.
@@ -58,7 +60,7 @@ fn run(seed: u64, count: u64) -> ExitCode {
             println!("seed {own}: {difference}; {:?}; day {day}; file {}", lengths_of(own), hex(&file));
             return ExitCode::FAILURE;
         }
-        if let Err(difference) = both.merge(own, &mut tally) {
+        if let Err(difference) = both.merge(own, &mut tally).and_then(|()| both.board(own)) {
             println!("seed {own}: {difference}");
             return ExitCode::FAILURE;
         }
@@ -66,11 +68,14 @@ fn run(seed: u64, count: u64) -> ExitCode {
     let Tally { kinds: [open, accepted, refused], untouched, bytes, .. } = tally;
     let Tally { coverings: [no, yes, nothing], coverings_untouched, .. } = tally;
     let Tally { merges: [written, _, not_written], merges_untouched, .. } = tally;
+    let boards = both.boards.met;
     println!(
         "{count} files, {bytes} bytes, no difference: {open} open, {accepted} accepted, {refused} refused, \
          {untouched} with too short an answer; pairs of clauses: {yes} yes, {no} no, {nothing} refused, \
          {coverings_untouched} with too short an answer; merges: {written} written, {not_written} refused, \
-         {merges_untouched} with too short an answer"
+         {merges_untouched} with too short an answer; openings and calls of boards: {} with a clause, {} with none, \
+         {} refused, {} with too short an answer",
+        boards.kinds[1], boards.kinds[0], boards.kinds[2], boards.untouched
     );
     ExitCode::SUCCESS
 }
@@ -81,6 +86,7 @@ struct Both {
     pair: Pair,
     coverings: Coverings,
     merges: Merges,
+    boards: Boards,
 }
 
 impl Both {
@@ -110,6 +116,19 @@ impl Both {
         })?;
         count(kind, &mut tally.merges, &mut tally.merges_untouched);
         Ok(())
+    }
+
+    /// A board with its calls, and a call on any contents; says where they differ, with the file and the calls.
+    fn board(&mut self, own: u64) -> Result<(), String> {
+        let (script, lengths) = (script_of(own), BoardLengths::of(own));
+        self.boards.compare(&script, lengths, own as u16).map_err(|difference| {
+            let Script { day, file, calls, .. } = &script;
+            format!("board, {difference}; {lengths:?}; day {day}; calls {calls:?}; file {}", hex(file))
+        })?;
+        let any = Any::of(own);
+        self.boards
+            .compare_any(&any)
+            .map_err(|difference| format!("any board, {difference}; {:?}; file {}", any.call, hex(&any.file)))
     }
 }
 

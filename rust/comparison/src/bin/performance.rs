@@ -1,9 +1,9 @@
-//! The proved check, plain and for services, which clause covers which, and the proved merge, beside the second
+//! The proved check, plain and for services, which clause covers which, the proved merge and calls of boards, beside the second
 //! implementation on the same files in one run: tables in Markdown with the times and their ratio. Arguments name tables;
 //! without any, all are made:
 //!
 //! ```text
-//! performance [check] [services] [calls] [covers] [merge]
+//! performance [check] [services] [calls] [covers] [merge] [board]
 //! ```
 
 use std::env;
@@ -12,13 +12,15 @@ use std::hint::black_box;
 use std::io;
 use std::time::Duration;
 
-use yestrwyn::Workspace;
+use yestrwyn::{Board, BoardRefusal, Workspace};
 use yestrwyn_comparison::clock::own_time;
-use yestrwyn_comparison::files::{measured, merged, ordinary};
+use yestrwyn_comparison::files::{called, measured, merged, ordinary, Called};
 use yestrwyn_comparison::questions::{questions, Question};
 use yestrwyn_comparison::rounds::Rounds;
 use yestrwyn_types::limits::{FILE_BYTES, RECORD_BYTES};
 use yestrwyn_types::{Answer, Cells};
+use yestrwyn_vectors::boards::Lent;
+use yestrwyn_vectors::examples::boards::{Call, Script};
 use yestrwyn_vectors::examples::merges::Merge;
 use yestrwyn_vectors::examples::{cases, heavy, Example};
 use yestrwyn_vectors::stored::groups;
@@ -30,18 +32,19 @@ const LONG_ENOUGH: Duration = Duration::from_millis(5);
 type Table = fn() -> io::Result<()>;
 
 /// The tables by name.
-const TABLES: [(&str, Table); 5] = [
+const TABLES: [(&str, Table); 6] = [
     ("check", check_table),
     ("services", services_table),
     ("calls", calls_table),
     ("covers", covers_table),
     ("merge", merge_table),
+    ("board", board_table),
 ];
 
 fn main() -> io::Result<()> {
     let asked: Vec<String> = env::args().skip(1).collect();
     if asked.iter().any(|name| TABLES.iter().all(|(table, _)| table != name)) {
-        return Err(io::Error::other("the tables are check, services, calls, covers and merge"));
+        return Err(io::Error::other("the tables are check, services, calls, covers, merge and board"));
     }
     let tables =
         TABLES.iter().filter(|(table, _)| asked.is_empty() || asked.iter().any(|name| name == table));
@@ -96,6 +99,15 @@ fn merge_table() -> io::Result<()> {
     );
     println!("|---|---|---|---|---|---|---|---|");
     yestrwyn::with_stack(|| merged().iter().for_each(merge_line))
+}
+
+/// Calls of boards: the check of the file anew, for services, beside a call; and a call by the second implementation.
+fn board_table() -> io::Result<()> {
+    println!(
+        "| a file of 4,000 clauses, and the clause that is withdrawn and returned | check anew | a call | ratio | over ten rounds | a call of the second | ratio of the calls | over ten rounds |"
+    );
+    println!("|---|---|---|---|---|---|---|---|");
+    yestrwyn::with_stack(|| called().iter().for_each(board_lines))
 }
 
 /// Both with tables that are lent to them again and again.
@@ -175,6 +187,43 @@ fn merge_line(pair: &Merge) {
         || and_less_the_checks(&files, &mut other, second),
     );
     println!("| {} | {whole} | {} |", pair.name, less.middles());
+}
+
+/// The lines of the last table for a file: each call is a withdrawal or a return, half of them either.
+fn board_lines(called: &Called) {
+    let Called { name, file, clauses } = called;
+    let mut workspace = Workspace::new();
+    let mut check =
+        || time_all(&[(0, file)], |day, file, cells| workspace.check_into_here(day, file, &mut cells.lend()));
+    for (which, clauses) in clauses {
+        let mut board = Board::open_here(0, file.as_slice()).expect("the file stands");
+        let script = Script::new(name, 0, file.clone(), &[]);
+        let mut lent = Lent::new(&script);
+        assert!(lent.open(&script).result().is_ok(), "the file stands");
+        let mut proved = || {
+            time_calls(clauses, |call| match call {
+                Call::Withdraw(clause) => board.withdraw(clause),
+                Call::Return(clause) => board.give_back(clause),
+            })
+        };
+        let beside_the_check = Rounds::take(&mut check, &mut proved);
+        let second = || time_calls(clauses, |call| lent.call(file, call).result());
+        let beside_the_second = Rounds::take(&mut proved, second);
+        println!("| {name}: {which} | {beside_the_check} | {} |", beside_the_second.beside());
+    }
+}
+
+/// How long a call takes, where each of some clauses is withdrawn and then returned.
+fn time_calls(clauses: &[u16], mut run: impl FnMut(Call) -> Result<Option<u16>, BoardRefusal>) -> Duration {
+    let calls = 2 * clauses.len() as u32;
+    let all = time(|| {
+        for &clause in clauses {
+            for call in [Call::Withdraw(clause), Call::Return(clause)] {
+                assert!(black_box(run(call)).is_ok(), "{call:?}");
+            }
+        }
+    });
+    all / calls
 }
 
 /// The time of something that checks files first, and that less the time of the checks alone.

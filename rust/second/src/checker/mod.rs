@@ -7,7 +7,7 @@ use yestrwyn_types::record::{kind, Record};
 use yestrwyn_types::{Answer, Reason, Verdict};
 
 use crate::clause::{Clause, Loader, Origin};
-use crate::days::{first_empty, Window};
+use crate::days::{first_empty, in_force, Window};
 use crate::earliest::Earliest;
 use crate::environment::Environment;
 use crate::expression::{Binding, Node};
@@ -124,6 +124,11 @@ impl Checker {
             return None;
         }
         first_empty(&self.clauses, &self.windows, day)
+    }
+
+    /// For each clause, whether it is made only of input clauses in force on a day, by the windows as they are now.
+    pub fn in_force(&self, day: u16) -> Vec<bool> {
+        in_force(&self.clauses, &self.windows, day)
     }
 
     /// Makes the environment that of one clause, for reading values out, and hands it out with the rows.

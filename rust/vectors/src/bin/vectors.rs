@@ -3,8 +3,8 @@
 use std::io::Write;
 use std::{fs, io};
 
-use yestrwyn_vectors::merges;
 use yestrwyn_vectors::stored::{expected, groups, listing, listing_path, pack_path, results_path};
+use yestrwyn_vectors::{boards, merges};
 
 fn main() -> io::Result<()> {
     let mut out = io::stdout().lock();
@@ -25,6 +25,7 @@ fn main() -> io::Result<()> {
         fs::write(results_path(group.name), text)?;
     }
     total += write_merges(&mut out)?;
+    total += write_boards(&mut out)?;
     let text = listing(&groups);
     writeln!(out, "printed by cases: {} bytes", text.len())?;
     total += text.len();
@@ -39,5 +40,14 @@ fn write_merges(out: &mut impl Write) -> io::Result<usize> {
     let text = merges::expected(&pairs);
     writeln!(out, "{}: {} pairs of files, {} bytes", merges::GROUP, pairs.len(), text.len())?;
     fs::write(results_path(merges::GROUP), &text)?;
+    Ok(text.len())
+}
+
+/// The boards, and how many bytes they are.
+fn write_boards(out: &mut impl Write) -> io::Result<usize> {
+    let scripts = boards::scripts();
+    let text = boards::expected(&scripts);
+    writeln!(out, "{}: {} boards, {} bytes", boards::GROUP, scripts.len(), text.len())?;
+    fs::write(results_path(boards::GROUP), &text)?;
     Ok(text.len())
 }

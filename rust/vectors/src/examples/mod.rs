@@ -1,6 +1,7 @@
 //! Proof files with a name: the case sheet, examples from the literature, files at the edge of each
 //! limit, and files refused for each reason. Tests say what they should give; the vectors store it.
 
+pub mod boards;
 pub mod cases;
 pub mod days;
 pub mod deep;

@@ -1,0 +1,116 @@
+//! The stored vectors of boards: which scripts there are, and what each call gives, as text. The format is described in
+//! `README.md` beside the results.
+
+use std::fmt::Write;
+
+use yestrwyn_second::board::cells;
+use yestrwyn_types::limits::{BOARD_CELLS, RECORD_BYTES};
+use yestrwyn_types::{BoardAnswer, Cells};
+
+use crate::boarding::board_script;
+use crate::examples::boards::{self, Call, Script};
+use crate::stored::hash;
+
+/// The name of the group, by which its results are stored.
+pub const GROUP: &str = "boards";
+/// Number of random scripts.
+const RANDOM_SCRIPTS: u64 = 50;
+/// Files of at most this many records are written in full.
+const RECORDS_IN_FULL: usize = 24;
+/// The cells of at most this many clauses are written out.
+const CLAUSES_IN_FULL: usize = 40;
+
+/// All scripts that are stored: the named ones, then random ones.
+pub fn scripts() -> Vec<Script> {
+    let mut all = boards::examples();
+    all.extend((0..RANDOM_SCRIPTS).map(board_script));
+    all
+}
+
+/// What every script gives, as text.
+pub fn expected(scripts: &[Script]) -> String {
+    let mut text = String::new();
+    for script in scripts {
+        describe(&mut text, script);
+    }
+    text
+}
+
+/// A board that is lent, of zeros at first, with the tables that go with it.
+pub struct Lent {
+    pub tables: Cells,
+    pub board: Vec<u16>,
+}
+
+impl Lent {
+    /// The board of a script, not opened yet.
+    pub fn new(script: &Script) -> Lent {
+        Lent { tables: Cells::new(), board: vec![0; script.cells] }
+    }
+
+    /// Opens it by the second implementation.
+    pub fn open(&mut self, script: &Script) -> BoardAnswer {
+        cells::open(script.day, &script.file, &mut self.tables.lend(), &mut self.board)
+    }
+
+    /// Withdraws or returns a clause by the second implementation.
+    pub fn call(&mut self, file: &[u8], call: Call) -> BoardAnswer {
+        let Lent { tables, board } = self;
+        match call {
+            Call::Withdraw(clause) => cells::withdraw(file, &tables.clauses, board, clause),
+            Call::Return(clause) => cells::give_back(file, &tables.clauses, board, clause),
+        }
+    }
+}
+
+/// One vector's part of the text.
+fn describe(text: &mut String, script: &Script) {
+    let mut lent = Lent::new(script);
+    line(text, &format!("board {}", script.name));
+    line(text, &format!("day {}", script.day));
+    file(text, &script.file);
+    line(text, &format!("lent {}", script.cells));
+    let opened = lent.open(script);
+    line(text, &format!("open {}", joined(opened)));
+    line(text, &cells_line(&lent.board));
+    for &call in &script.calls {
+        let answer = lent.call(&script.file, call);
+        line(text, &format!("{} {} {}", call.word(), call.clause(), joined(answer)));
+        // A refusal alters no cell.
+        if answer.result().is_ok() {
+            line(text, &cells_line(&lent.board));
+        }
+    }
+}
+
+/// The three numbers of an answer.
+fn joined(answer: BoardAnswer) -> String {
+    answer.numbers().map(|number| number.to_string()).join(" ")
+}
+
+/// The hash of a board's cells, and those that have a clause, if there are few.
+fn cells_line(board: &[u16]) -> String {
+    let named = &board[..board.len().min(BOARD_CELLS)];
+    let hash = hash(named.iter().flat_map(|cell| cell.to_le_bytes()));
+    let clauses: Vec<String> = named.iter().take_while(|&&cell| cell >= 4).map(u16::to_string).collect();
+    match clauses.len() {
+        1..=CLAUSES_IN_FULL => format!("cells {hash:016x} {}", clauses.join(" ")),
+        _ => format!("cells {hash:016x}"),
+    }
+}
+
+/// The lines of a file: its length and hash, and its records if there are few.
+fn file(text: &mut String, bytes: &[u8]) {
+    line(text, &format!("file {} {:016x}", bytes.len(), hash(bytes.iter().copied())));
+    if bytes.len() <= RECORDS_IN_FULL * RECORD_BYTES {
+        for record in bytes.chunks(RECORD_BYTES) {
+            let digits: String = record.iter().map(|byte| format!("{byte:02x}")).collect();
+            line(text, &format!("| {digits}"));
+        }
+    }
+}
+
+fn line(text: &mut String, words: &str) {
+    // Writing to a string does not fail.
+    let _ = writeln!(text, "{words}");
+}
