@@ -6,9 +6,9 @@ use Prim.Native.Nat.{ℕ, _+_, _*_, _/_, _≤_}
 use native.Mathlib.Omega.{arith}
 use mir.Val.{boolByte}
 use lib.ListN.{getD}
-use borrow.Author.Tests.{ne-eqb}
-use Rattle.record.specs.Record.{recordPart, kindOf, fieldOf}
-use Rattle.boards.specs.Cells.{cellWith, childCell, forceCell, standsCell, fromParents, cellByKind, newCell}
+use borrow.Author.Tests.{eq-eqb, ne-eqb}
+use Rattle.record.specs.Record.{pick, recordPart, kindOf, fieldOf}
+use Rattle.boards.specs.Cells.{cellWith, childCell, forceCell, standsCell, fromParents, rightParent, cellByKind, newCell}
 
 -- Two answers as numbers, in the last bits of a cell.
 pub small-byte : (b : Bool) → boolByte b ≤ 1
@@ -37,17 +37,16 @@ module _ (F C B : List ℕ) (n : ℕ) {k : ℕ} (isNumber : k ≡ getD C (5 * n)
       own : kindOf part ≡ 4 → cellByKind part B n ≡ getD B n 0
       own q = rw q refl
 
-  pub factor-cell : x ≡ 6 → {own a left : ℕ} → own ≡ getD B n 0 → a ≡ fieldOf part 0 → left ≡ getD B a 0 → {r : ℕ} → r ≡ fromParents own left left → r ≡ newCell F C B n
-  factor-cell z {own} {a} {left} o f l e = e ∙ ap₂ (λ (x y : ℕ). fromParents x y y) o (l ∙ ap (λ (i : ℕ). getD B i 0) f) ∙ sym (by-record ∙ one (sym isKind ∙ z))
-    where
-      one : kindOf part ≡ 6 → cellByKind part B n ≡ fromParents (getD B n 0) (getD B (fieldOf part 0) 0) (getD B (fieldOf part 0) 0)
-      one q = rw q refl
-
-  pub resolve-cell : ¬ (x ≡ 4) → ¬ (x ≡ 6) → {own a b left right : ℕ} → own ≡ getD B n 0 → a ≡ fieldOf part 0 → left ≡ getD B a 0 → b ≡ fieldOf part 2 → right ≡ getD B b 0
+  pub parents-cell : ¬ (x ≡ 4) → {own a b left right : ℕ} → own ≡ getD B n 0 → a ≡ fieldOf part 0 → left ≡ getD B a 0 → b ≡ rightParent part → right ≡ getD B b 0
       → {r : ℕ} → r ≡ fromParents own left right → r ≡ newCell F C B n
-  resolve-cell h i {own} {a} {b} {left} {right} o f l g m e =
+  parents-cell h {own} {a} {b} {left} {right} o f l g m e =
       e ∙ ap (λ (x : ℕ). fromParents x left right) o ∙ ap₂ (fromParents (getD B n 0)) (l ∙ ap (λ (j : ℕ). getD B j 0) f) (m ∙ ap (λ (j : ℕ). getD B j 0) g)
-      ∙ sym (by-record ∙ two (λ q. h (isKind ∙ q)) (λ q. i (isKind ∙ q)))
-    where
-      two : ¬ (kindOf part ≡ 4) → ¬ (kindOf part ≡ 6) → cellByKind part B n ≡ fromParents (getD B n 0) (getD B (fieldOf part 0) 0) (getD B (fieldOf part 2) 0)
-      two p q = rw (ne-eqb (kindOf part) 4 p, ne-eqb (kindOf part) 6 q) refl
+      ∙ sym (by-record ∙ ap (λ (b : Bool). pick b (getD B n 0) (fromParents (getD B n 0) (getD B (fieldOf part 0) 0) (getD B (rightParent part) 0))) (ne-eqb (kindOf part) 4 (λ q. h (isKind ∙ q))))
+
+-- The right parent, by the kind.
+module _ (part : List ℕ) {k : ℕ} (isKind : k ≡ kindOf part) where
+  pub left-again : k ≡ 6 → {a : ℕ} → a ≡ fieldOf part 0 → a ≡ rightParent part
+  left-again z e = e ∙ sym (ap (λ (b : Bool). pick b (fieldOf part 0) (fieldOf part 2)) (eq-eqb (kindOf part) 6 (sym isKind ∙ z)))
+
+  pub other-parent : ¬ (k ≡ 6) → {a : ℕ} → a ≡ fieldOf part 2 → a ≡ rightParent part
+  other-parent h e = e ∙ sym (ap (λ (b : Bool). pick b (fieldOf part 0) (fieldOf part 2)) (ne-eqb (kindOf part) 6 (λ q. h (isKind ∙ q))))

@@ -11,19 +11,20 @@ use borrow.Author.Tests.{eq-eqb, ne-eqb, le-leb, lt-leb, lt-ltb, le-ltb}
 use Rattle.record.specs.Record.{pick}
 use Rattle.boards.specs.Cells.{childCell, newCell, larger, lastAfter, passed}
 
+-- The larger of two numbers.
+pub larger-second : (a b : ℕ) → a < b → b ≡ larger a b
+larger-second a b l = sym (ap (λ (x : Bool). pick x b a) (lt-ltb a b l))
+
+pub larger-first : (a b : ℕ) → b ≤ a → a ≡ larger a b
+larger-first a b l = sym (ap (λ (x : Bool). pick x b a) (le-ltb a b l))
+
 -- The last child of the clauses that have changed.
 pub last-stays : (last before after : ℕ) → before ≡ after → last ≡ lastAfter last before after
 last-stays last before after e = sym (ap (λ (b : Bool). pick b last (larger last (childCell before))) (eq-eqb before after e))
 
-pub last-moves : (last before after : ℕ) {child : ℕ} → ¬ (before ≡ after) → child ≡ childCell before → last < child → child ≡ lastAfter last before after
-last-moves last before after {child} h e l =
-    sym (ap (λ (b : Bool). pick b last (larger last (childCell before))) (ne-eqb before after h)
-    ∙ ap (larger last) (sym e) ∙ ap (λ (b : Bool). pick b child last) (lt-ltb last child l))
-
-pub last-kept : (last before after : ℕ) {child : ℕ} → ¬ (before ≡ after) → child ≡ childCell before → child ≤ last → last ≡ lastAfter last before after
-last-kept last before after {child} h e l =
-    sym (ap (λ (b : Bool). pick b last (larger last (childCell before))) (ne-eqb before after h)
-    ∙ ap (larger last) (sym e) ∙ ap (λ (b : Bool). pick b child last) (le-ltb last child l))
+pub last-moves : (last before after : ℕ) {child moved : ℕ} → ¬ (before ≡ after) → child ≡ childCell before → moved ≡ larger last child → moved ≡ lastAfter last before after
+last-moves last before after {child} h e m =
+    m ∙ ap (larger last) e ∙ sym (ap (λ (b : Bool). pick b last (larger last (childCell before))) (ne-eqb before after h))
 
 module _ (F C : List ℕ) (most : ℕ) where
   abbrev onward : ℕ → ℕ → ℕ → List ℕ → Bool → List ℕ

@@ -5,7 +5,8 @@ use record::record_part;
 use tables::cell;
 ghost use mathlib.Core.Path.{_≡_};
 ghost use mathlib.Core.Bool.{_&&_};
-ghost use Rattle.boards.specs.Cells.{cellWith, childCell, forceCell, standsCell, fromParents, newCell};
+ghost use Rattle.boards.specs.Cells.{cellWith, childCell, forceCell, standsCell, fromParents, rightParent, newCell};
+ghost use Rattle.record.specs.Record.{kindOf};
 
 // A cell with the last child of x, for a clause that is in force or not and stands or not.
 pub fn cell_like(x: u16, force: bool, stands: bool) -> u16
@@ -50,20 +51,26 @@ fn from_parents(x: u16, left: u16, right: u16) -> u16
     cell_like(x, force, stands)
 }
 
-// The cell of clause n, by its record: an input clause's is its own, a factor has one parent and a resolve two.
+// The right parent of a clause, by its record: a factor's is its left one.
+fn right_parent(part: &[u8], k: u8) -> u16
+    requires { ⌜ k ≡ kindOf (now part) ⌝ }
+    ensures { λ r. ⌜ r ≡ rightParent (now (part .entry)) ⌝ }
+{
+    let left = field(part, 0);
+    let right = field(part, 2);
+    if k == 6 { left } else { right }
+}
+
+// The cell of clause n, by its record: an input clause's is its own. Parents are looked at whatever the kind, so that a pass over clauses of many kinds goes
+// straight on.
 pub fn new_cell(file: &[u8], clauses: &[u16], board: &[u16], n: u16) -> u16
     ensures { λ r. ⌜ r ≡ newCell (now (file .entry)) (now (clauses .entry)) (now (board .entry)) n ⌝ }
 {
     let part = record_part(file, cell(clauses, 5 * (n as usize)) as usize);
     let own = cell(board, n as usize);
     let k = kind(part);
-    if k == 4 {
-        return own;
-    }
     let left = cell(board, field(part, 0) as usize);
-    if k == 6 {
-        return from_parents(own, left, left);
-    }
-    let right = cell(board, field(part, 2) as usize);
-    from_parents(own, left, right)
+    let right = cell(board, right_parent(part, k) as usize);
+    let new = from_parents(own, left, right);
+    if k == 4 { own } else { new }
 }

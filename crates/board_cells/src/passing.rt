@@ -5,17 +5,20 @@ use tables::cell;
 use tables::set_cell;
 ghost use mathlib.Core.Path.{_≡_};
 ghost use Prim.Native.Nat.{_-_, _≤_};
-ghost use Rattle.boards.specs.Cells.{lastAfter, passed};
+ghost use Rattle.boards.specs.Cells.{larger, lastAfter, passed};
+
+fn larger_of(a: u16, b: u16) -> u16
+    ensures { λ r. ⌜ r ≡ larger a b ⌝ }
+{
+    if a < b { b } else { a }
+}
 
 // The last child of the clauses that have changed, after one whose cell was `before` and now is `after`.
 fn last_after(last: u16, before: u16, after: u16) -> u16
     ensures { λ r. ⌜ r ≡ lastAfter last before after ⌝ }
 {
-    if before == after {
-        return last;
-    }
-    let child = child_cell(before);
-    if last < child { child } else { last }
+    let moved = larger_of(last, child_cell(before));
+    if before == after { last } else { moved }
 }
 
 // Each clause from `from` on gets its cell from those of its parents, up to the last child of those that have changed: `child` at first.

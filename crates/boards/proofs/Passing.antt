@@ -170,8 +170,8 @@ module _ (day : ℕ) (S : State) (board : List ℕ) (few : length (derivations S
     unfolding newCell
     right-cell P Q B m c q before own e = by c q (recorded m c q) (source-of (derivations S) (H .sourced) m c q) before
       where
-        kind-is : (n : ℕ) → kindOf (recordOfClause F C m) ≡ n → cellByKind (recordOfClause F C m) B m ≡ pick (eqb n 4) (getD B m 0) (pick (eqb n 6) (fromParents (getD B m 0) (getD B (fieldOf (recordOfClause F C m) 0) 0) (getD B (fieldOf (recordOfClause F C m) 0) 0)) (fromParents (getD B m 0) (getD B (fieldOf (recordOfClause F C m) 0) 0) (getD B (fieldOf (recordOfClause F C m) 2) 0)))
-        kind-is n k = ap (λ (x : ℕ). pick (eqb x 4) (getD B m 0) (pick (eqb x 6) (fromParents (getD B m 0) (getD B (fieldOf (recordOfClause F C m) 0) 0) (getD B (fieldOf (recordOfClause F C m) 0) 0)) (fromParents (getD B m 0) (getD B (fieldOf (recordOfClause F C m) 0) 0) (getD B (fieldOf (recordOfClause F C m) 2) 0)))) k
+        kind-is : (n : ℕ) → kindOf (recordOfClause F C m) ≡ n → cellByKind (recordOfClause F C m) B m ≡ pick (eqb n 4) (getD B m 0) (fromParents (getD B m 0) (getD B (fieldOf (recordOfClause F C m) 0) 0) (getD B (pick (eqb n 6) (fieldOf (recordOfClause F C m) 0) (fieldOf (recordOfClause F C m) 2)) 0))
+        kind-is n k = ap (λ (x : ℕ). pick (eqb x 4) (getD B m 0) (fromParents (getD B m 0) (getD B (fieldOf (recordOfClause F C m) 0) 0) (getD B (pick (eqb x 6) (fieldOf (recordOfClause F C m) 0) (fieldOf (recordOfClause F C m) 2)) 0))) k
 
         own-child : (d : Derivation) → clauseOf S m ≡ some d → childCell (getD B m 0) ≡ lastChild (derivations S) (clauseNumber d)
         own-child d p = ap childCell (own ∙ board-cell P m d p) ∙ child-of (lastChild (derivations S) (clauseNumber d)) (usesInForce S day d) (standsWith P d)

@@ -58,15 +58,15 @@ boardOf day S P board = clauseCells day S P ++ (replicate (4096 - length (deriva
 abbrev pub recordOfClause : List ℕ → List ℕ → ℕ → List ℕ
 recordOfClause F C n = recordPart F (getD C (5 * n) 0)
 
--- The cell of a clause from its own, x, and those of its parents: a factor's, both of a resolve; an input clause's is its own.
+-- The cell of a clause from its own, x, and those of its parents; an input clause's is its own. A factor's one parent is its left and its right.
 abbrev pub fromParents : ℕ → ℕ → ℕ → ℕ
 fromParents x left right = cellWith (childCell x) (forceCell left && forceCell right) (standsCell left && standsCell right)
 
+abbrev pub rightParent : List ℕ → ℕ
+rightParent part = pick (eqb (kindOf part) 6) (fieldOf part 0) (fieldOf part 2)
+
 abbrev pub cellByKind : List ℕ → List ℕ → ℕ → ℕ
-cellByKind part B n =
-    pick (eqb (kindOf part) 4) (getD B n 0)
-    (pick (eqb (kindOf part) 6) (fromParents (getD B n 0) (getD B (fieldOf part 0) 0) (getD B (fieldOf part 0) 0))
-    (fromParents (getD B n 0) (getD B (fieldOf part 0) 0) (getD B (fieldOf part 2) 0)))
+cellByKind part B n = pick (eqb (kindOf part) 4) (getD B n 0) (fromParents (getD B n 0) (getD B (fieldOf part 0) 0) (getD B (rightParent part) 0))
 
 unfoldable pub newCell : List ℕ → List ℕ → List ℕ → ℕ → ℕ
 newCell F C B n = cellByKind (recordOfClause F C n) B n
