@@ -5,11 +5,11 @@ use Prim.Native.Nat.{ℕ, _+_, _-_, _*_, _≤_, _<_}
 use native.Mathlib.Omega.{arith}
 use lib.ListN.{length, drop}
 use Rattle.unification.specs.Repeated.{equalLists}
 use Rattle.distinct.specs.Rows.{nodeAt}
 use Rattle.distinct.proofs.Cells.{numbersFrom, code-differs, code-same, number-differs, number-same, numbers-end}
 use borrow.Author.Needs.{needs}
-use Rattle.distinct.proofs.same_cells.Statement.{statement}
-use Rattle.distinct.proofs.same_cells.Tie as tie
+use Rattle.row_scan.proofs.same_cells.Statement.{statement}
+use Rattle.row_scan.proofs.same_cells.Tie as tie
 
 -- The row's eight cells are inside.
 room : (N : List ℕ) (r : ℕ) → length N ≡ 32768 → r < 4096 → 8 * r + 8 ≤ length N

@@ -4,14 +4,14 @@ use mathlib.Core.Option.{none}
 use mathlib.Core.List.{_∷_}
 use Prim.Native.Nat.{_-_, _≤_}
 use native.Mathlib.Omega.{arith}
 use Rattle.distinct.specs.Rows.{rowWithCells, foundRow}
 use Rattle.distinct.proofs.Lowest.{none-has, none-yet, first-has, none-at-all}
 use borrow.Author.Needs.{needs}
-use Rattle.distinct.proofs.scan_rows.Statement.{statement}
-use Rattle.distinct.proofs.scan_rows.Tie as tie
-use Rattle.distinct.proofs.scan_rows.Reads as reads
-use Rattle.distinct.proofs.scan_rows.Lts as lts
-use Rattle.distinct.proofs.same_cells.Reads as same-cells-reads
+use Rattle.row_scan.proofs.scan_rows.Statement.{statement}
+use Rattle.row_scan.proofs.scan_rows.Tie as tie
+use Rattle.row_scan.proofs.scan_rows.Reads as reads
+use Rattle.row_scan.proofs.scan_rows.Lts as lts
+use Rattle.row_scan.proofs.same_cells.Reads as same-cells-reads
 
 abbrev Inv-loop : tie.InvT-loop
 Inv-loop nodes n code numbers row₀ row =

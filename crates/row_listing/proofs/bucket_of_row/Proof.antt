@@ -1,7 +1,7 @@
 use Rattle.distinct.proofs.Cells.{row-bucket}
 use borrow.Author.Needs.{needs}
-use Rattle.distinct.proofs.bucket_of_row.Statement.{statement}
-use Rattle.distinct.proofs.bucket_of_row.Tie as tie
+use Rattle.row_listing.proofs.bucket_of_row.Statement.{statement}
+use Rattle.row_listing.proofs.bucket_of_row.Tie as tie
 
 mul-at : tie.Need-mul-at
 mul-at c = search needs

@@ -1,7 +1,7 @@
 use Rattle.distinct.proofs.Listing.{index-more}
 use borrow.Author.Needs.{needs}
-use Rattle.distinct.proofs.list_row.Statement.{statement}
-use Rattle.distinct.proofs.list_row.Tie as tie
+use Rattle.row_listing.proofs.list_row.Statement.{statement}
+use Rattle.row_listing.proofs.list_row.Tie as tie
 
 bucket-of-row-requires : tie.Need-bucket-of-row-requires
 bucket-of-row-requires c κs =
