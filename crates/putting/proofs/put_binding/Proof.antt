@@ -1,9 +1,9 @@
 -- Each cell is inside its table, and no sum wraps: the binding is in range.
 use native.Mathlib.Omega.{arith}
-use Rattle.loading.proofs.Putting.{number-small, cells-put}
+use Rattle.putting.proofs.Bindings.{number-small, cells-put}
 use borrow.Author.Needs.{needs}
-use Rattle.loading.proofs.put_binding.Statement.{statement}
-use Rattle.loading.proofs.put_binding.Tie as tie
+use Rattle.putting.proofs.put_binding.Statement.{statement}
+use Rattle.putting.proofs.put_binding.Tie as tie
 
 mul-variable : tie.Need-mul-variable
 mul-variable c = search needs

@@ -4,11 +4,11 @@ use Prim.Native.Nat.{_-_, _≤_}
 use native.Mathlib.Omega.{arith}
 use lib.ListN.{length}
 use Rattle.unification.specs.Bindings.{bindingsFrom}
-use Rattle.loading.specs.Loaded.{putBindings}
-use Rattle.loading.proofs.Putting.{put-one, cells-room, binding-there}
+use Rattle.putting.specs.Putting.{putBindings}
+use Rattle.putting.proofs.Bindings.{put-one, cells-room, binding-there}
 use borrow.Author.Needs.{needs}
-use Rattle.loading.proofs.put_bindings.Statement.{statement}
-use Rattle.loading.proofs.put_bindings.Tie as tie
+use Rattle.putting.proofs.put_bindings.Statement.{statement}
+use Rattle.putting.proofs.put_bindings.Tie as tie
 
 abbrev Inv-loop : tie.InvT-loop
 Inv-loop bindings nodes values₀ first n offset k₀ values k =
