@@ -1,10 +1,10 @@
 -- Each case is one of the definition.
 use mathlib.Core.Path.{sym, _∙_}
 use Rattle.unify.specs.Pairs.{sameVariable, leftToVariable, leftToApplication, rightVariable}
 use Rattle.unify.proofs.PairWalk.{meets-as}
 use borrow.Author.Needs.{needs}
-use Rattle.unify.proofs.pairs.meet.Statement.{statement}
-use Rattle.unify.proofs.pairs.meet.Tie as tie
+use Rattle.unify_meet.proofs.meet.Statement.{statement}
+use Rattle.unify_meet.proofs.meet.Tie as tie
 
 enum-known-x : tie.Need-enum-known-x
 enum-known-x c = search needs

@@ -1,12 +1,12 @@
 use mathlib.Core.Path.{refl}
 use native.Mathlib.Omega.{arith}
 use Rattle.following.specs.Walks.{TestLeavesLess}
 use Rattle.unify.proofs.BindingsAdded.{added-none, added-as-below, added-by}
 use Rattle.unify.proofs.PairWalk.{bound-yes, bound-spent, bound-full, bound-done, target-followable}
 use Rattle.following.specs.declared.occurs.Occurs.the-variants.{No}
 use borrow.Author.Needs.{needs}
-use Rattle.unify.proofs.pairs.bind.Statement.{statement}
-use Rattle.unify.proofs.pairs.bind.Tie as tie
+use Rattle.unify_bind.proofs.bind.Statement.{statement}
+use Rattle.unify_bind.proofs.bind.Tie as tie
 
 occurs-in-requires : tie.Need-occurs-in-requires
 occurs-in-requires c κs = target-followable (c .before .before .pre)

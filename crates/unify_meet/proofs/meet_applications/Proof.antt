@@ -1,10 +1,10 @@
 -- Each way out is one case of the definition.
 use mathlib.Core.Path.{sym, _∙_}
 use native.Mathlib.Omega.{arith}
 use Rattle.unify.specs.Pairs.{sameApplication, otherSymbol, noArguments, someArguments}
 use borrow.Author.Needs.{needs}
-use Rattle.unify.proofs.pairs.meet_applications.Statement.{statement}
-use Rattle.unify.proofs.pairs.meet_applications.Tie as tie
+use Rattle.unify_meet.proofs.meet_applications.Statement.{statement}
+use Rattle.unify_meet.proofs.meet_applications.Tie as tie
 
 is-same-requires : tie.Need-is-same-requires
 is-same-requires c κs = search needs
