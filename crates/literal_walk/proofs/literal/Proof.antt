@@ -3,15 +3,15 @@ use mathlib.Core.Path.{sym, ap, _∙_}
 use Prim.Native.Nat.{_-_}
 use native.Mathlib.Omega.{arith}
 use Rattle.derivation.specs.Derivation.{literals, numbered}
 use Rattle.named_literals.specs.Named.{namedLiteral}
 use Rattle.named_literals.proofs.Numbers.{numbered-zero, numbered-past}
 use Rattle.named_literals.proofs.Origins.{stored-cells, input-found, input-small}
 use borrow.Author.Needs.{needs}
-use Rattle.named_literals.proofs.literal.Statement.{statement}
-use Rattle.named_literals.proofs.literal.Tie as tie
-use Rattle.named_literals.proofs.literal.Reads as reads
-use Rattle.named_literals.proofs.literal.Lts as lts
-use Rattle.named_literals.proofs.input_place.Reads as input-place-reads
+use Rattle.literal_walk.proofs.literal.Statement.{statement}
+use Rattle.literal_walk.proofs.literal.Tie as tie
+use Rattle.literal_walk.proofs.literal.Reads as reads
+use Rattle.literal_walk.proofs.literal.Lts as lts
+use Rattle.literal_walk.proofs.input_place.Reads as input-place-reads
 use Rattle.clauses.proofs.literals_cell.Reads as literals-cell-reads
 use Rattle.following.proofs.nodes.part_of.Reads as part-of-reads
 

@@ -2,16 +2,16 @@
 use mathlib.Core.Path.{refl}
 use Prim.Native.Nat.{_+_, _*_}
 use native.Mathlib.Omega.{arith}
 use Rattle.named_literals.proofs.Origins.{comes-up, comes-high, factor-up, left-up, right-up, right-passes}
 use borrow.Author.Needs.{needs}
-use Rattle.named_literals.proofs.parent_place.Statement.{statement}
-use Rattle.named_literals.proofs.parent_place.Tie as tie
-use Rattle.named_literals.proofs.parent_place.Reads as reads
-use Rattle.named_literals.proofs.parent_place.Lts as lts
+use Rattle.literal_walk.proofs.parent_place.Statement.{statement}
+use Rattle.literal_walk.proofs.parent_place.Tie as tie
+use Rattle.literal_walk.proofs.parent_place.Reads as reads
+use Rattle.literal_walk.proofs.parent_place.Lts as lts
 use Rattle.clauses.proofs.index_cell.Reads as index-cell-reads
 use Rattle.named_literals.proofs.left_over.Reads as left-over-reads
 use Rattle.named_literals.proofs.passed_over.Reads as passed-over-reads
 use Rattle.named_literals.proofs.passed_rights.Reads as passed-rights-reads
 use Rattle.clauses.proofs.literals_cell.Reads as literals-cell-reads
 use Rattle.clauses.proofs.origin_code.Reads as origin-code-reads
 use Rattle.following.proofs.nodes.part_of.Reads as part-of-reads

@@ -5,13 +5,13 @@ use Prim.Native.Nat.{ℕ}
 use native.Mathlib.Omega.{arith}
 use Rattle.derivation.specs.Derivation.{Derivation}
 use Rattle.derivation.specs.Stored.{Stored}
 use Rattle.named_literals.specs.Named.{ComesFrom}
 use Rattle.named_literals.proofs.Origins.{from-itself, walked, walk-there, walk-small}
-use Rattle.named_literals.proofs.input_place.Statement.{statement}
-use Rattle.named_literals.proofs.input_place.Tie as tie
-use Rattle.named_literals.proofs.input_place.Reads as reads
-use Rattle.named_literals.proofs.input_place.Lts as lts
-use Rattle.named_literals.proofs.parent_place.Reads as parent-place-reads
+use Rattle.literal_walk.proofs.input_place.Statement.{statement}
+use Rattle.literal_walk.proofs.input_place.Tie as tie
+use Rattle.literal_walk.proofs.input_place.Reads as reads
+use Rattle.literal_walk.proofs.input_place.Lts as lts
+use Rattle.literal_walk.proofs.parent_place.Reads as parent-place-reads
 use Rattle.clauses.proofs.origin_code.Reads as origin-code-reads
 
 abbrev Inv-loop : tie.InvT-loop
