@@ -2,14 +2,14 @@ use mathlib.Core.Path.{_≡_, refl}
 use mathlib.Core.Option.{none}
 use Prim.Native.Nat.{_-_, _≤_}
 use native.Mathlib.Omega.{arith}
 use Rattle.answer.specs.Given.{firstAccepted}
 use Rattle.answer.proofs.AnswerLaws.{first-found, none-yet, none-found}
 use borrow.Author.Needs.{needs}
-use Rattle.answer.proofs.first_accepted.Statement.{statement}
-use Rattle.answer.proofs.first_accepted.Tie as tie
-use Rattle.answer.proofs.first_accepted.Reads as reads
-use Rattle.answer.proofs.first_accepted.Lts as lts
-use Rattle.answer.proofs.is_accepted.Reads as is-accepted-reads
+use Rattle.standing.proofs.first_accepted.Statement.{statement}
+use Rattle.standing.proofs.first_accepted.Tie as tie
+use Rattle.standing.proofs.first_accepted.Reads as reads
+use Rattle.standing.proofs.first_accepted.Lts as lts
+use Rattle.standing.proofs.is_accepted.Reads as is-accepted-reads
 
 abbrev Inv-loop : tie.InvT-loop
 Inv-loop clauses flags count c₀ c =

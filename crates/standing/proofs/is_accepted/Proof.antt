@@ -1,9 +1,9 @@
 use Rattle.answer.proofs.AnswerLaws.{flag-decides, not-empty}
 use borrow.Author.Needs.{needs}
-use Rattle.answer.proofs.is_accepted.Statement.{statement}
-use Rattle.answer.proofs.is_accepted.Tie as tie
-use Rattle.answer.proofs.is_accepted.Reads as reads
-use Rattle.answer.proofs.is_accepted.Lts as lts
+use Rattle.standing.proofs.is_accepted.Statement.{statement}
+use Rattle.standing.proofs.is_accepted.Tie as tie
+use Rattle.standing.proofs.is_accepted.Reads as reads
+use Rattle.standing.proofs.is_accepted.Lts as lts
 use Rattle.clauses.proofs.literals_cell.Reads as literals-cell-reads
 use Rattle.tables.proofs.cell.Reads as cell-reads
 

@@ -1,13 +1,13 @@
 use mathlib.Core.Path.{_≡_, ap, _∙_}
 use mathlib.Core.List.{List}
 use Prim.Native.Nat.{ℕ}
 use Rattle.answer.specs.Given.{standingNumbers, allSet}
 use borrow.Author.Needs.{needs}
-use Rattle.answer.proofs.standing.Statement.{statement}
-use Rattle.answer.proofs.standing.Tie as tie
-use Rattle.answer.proofs.standing.Reads as reads
-use Rattle.answer.proofs.standing.Lts as lts
-use Rattle.answer.proofs.first_accepted.Reads as first-accepted-reads
+use Rattle.standing.proofs.standing.Statement.{statement}
+use Rattle.standing.proofs.standing.Tie as tie
+use Rattle.standing.proofs.standing.Reads as reads
+use Rattle.standing.proofs.standing.Lts as lts
+use Rattle.standing.proofs.first_accepted.Reads as first-accepted-reads
 use Rattle.flagging.proofs.in_force.Reads as in-force-reads
 
 slice-aggregate-in-force : tie.Need-slice-aggregate-in-force
