@@ -4,10 +4,10 @@ use Prim.Native.Nat.{_-_, _≤_}
 use native.Mathlib.Omega.{arith}
 use borrow.Author.Needs.{needs}
 use borrow.Author.Tests.{not-true, not-false}
 use Rattle.matching.specs.Pairs.{agreeFrom}
 use Rattle.matching.proofs.PairSteps.{agree-whole, disagree-here, agree-on, agree-all}
-use Rattle.matching.proofs.pairs.agree.Statement.{statement}
-use Rattle.matching.proofs.pairs.agree.Tie as tie
+use Rattle.agreeing.proofs.agree.Statement.{statement}
+use Rattle.agreeing.proofs.agree.Tie as tie
 
 abbrev Inv-loop : tie.InvT-loop
 Inv-loop notes p q v₀ v =

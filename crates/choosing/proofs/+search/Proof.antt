@@ -4,18 +4,18 @@ use mathlib.Core.Logic.{⊎-elim}
 use Prim.Native.Nat.{ℕ, suc, _-_, _≤_, _<_}
 use native.Mathlib.Omega.{arith}
 use lib.ListN.{length, length-set}
 use Rattle.matching.specs.Searching.{searched}
 use Rattle.matching.proofs.SearchSteps.{leftToTry, search-none, search-begins, number-unfit, number-found, number-passed, numbers-spent}
 use borrow.Author.Needs.{needs}
 use Prim.Native.Nat.{ℕ, _<_}
 use borrow.Fn.Kinds.{In}
 use borrow.Fn.PlainCycle.{Measures, is, falls, and}
-use Rattle.matching.proofs.search.search.Reads as search′
-use Rattle.matching.proofs.search.search.Kinds as search-kinds
-use Rattle.matching.proofs.search.+search.Lts-search as search-lts
-use Rattle.matching.proofs.search.fits_before.Reads as fits-before-reads
-use Rattle.matching.proofs.search.+search.{statement}
-use Rattle.matching.proofs.search.+search.Tie.{close}
+use Rattle.choosing.proofs.search.Reads as search′
+use Rattle.choosing.proofs.search.Kinds as search-kinds
+use Rattle.choosing.proofs.+search.Lts-search as search-lts
+use Rattle.choosing.proofs.fits_before.Reads as fits-before-reads
+use Rattle.choosing.proofs.+search.{statement}
+use Rattle.choosing.proofs.+search.Tie.{close}
 
 abbrev μ-search : Measures 2 search-kinds.ps ℕ
 μ-search κs a =

@@ -1,7 +1,7 @@
 use Rattle.matching.proofs.PairSteps.{first-unmatched, second-unmatched, both-matched}
 use borrow.Author.Needs.{needs}
-use Rattle.matching.proofs.pairs.go_together.Statement.{statement}
-use Rattle.matching.proofs.pairs.go_together.Tie as tie
+use Rattle.agreeing.proofs.go_together.Statement.{statement}
+use Rattle.agreeing.proofs.go_together.Tie as tie
 
 mul-if1 : tie.Need-mul-if1
 mul-if1 c = search needs

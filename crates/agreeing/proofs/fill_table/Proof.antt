@@ -4,10 +4,10 @@ use Prim.Native.Nat.{_-_, _≤_}
 use native.Mathlib.Omega.{arith}
 use borrow.Author.Needs.{needs}
 use lib.ListN.{length, length-set}
 use Rattle.matching.specs.Pairs.{tableFilled}
 use Rattle.matching.proofs.PairSteps.{filled-none, filled-more, filled-all, pair-below, below-64}
-use Rattle.matching.proofs.pairs.fill_table.Statement.{statement}
-use Rattle.matching.proofs.pairs.fill_table.Tie as tie
+use Rattle.agreeing.proofs.fill_table.Statement.{statement}
+use Rattle.agreeing.proofs.fill_table.Tie as tie
 
 abbrev Inv-loop : tie.InvT-loop
 Inv-loop found notes table₀ x₀ table x =

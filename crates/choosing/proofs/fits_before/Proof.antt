@@ -3,10 +3,10 @@ use mathlib.Core.Path.{_≡_}
 use Prim.Native.Nat.{suc, _-_, _≤_}
 use native.Mathlib.Omega.{arith}
 use borrow.Author.Needs.{needs}
 use Rattle.matching.specs.Searching.{fits, fitsFrom}
 use Rattle.matching.proofs.SearchSteps.{fits-not, fits-on, fits-done, fits-whole}
-use Rattle.matching.proofs.search.fits_before.Statement.{statement}
-use Rattle.matching.proofs.search.fits_before.Tie as tie
+use Rattle.choosing.proofs.fits_before.Statement.{statement}
+use Rattle.choosing.proofs.fits_before.Tie as tie
 
 abbrev Inv-loop : tie.InvT-loop
 Inv-loop table choice i here j₀ j =

@@ -1,6 +1,6 @@
 use Rattle.matching.proofs.PairSteps.{no-first-image, no-second-image, both-images}
-use Rattle.matching.proofs.pairs.agree_at.Statement.{statement}
-use Rattle.matching.proofs.pairs.agree_at.Tie as tie
+use Rattle.agreeing.proofs.agree_at.Statement.{statement}
+use Rattle.agreeing.proofs.agree_at.Tie as tie
 
 returns : tie.Need-returns
 returns c =

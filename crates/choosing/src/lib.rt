@@ -1,9 +1,9 @@
-// The search for the earliest choice: it only reads the table of pairs that go together.
-use super::pairs::Together;
+// The search for the earliest choice: it only reads the table of pairs that go together. `Searching` in specs/ of the crate matching has the contracts.
+use matching::pairs::Together;
 ghost use mathlib.Core.Path.{_≡_};
 ghost use Prim.Native.Nat.{_+_, _<_};
 ghost use lib.ListN.{length, getD, set};
 ghost use Rattle.matching.specs.Searching.{pairChosen, fits, searched, Searchable};
 
 // A choice: in cell i the number that literal i of C, from 0, goes to.
 pub type Choice = [u16; 8];
