@@ -1,11 +1,11 @@
 use mathlib.Core.Path.{refl}
 use mathlib.Core.Logic.{inl, inr}
-use Rattle.reading.proofs.RecordLaws.{symbols-few, rows-few, clauses-few, input-asked, step-asked, resolve-asked, symbol-done, variable-done, application-done, input-done, window-done, step-done, other-done, with-index}
+use Rattle.record_reading.proofs.RecordLaws.{symbols-few, rows-few, clauses-few, input-asked, step-asked, resolve-asked, symbol-done, variable-done, application-done, input-done, window-done, step-done, other-done, with-index}
 use borrow.Author.Needs.{needs}
-use Rattle.reading.proofs.reader.read_record.Statement.{statement}
-use Rattle.reading.proofs.reader.read_record.Tie as tie
-use Rattle.reading.proofs.reader.read_record.Reads as reads
-use Rattle.reading.proofs.reader.read_record.Lts as lts
+use Rattle.record_reading.proofs.read_record.Statement.{statement}
+use Rattle.record_reading.proofs.read_record.Tie as tie
+use Rattle.record_reading.proofs.read_record.Reads as reads
+use Rattle.record_reading.proofs.read_record.Lts as lts
 use Rattle.record_entry.proofs.application_record.Reads as application-record-reads
 use Rattle.clause_entry.proofs.input_record.Reads as input-record-reads
 use Rattle.record_entry.proofs.symbol_record.Reads as symbol-record-reads
