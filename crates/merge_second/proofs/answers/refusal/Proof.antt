@@ -1,11 +1,11 @@
 -- The four numbers of each case.
 use mathlib.Core.Path.{sym, ap}
-use Rattle.merge.specs.Going.{refusalGiven}
+use Rattle.merge_second.specs.Going.{refusalGiven}
 use borrow.Author.Needs.{needs}
-use Rattle.merge.proofs.answers.refusal.Statement.{statement}
-use Rattle.merge.proofs.answers.refusal.Tie as tie
-use Rattle.merge.proofs.answers.refusal.Reads as reads
-use Rattle.merge.proofs.answers.refusal.Lts as lts
+use Rattle.merge_second.proofs.answers.refusal.Statement.{statement}
+use Rattle.merge_second.proofs.answers.refusal.Tie as tie
+use Rattle.merge_second.proofs.answers.refusal.Reads as reads
+use Rattle.merge_second.proofs.answers.refusal.Lts as lts
 
 enum-told : tie.Need-enum-told
 enum-told c = search needs

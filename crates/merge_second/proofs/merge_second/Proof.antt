@@ -1,15 +1,15 @@
 -- The second file is refused, or both stand.
 use mathlib.Core.Path.{sym}
 use borrow.Author.Tests.{not-true, not-false}
-use Rattle.merge.proofs.Answered.{second-refused, both-stand, both-joined}
+use Rattle.merge_second.proofs.SecondAnswered.{second-refused, both-stand, both-joined}
 use borrow.Author.Needs.{needs}
-use Rattle.merge.proofs.merge_second.Statement.{statement}
-use Rattle.merge.proofs.merge_second.Tie as tie
-use Rattle.merge.proofs.merge_second.Reads as reads
-use Rattle.merge.proofs.merge_second.Lts as lts
+use Rattle.merge_second.proofs.merge_second.Statement.{statement}
+use Rattle.merge_second.proofs.merge_second.Tie as tie
+use Rattle.merge_second.proofs.merge_second.Reads as reads
+use Rattle.merge_second.proofs.merge_second.Lts as lts
 use Rattle.answer.proofs.stands.Reads as stands-reads
 use Rattle.checker.proofs.check_with.Reads as check-with-reads
-use Rattle.merge.proofs.answers.refusal.Reads as refusal-reads
+use Rattle.merge_second.proofs.answers.refusal.Reads as refusal-reads
 use Rattle.joining.proofs.join.Reads as join-reads
 
 check-with-requires : tie.Need-check-with-requires

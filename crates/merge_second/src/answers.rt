@@ -3,7 +3,7 @@ use answer::Verdict;
 use joining::MergeOutcome;
 ghost use mathlib.Core.Path.{_≡_};
 ghost use Rattle.joining.specs.Given.{mergeGiven};
-ghost use Rattle.merge.specs.Going.{refusalGiven};
+ghost use Rattle.merge_second.specs.Going.{refusalGiven};
 
 // A verdict's refusal and the file's number. A verdict that is no refusal has the number 0, which nobody asks for.
 pub fn refusal(verdict: Verdict, file: u8) -> MergeOutcome
