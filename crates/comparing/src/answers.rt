@@ -1,8 +1,8 @@
 // An answer, made of an outcome or of a choice.
 use super::covering::Covering;
 use super::covering::Outcome;
-use matching::search::Choice;
-use matching::search::chosen;
+use choosing::Choice;
+use choosing::chosen;
 ghost use mathlib.Core.Path.{_≡_};
 ghost use mathlib.Core.List.{_∷_, _++_};
 ghost use lib.ListN.{length, replicate};

@@ -1,11 +1,11 @@
 // A file's records read into tables that are cleared first, and the answer; with a workspace that is lent, and with one of its own. `Reader` in specs/ of the
 // crate reading has the contracts.
 use answer::Answer;
-use answer::ended_answer;
 use following::nodes::Nodes;
 use following::nodes::Origins;
 use following::values::ValueCells;
 use reading::reader::read_records;
+use standing::ended_answer;
 use tables::clear;
 ghost use Rattle.entry.specs.Progress.{tablesWith};
 ghost use Rattle.reading.specs.Reader.{Readable, FileRead, ReadableWith, FileReadWith};

@@ -19,7 +19,8 @@ use Rattle.unification.proofs.Chains.{short-le}
 use Rattle.unification.proofs.Lists.{Each}
 use Rattle.unification.proofs.Stability.{follow-agree}
 use Rattle.derivation.specs.Derivation.{literals, input, Literal, Derivation, resolve, factor, numbered, maximumIndex, joined, lookup, clauseNumber}
-use Rattle.loading.specs.Loaded.{BindingIn, AllIn, AllFree, BindingsIn, Loadable, Loaded}
+use Rattle.loading.specs.Loaded.{AllFree, BindingsIn, Loadable, Loaded}
+use Rattle.putting.specs.Putting.{BindingIn, AllIn}
 use Rattle.derivation.specs.Stored.{originTableOf, literalsCell, indexCell, Stored}
 use Rattle.derivation.proofs.Known.{Known, KnownRows, KnownEnvironment, known-numbered, known-lookup}
 use Rattle.derivation.proofs.Literals.{each-numbered, LiteralIn, literals-in}

@@ -1,8 +1,8 @@
 // What resolve and factor have in common: the atoms that a step names, and in specs/ what its parts promise. The end of a step is in the crate
 // step_end, the right literals of a resolve in rights; the steps themselves are in the crates resolution and factoring.
 use following::nodes::Origins;
+use literal_walk::literal;
 use named_literals::NamedLiteral;
-use named_literals::literal;
 ghost use mathlib.Core.Path.{_≡_};
 ghost use Rattle.verdict.specs.Refusal.{literalNamed, equalSigns};
 ghost use Rattle.inference.specs.Stepping.{ClausesStored, namedAnswer, pairAnswer};

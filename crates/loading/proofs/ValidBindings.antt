@@ -14,7 +14,8 @@ use Rattle.unification.specs.ValueArray.{InStep}
 use Rattle.unification.proofs.Ranges.{Kept}
 use Rattle.unification.proofs.Tests.{same-eq, some-not-none, some-injective}
 use Rattle.derivation.specs.Derivation.{input, Derivation, resolve, factor, raise, maximumIndex, raiseAnswer, joined, lookup}
-use Rattle.loading.specs.Loaded.{AllIn, BindingsIn}
+use Rattle.loading.specs.Loaded.{BindingsIn}
+use Rattle.putting.specs.Putting.{AllIn}
 use borrow.Author.Tests.{leb-false}
 
 -- A variable of the table at an index from 1 to m; and an environment between such variables and expressions of the table.

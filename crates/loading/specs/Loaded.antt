@@ -4,18 +4,18 @@ use mathlib.Core.Path.{_≡_}
 use mathlib.Core.Bool.{true}
 use mathlib.Core.Option.{Option, none, some}
 use mathlib.Core.List.{List, [], _∷_}
-use Prim.Native.Nat.{ℕ, zero, suc, _+_, _-_, _≤_, _<_}
+use Prim.Native.Nat.{ℕ, zero, suc, _+_, _-_, _≤_}
 use lib.Dec.{leb}
-use lib.ListN.{length, getD}
+use lib.ListN.{length}
 use Rattle.record.specs.Record.{pick}
-use Rattle.unification.specs.Bindings.{bindingsFrom}
 use Rattle.unification.specs.Environment.{Binding, Environment}
-use Rattle.unification.specs.Nodes.{isVariable, part, NodesOk}
+use Rattle.unification.specs.Nodes.{isVariable, NodesOk}
 use Rattle.unification.specs.Repeated.{orElse}
 use Rattle.unification.specs.Row.{Expression, Variable}
-use Rattle.unification.specs.ValueArray.{slot, put, cellOf, indexOf, InStep}
+use Rattle.unification.specs.ValueArray.{cellOf, indexOf, InStep}
 use Rattle.derivation.specs.Derivation.{input, Derivation, resolve, factor, maximumIndex, raiseAnswer, joined, lookup}
 use Rattle.derivation.specs.Stored.{Stored}
+use Rattle.putting.specs.Putting.{putBindings, AllIn}
 
 -- What the array holds for a variable at an index: nothing where the cell is free.
 abbrev pub heldValue : ℕ → ℕ → Option Expression
@@ -33,36 +33,18 @@ above o ρ x = pick (leb (x .1) o) none (raiseAnswer o (ρ (x .0, x .1 - o)))
 abbrev pub within : ℕ → ℕ → Environment → Environment
 within o m ρ x = pick (leb (x .1) (o + m)) (above o ρ x) none
 
--- A binding put into the array, its indices raised by o; and several, the oldest first.
-abbrev pub putBinding : List ℕ → ℕ → Binding → List ℕ → List ℕ
-putBinding N o b A = put A (slot N (b .0 .0) (o + b .0 .1)) (b .1 .0 + 1) (o + b .1 .1)
-
-abbrev pub putBindings : List ℕ → ℕ → List Binding → List ℕ → List ℕ
-putBindings N o [] A = A
-putBindings N o (b ∷ bs) A = putBinding N o b (putBindings N o bs A)
-
 -- All bindings of a derivation put into the array: its own, then those of its parents, the right one's raised by the left maximum index.
 abbrev pub putClause : List ℕ → ℕ → Derivation → List ℕ → List ℕ
 putClause N o (input number ls) A = A
 putClause N o (resolve number l a r ns bs) A = putClause N (o + maximumIndex l) r (putClause N o l (putBindings N o bs A))
 putClause N o (factor number d a b bs) A = putClause N o d (putBindings N o bs A)
 
--- A binding of a clause whose maximum index is m: of a variable of the table, to an expression of the table, at indices from 1 to m.
-pub record BindingIn (N : List ℕ) (m : ℕ) (b : Binding) : Type 0 where
-  pub bound : InStep N m (b .0)
-  pub ofVariable : isVariable N (b .0 .0) ≡ true
-  pub value : InStep N m (b .1)
-
-abbrev pub AllIn : List ℕ → ℕ → List Binding → Type 0
-AllIn N m [] = Unit {0}
-AllIn N m (b ∷ bs) = BindingIn N m b × AllIn N m bs
-
 -- The variables bound are free in ρ.
 abbrev pub AllFree : Environment → List Binding → Type 0
 AllFree ρ [] = Unit {0}
 AllFree ρ (b ∷ bs) = (ρ (b .0) ≡ none) × AllFree ρ bs
 
--- So are all bindings of a derivation, each in the clause that owns it, and of a variable that its parents do not bind.
+-- All bindings of a derivation are in range, each in the clause that owns it, and of a variable that its parents do not bind.
 abbrev pub BindingsIn : List ℕ → Derivation → Type 0
 BindingsIn N (input number ls) = Unit {0}
 BindingsIn N (resolve number l a r ns bs) =
@@ -88,30 +70,3 @@ pub record Loaded (O C B N A A′ : List ℕ) (c o : ℕ) : Type 0 where
   pub cells : (d : Derivation) → Stored O C B c d → A′ ≡ putClause N o d A
   pub reads : (d : Derivation) → Stored O C B c d → (x : Variable) → InStep N 4096 x → isVariable N (x .0) ≡ true
       → readCell N A′ x ≡ orElse (within o (maximumIndex d) (lookup d) x) (readCell N A x)
-
--- What putting n bindings of the table into the array asks, from the first on at offset o: they are in range; and what it says.
-pub record Puttable (B N A : List ℕ) (first n o : ℕ) : Type 0 where
-  pub nodes : NodesOk N
-  pub nodeRoom : length N ≡ 32768
-  pub room : length A ≡ 524416
-  pub top : ℕ
-  pub all : AllIn N top (bindingsFrom B first n)
-  pub fits : o + top ≤ 4096
-
-pub record BindingsPut (B N A A′ : List ℕ) (first n o : ℕ) : Type 0 where
-  pub room : length A′ ≡ 524416
-  pub cells : A′ ≡ putBindings N o (bindingsFrom B first n) A
-
--- What putting the binding at cell `at` asks: its four cells are inside the table, and it is in range at offset o; and the array that it leaves.
-pub record BindingThere (B N A : List ℕ) (at o : ℕ) : Type 0 where
-  pub nodeRoom : length N ≡ 32768
-  pub room : length A ≡ 524416
-  pub inside : at + 3 < length B
-  pub variable : getD B at 0 < 4096
-  pub number : part N (getD B at 0) 0 < 64
-  pub index : o + getD B (at + 1) 0 ≤ 4096
-  pub row : getD B (at + 2) 0 < 4096
-  pub value : o + getD B (at + 3) 0 ≤ 4096
-
-unfoldable pub putCells : List ℕ → List ℕ → List ℕ → ℕ → ℕ → List ℕ
-putCells B N A at o = put A (slot N (getD B at 0) (o + getD B (at + 1) 0)) (getD B (at + 2) 0 + 1) (o + getD B (at + 3) 0)

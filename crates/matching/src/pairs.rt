@@ -1,14 +1,13 @@
-// All pairs of a literal of C and one of D: which match, what is noted of their variables, and which two go together.
+// All pairs of a literal of C and one of D: which match, and what is noted of their variables.
 use following::nodes::Nodes;
 use following::nodes::Origins;
 use following::nodes::part_of;
 use images::images::Notes;
-use images::images::image;
 use images::images::match_atoms;
 ghost use mathlib.Core.Path.{_≡_};
 ghost use Prim.Native.Nat.{_<_};
 ghost use lib.ListN.{length, getD};
-ghost use Rattle.matching.specs.Pairs.{bit, numbersMatched, pairMatched, pairsMatched, agreeAt, agreeFrom, goTogether, tableFilled, PairTables, TogetherTables};
+ghost use Rattle.matching.specs.Pairs.{bit, numbersMatched, pairMatched, pairsMatched, PairTables};
 
 // For each pair 1 if its literals match, else 0.
 pub type Found = [u16; 64];
@@ -17,7 +16,7 @@ pub type Found = [u16; 64];
 pub type Together = [u16; 4096];
 
 // 1 for true.
-fn bit_of(b: bool) -> u16
+pub fn bit_of(b: bool) -> u16
     ensures { λ r. ⌜ r ≡ bit b ⌝ }
 {
     if b { 1 } else { 0 }
@@ -93,60 +92,5 @@ pub fn match_pairs(
         let b = match_pair(nodes, origins, notes, c, d, lefts, rights, p);
         found[p as usize] = bit_of(b);
         p += 1;
-    }
-}
-
-// Whether a variable has no two images: x and y, each 0 for none.
-fn agree_at(x: u32, y: u32) -> bool
-    ensures { λ b. ⌜ b ≡ agreeAt x y ⌝ }
-{
-    if x == 0 {
-        return true;
-    }
-    if y == 0 {
-        return true;
-    }
-    x == y
-}
-
-// Whether the notes of two pairs agree at every variable.
-fn agree(notes: &Notes, p: usize, q: usize) -> bool
-    requires { ⌜ (length (now notes) ≡ 4096) × (p < 64) × (q < 64) ⌝ }
-    ensures { λ b. ⌜ b ≡ agreeFrom (now (notes .entry)) p q 64 0 ⌝ }
-{
-    let mut v: usize = 0;
-    while v < 64 {
-        if !agree_at(image(notes, 64 * p + v), image(notes, 64 * q + v)) {
-            return false;
-        }
-        v += 1;
-    }
-    true
-}
-
-// Whether two pairs go together: both match, and their notes agree.
-fn go_together(found: &Found, notes: &Notes, p: usize, q: usize) -> bool
-    requires { ⌜ (length (now found) ≡ 64) × (length (now notes) ≡ 4096) × (p < 64) × (q < 64) ⌝ }
-    ensures { λ b. ⌜ b ≡ goTogether (now (found .entry)) (now (notes .entry)) p q ⌝ }
-{
-    if found[p] != 1 {
-        return false;
-    }
-    if found[q] != 1 {
-        return false;
-    }
-    agree(notes, p, q)
-}
-
-// The table of that.
-pub fn fill_table(found: &Found, notes: &Notes, table: &mut Together)
-    requires { ⌜ TogetherTables (now found) (now notes) (now table) ⌝ }
-    ensures { λ _. ⌜ (now (table .exit) ≡ tableFilled (now (found .entry)) (now (notes .entry)) 4096 (now (table .entry))) × (length (now (table .exit)) ≡ 4096) ⌝ }
-{
-    let mut x: usize = 0;
-    while x < 4096 {
-        let b = go_together(found, notes, x / 64, x % 64);
-        table[x] = bit_of(b);
-        x += 1;
     }
 }

@@ -1,125 +1,30 @@
 -- The answer to a merge, the tables and the output, on each way that the program takes.
-use mathlib.Core.Path.{_≡_, refl, sym, ap, ap₂, _∙_, subst}
+use mathlib.Core.Path.{_≡_, sym, ap, _∙_}
 use mathlib.Core.Bool.{Bool, true, false}
 use mathlib.Core.List.{List, [], _∷_}
 use Prim.Native.Nat.{ℕ, _≤_, _<_}
-use native.Mathlib.Omega.{arith}
-use lib.Dec.{ltb}
 use lib.ListN.{length}
 use borrow.Author.Tests.{lt-ltb, le-ltb}
-use Rattle.record.specs.Record.{records}
-use Rattle.unification.proofs.Tests.{true-not-false}
-use Rattle.verdict.specs.Refusal.{Reason, reasonNumber}
+use Rattle.verdict.specs.Refusal.{Reason}
 use Rattle.verdict.specs.State.{State}
-use Rattle.verdict.specs.Step.{stateOf}
 use Rattle.verdict.specs.Tables.{Tables, lengthsOf, tablesAfter}
-use Rattle.verdict.specs.Verdict.{Verdict, accepted, open′, refusal, verdictNumbers, check, longEnough, Stands, stateGiven}
+use Rattle.verdict.specs.Verdict.{Verdict, refusal, verdictNumbers, check}
 use Rattle.demands.proofs.Demanded.{not-refused}
-use Rattle.verdict.proofs.Endings.{reading-records}
 use Rattle.answer.specs.Given.{verdictCoded, verdictStands}
 use Rattle.answer.specs.declared.Answer as answer
 use Rattle.answer.specs.declared.Verdict as verdict
 use Rattle.answer.specs.declared.Verdict.the-variants as verdicts
-use Rattle.answer.proofs.GivenNumbers.{stateLeft, verdict-given, symbols-given, rows-given, clauses-given, stands-not-refused, refused-given}
+use Rattle.answer.proofs.GivenNumbers.{verdict-given, symbols-given, rows-given, clauses-given, stands-not-refused}
 use Rattle.checker.specs.Contract.{Checked}
-use Rattle.merging.specs.Answer.{Merge, written, refusedWith, mergeNumbers, afterChecks, unlessRefused, mergeAnswer, tablesUnlessRefused, tablesLeft, outputLeft}
+use Rattle.merging.specs.Answer.{Merge, refusedWith, mergeNumbers, unlessRefused, mergeAnswer, tablesUnlessRefused, tablesLeft, outputLeft}
 use Rattle.merging.specs.Merging.{mergedFile}
 use Rattle.merging.proofs.AnswerShown.{merge-promised}
 use Rattle.merge.specs.Contract.{MergeAnswered}
 use Rattle.joining.specs.Given.{mergeGiven}
-use Rattle.merge.specs.Going.{refusalGiven, FirstStands, secondAnswer, SecondAnswered}
-use Rattle.joining.specs.Joined.{BothStand, Joined}
+use Rattle.merge_second.specs.Going.{refusalGiven, FirstStands, secondAnswer, SecondAnswered}
+use Rattle.merge_second.proofs.SecondAnswered.{refused-ends, refused-tables, refused-is, stands-on, tables-on, checked-tables, left-state}
 use Rattle.joining.specs.declared.MergeOutcome as given
 
--- ── A verdict, and what becomes of the merge ──
-
--- A refusal ends the work.
-refused-ends : (file : ℕ) (v : verdict.Verdict) (w : Verdict) (next : Merge) → verdictCoded v ≡ verdictNumbers w → verdictStands v ≡ false → mergeNumbers (unlessRefused file w next) ≡ refusalGiven file v
-refused-ends file verdicts.Open w next e t = absurd (true-not-false refl t)
-refused-ends file (verdicts.Accepted n) w next e t = absurd (true-not-false refl t)
-refused-ends file (verdicts.Refused q k) w next e t =
-    let r = refused-given q k w e in
-    ap (λ (x : Verdict). mergeNumbers (unlessRefused file x next)) (r .1) ∙ ap (λ (n : ℕ). 2 ∷ n ∷ file ∷ k ∷ []) (r .2)
-
-refused-tables : (v : verdict.Verdict) (w : Verdict) (here next : Tables) → verdictCoded v ≡ verdictNumbers w → verdictStands v ≡ false → tablesUnlessRefused w here next ≡ here
-refused-tables verdicts.Open w here next e t = absurd (true-not-false refl t)
-refused-tables (verdicts.Accepted n) w here next e t = absurd (true-not-false refl t)
-refused-tables (verdicts.Refused q k) w here next e t = ap (λ (x : Verdict). tablesUnlessRefused x here next) (refused-given q k w e .1)
-
-refused-is : (file : ℕ) (v : verdict.Verdict) (w : Verdict) (next : Merge) → verdictCoded v ≡ verdictNumbers w → verdictStands v ≡ false → (X O : List ℕ) → outputLeft (unlessRefused file w next) X O ≡ O
-refused-is file verdicts.Open w next e t X O = absurd (true-not-false refl t)
-refused-is file (verdicts.Accepted n) w next e t X O = absurd (true-not-false refl t)
-refused-is file (verdicts.Refused q k) w next e t X O = ap (λ (x : Verdict). outputLeft (unlessRefused file x next) X O) (refused-given q k w e .1)
-
--- A file that stands goes on.
-stands-on : (file : ℕ) (w : Verdict) (next : Merge) → ((q : Reason) (k : ℕ) → ¬ (w ≡ refusal q k)) → unlessRefused file w next ≡ next
-stands-on file (accepted n) next h = refl
-stands-on file open′ next h = refl
-stands-on file (refusal q k) next h = absurd (h q k refl)
-
-tables-on : (w : Verdict) (here next : Tables) → ((q : Reason) (k : ℕ) → ¬ (w ≡ refusal q k)) → tablesUnlessRefused w here next ≡ next
-tables-on (accepted n) here next h = refl
-tables-on open′ here next h = refl
-tables-on (refusal q k) here next h = absurd (h q k refl)
-
--- Tables by their parts.
-checked-tables : (file : List ℕ) (before : Tables) (a : answer.Answer) (after : Tables) → Checked 0 file before a after → after ≡ tablesAfter file before
-checked-tables file before a after K =
-    let s = K .symbols in
-    let r = K .rows in
-    let c = K .clauses in
-    let b = K .bindings in
-    λ i. record { symbols = s i; rows = r i; clauses = c i; bindings = b i }
-
--- The state that a check leaves is that of the file that stands.
-left-state : (file : List ℕ) (tables : Tables) (S : State) → longEnough (lengthsOf tables) ≡ true → Stands file S → stateLeft file (lengthsOf tables) ≡ S
-left-state file tables S l st = ap stateGiven (reading-records file (lengthsOf tables) (st .fits) l) ∙ ap stateOf (st .reads)
-
--- ── The second file's check ──
-module _ (first second : List ℕ) (between : Tables) (output : List ℕ) (mine theirs : answer.Answer) (after : Tables) (L : Checked 0 second between theirs after) where
-  abbrev verdict₂ : Verdict
-  verdict₂ = check 0 second (lengthsOf between) .verdict
-
-  given₂ : verdictCoded (theirs .verdict) ≡ verdictNumbers (check 0 second (lengthsOf between) .verdict)
-  given₂ = verdict-given 0 second (lengthsOf between) theirs (L .answer)
-
-  pub second-refused : (m : given.MergeOutcome) (b : Bool) → b ≡ verdictStands (theirs .verdict) → b ≡ false → mergeGiven m ≡ refusalGiven 2 (theirs .verdict) → SecondAnswered first second between output m after output
-  second-refused m b t f g = record {
-    answer = g ∙ sym (refused-ends 2 (theirs .verdict) verdict₂ (afterChecks (records first) (records second)) given₂ (sym t ∙ f));
-    tables = checked-tables second between theirs after L;
-    bytes = sym (refused-is 2 (theirs .verdict) verdict₂ (afterChecks (records first) (records second)) given₂ (sym t ∙ f) (mergedFile first second) output);
-  }
-
-  module _ (b : Bool) (t : b ≡ verdictStands (theirs .verdict)) (s : b ≡ true) where
-    not-second : (q : Reason) (k : ℕ) → ¬ (check 0 second (lengthsOf between) .verdict ≡ refusal q k)
-    not-second = stands-not-refused (theirs .verdict) verdict₂ given₂ (sym t ∙ s)
-
-    pub both-stand : FirstStands first mine output → BothStand first second (mine .symbols) (mine .rows) (mine .clauses) (theirs .symbols) output
-    both-stand F =
-        let B = not-refused 0 second between not-second in
-        let T = left-state second between (B .1 .0) (B .0) (B .1 .1) in
-        record {
-          ofFirst = F .state;
-          ofSecond = B .1 .0;
-          firstStands = F .stands;
-          secondStands = B .1 .1;
-          symbolsOfFirst = F .symbols;
-          rowsOfFirst = F .rows;
-          clausesOfFirst = F .clauses;
-          symbolsOfSecond = symbols-given 0 second (lengthsOf between) theirs (L .answer) ∙ ap (λ (z : State). length (z .symbols)) T;
-          room = F .room;
-        }
-
-    pub both-joined : (m : given.MergeOutcome) (left : List ℕ) → Joined first second output m left → SecondAnswered first second between output m after left
-    both-joined m left J =
-        let e = stands-on 2 verdict₂ (afterChecks (records first) (records second)) not-second in
-        record {
-          answer = J .answer ∙ ap mergeNumbers (sym e);
-          tables = checked-tables second between theirs after L;
-          bytes = J .bytes ∙ ap (λ (y : Merge). outputLeft y (mergedFile first second) output) (sym e);
-        }
-
--- ── The whole ──
 module _ (first second : List ℕ) (before : Tables) (output : List ℕ) where
   abbrev verdict₁ : Verdict
   verdict₁ = check 0 first (lengthsOf before) .verdict

@@ -1,2 +1,2 @@
-// Records read one after another, each by its kind. `Reader` in specs/ says how this program goes about it.
+// Records read one after another. `Reader` in specs/ says how this program goes about it.
 pub mod reader;

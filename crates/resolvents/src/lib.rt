@@ -1,7 +1,5 @@
 // A resolve on atoms that were found: the limits on its result, outlines, unification, and its end. `Stepping` in specs/ of the crate inference
 // has the contracts.
-use clauses::index_cell;
-use clauses::literals_cell;
 use entry::entry::Counts;
 use entry::entry::Entered;
 use following::nodes::Nodes;
@@ -9,6 +7,8 @@ use following::nodes::Origins;
 use following::values::ValueCells;
 use inference::Atom;
 use outlines::some_outlines_clash;
+use resolvent_size::Size;
+use resolvent_size::resolvent_size;
 use step_end::finish_step;
 use step_unify::unify_resolve;
 ghost use Rattle.inference.specs.Stepping.{ResolveNamed, StepRead};
@@ -31,14 +31,10 @@ pub fn resolve_atoms(
     ensures { λ e. ⌜ ((R : ResolveNamed (now (numbers .entry)) k counts (now (clauses .entry)) (now (bindings .entry)) (now (nodes .entry)) (now (origins .entry)) (now (values .entry)) left (now (listed .entry)) n) → StepRead (R .file) k counts (now (clauses .entry)) (now (bindings .entry)) (now (nodes .entry)) (now (origins .entry)) (now (values .entry)) (R .step) (now (clauses .exit)) (now (bindings .exit)) (now (origins .exit)) (now (values .exit)) e) ⌝ }
 {
     let right = numbers[2];
-    let literals = literals_cell(clauses, left.clause) + literals_cell(clauses, right) - 1 - n;
-    if 128 < literals {
+    let size = resolvent_size(clauses, left.clause, right, n);
+    let Size::Fits(literals, maximum) = size else {
         return Entered::Refused(9);
-    }
-    let maximum = index_cell(clauses, left.clause) + index_cell(clauses, right);
-    if 4096 < maximum {
-        return Entered::Refused(9);
-    }
+    };
     if some_outlines_clash(nodes, left.row, listed, n) {
         return Entered::Refused(10);
     }

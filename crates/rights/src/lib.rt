@@ -3,8 +3,8 @@
 use following::nodes::Origins;
 use inference::rights::NamedRights;
 use inference::same_sign;
+use literal_walk::literal;
 use named_literals::NamedLiteral;
-use named_literals::literal;
 ghost use mathlib.Core.Path.{_≡_};
 ghost use mathlib.Core.Bool.{_&&_, not};
 ghost use Prim.Native.Nat.{_≤_, _<_};

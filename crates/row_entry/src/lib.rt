@@ -3,11 +3,11 @@
 use distinct::FoundRow;
 use distinct::Heads;
 use distinct::Links;
-use distinct::list_row;
 use entry::entry::Counts;
 use entry::entry::Entered;
 use entry::rows::put_cells;
 use following::nodes::Nodes;
+use row_listing::list_row;
 use row_search::find_row;
 use tables::cell;
 use tables::set_cell;

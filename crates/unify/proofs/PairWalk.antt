@@ -31,8 +31,8 @@ use Rattle.following.specs.declared.follow.Followed.{Followed}
 use Rattle.following.specs.declared.follow.Followed.the-variants.{Variable, Application}
 use Rattle.following.specs.declared.occurs.Occurs.{Occurs}
 use Rattle.following.specs.declared.occurs.Occurs.the-variants.{No, Yes, Spent}
-use Rattle.unify.specs.declared.pairs.Meeting.{Meeting}
-use Rattle.unify.specs.declared.pairs.Meeting.the-variants.{Bind, Nothing, Clash, Arguments}
+use Rattle.unify.specs.declared.Meeting.{Meeting}
+use Rattle.unify.specs.declared.Meeting.the-variants.{Bind, Nothing, Clash, Arguments}
 use Rattle.unify.specs.declared.Unified.{Unified}
 use Rattle.unify.specs.declared.Unified.the-variants.{Done, Refused}
 

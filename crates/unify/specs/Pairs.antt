@@ -17,8 +17,8 @@ use Rattle.unification.specs.Unification.{mostLinks, failureNumber, Failure, cl
 use Rattle.unification.specs.ValueArray.{InStep, Models}
 use Rattle.following.specs.declared.follow.Followed.{Followed}
 use Rattle.following.specs.declared.follow.Followed.the-variants.{Variable, Application}
-use Rattle.unify.specs.declared.pairs.Meeting.{Meeting}
-use Rattle.unify.specs.declared.pairs.Meeting.the-variants.{Bind, Nothing, Clash, Arguments}
+use Rattle.unify.specs.declared.Meeting.{Meeting}
+use Rattle.unify.specs.declared.Meeting.the-variants.{Bind, Nothing, Clash, Arguments}
 use Rattle.unify.specs.declared.Unified.{Unified}
 use Rattle.unify.specs.declared.Unified.the-variants.{Done, Refused}
 use Rattle.following.specs.Walks.{Tested, PairRuns, ArgumentsRun, TestRuns, bindOutcome}

@@ -3,7 +3,7 @@ use Rattle.inference.proofs.named_literal.Statement.{statement}
 use Rattle.inference.proofs.named_literal.Tie as tie
 use Rattle.inference.proofs.named_literal.Reads as reads
 use Rattle.inference.proofs.named_literal.Lts as lts
-use Rattle.named_literals.proofs.literal.Reads as literal-reads
+use Rattle.literal_walk.proofs.literal.Reads as literal-reads
 
 literal-requires : tie.Need-literal-requires
 literal-requires c κs =

@@ -13,7 +13,7 @@ use Rattle.clauses.proofs.first_cell.Reads as first-cell-reads
 use Rattle.clauses.proofs.index_cell.Reads as index-cell-reads
 use Rattle.clauses.proofs.origin_code.Reads as origin-code-reads
 use Rattle.following.proofs.nodes.part_of.Reads as part-of-reads
-use Rattle.loading.proofs.put_bindings.Reads as put-bindings-reads
+use Rattle.putting.proofs.put_bindings.Reads as put-bindings-reads
 use Rattle.loading.proofs.+load_clause.{statement}
 use Rattle.loading.proofs.+load_clause.Tie.{close}
 

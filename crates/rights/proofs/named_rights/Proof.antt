@@ -12,7 +12,7 @@ use Rattle.rights.proofs.named_rights.Statement.{statement}
 use Rattle.rights.proofs.named_rights.Tie as tie
 use Rattle.rights.proofs.named_rights.Reads as reads
 use Rattle.rights.proofs.named_rights.Lts as lts
-use Rattle.named_literals.proofs.literal.Reads as literal-reads
+use Rattle.literal_walk.proofs.literal.Reads as literal-reads
 use Rattle.rights.proofs.list_atom.Reads as list-atom-reads
 use Rattle.rights.proofs.still_opposite.Reads as still-opposite-reads
 

@@ -7,7 +7,7 @@ use Rattle.row_entry.proofs.enter_row.Tie as tie
 use Rattle.row_entry.proofs.enter_row.Reads as reads
 use Rattle.row_entry.proofs.enter_row.Lts as lts
 use Rattle.row_search.proofs.find_row.Reads as find-row-reads
-use Rattle.distinct.proofs.list_row.Reads as list-row-reads
+use Rattle.row_listing.proofs.list_row.Reads as list-row-reads
 use Rattle.row_entry.proofs.more_rows.Reads as more-rows-reads
 use Rattle.entry.proofs.rows.put_cells.Reads as put-cells-reads
 use Rattle.tables.proofs.cell.Reads as cell-reads

@@ -10,8 +10,8 @@ use Rattle.row_search.proofs.find_row.Tie as tie
 use Rattle.row_search.proofs.find_row.Reads as reads
 use Rattle.row_search.proofs.find_row.Lts as lts
 use Rattle.distinct.proofs.bucket.Reads as bucket-reads
-use Rattle.distinct.proofs.same_cells.Reads as same-cells-reads
-use Rattle.distinct.proofs.scan_rows.Reads as scan-rows-reads
+use Rattle.row_scan.proofs.same_cells.Reads as same-cells-reads
+use Rattle.row_scan.proofs.scan_rows.Reads as scan-rows-reads
 
 abbrev Inv-loop : tie.InvT-loop
 Inv-loop nodes heads links n code numbers b c₀ compared₀ c compared =

@@ -20,8 +20,8 @@ use Rattle.unify_pairs.proofs.+unify_arguments+unify_pair.Lts-unify_pai
 use Rattle.following.proofs.follow.follow.Reads as follow-reads
 use Rattle.following.proofs.nodes.arity_of.Reads as arity-of-reads
 use Rattle.following.proofs.nodes.part_of.Reads as part-of-reads
-use Rattle.unify.proofs.pairs.bind.Reads as bind-reads
-use Rattle.unify.proofs.pairs.meet.Reads as meet-reads
+use Rattle.unify_bind.proofs.bind.Reads as bind-reads
+use Rattle.unify_meet.proofs.meet.Reads as meet-reads
 use Rattle.unify_pairs.proofs.+unify_arguments+unify_pair.{statement}
 use Rattle.unify_pairs.proofs.+unify_arguments+unify_pair.Tie.{close}
 

@@ -107,7 +107,11 @@ fn board_table() -> io::Result<()> {
         "| a file of 4,000 clauses, and the clause that is withdrawn and returned | check anew | a call | ratio | over ten rounds | a call of the second | ratio of the calls | over ten rounds |"
     );
     println!("|---|---|---|---|---|---|---|---|");
-    yestrwyn::with_stack(|| called().iter().for_each(board_lines))
+    yestrwyn::with_stack(|| called().iter().for_each(board_lines))?;
+    println!();
+    println!("| a file of 4,000 clauses | input clauses called in turn | the slowest call about one of them, at its best of 15 |");
+    println!("|---|---|---|");
+    yestrwyn::with_stack(|| called().iter().for_each(slowest_line))
 }
 
 /// Both with tables that are lent to them again and again.
@@ -211,6 +215,23 @@ fn board_lines(called: &Called) {
         let beside_the_second = Rounds::take(&mut proved, second);
         println!("| {name}: {which} | {beside_the_check} | {} |", beside_the_second.beside());
     }
+}
+
+/// A line of the table of slowest calls: some 400 input clauses in turn, so that no call is about the clause of the one before.
+fn slowest_line(called: &Called) {
+    let mut board = Board::open_here(0, called.file.as_slice()).expect("the file stands");
+    let inputs: Vec<u16> = (0..4096).filter(|&clause| board.is_present(clause)).collect();
+    let clauses: Vec<u16> = inputs.iter().copied().step_by((inputs.len() / 400).max(1)).collect();
+    let mut best = vec![Duration::MAX; clauses.len()];
+    for _ in 0..15 {
+        for (&clause, best) in clauses.iter().zip(&mut best) {
+            let withdrawn = time(|| board.withdraw(clause).expect("it is present"));
+            let returned = time(|| board.give_back(clause).expect("it is withdrawn"));
+            *best = (*best).min(withdrawn.max(returned));
+        }
+    }
+    let slowest = best.iter().max().expect("an input clause");
+    println!("| {} | {} | {:.1} µs |", called.name, clauses.len(), slowest.as_secs_f64() * 1e6);
 }
 
 /// How long a call takes, where each of some clauses is withdrawn and then returned.

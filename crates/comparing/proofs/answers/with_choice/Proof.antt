@@ -4,7 +4,7 @@ use Rattle.comparing.proofs.answers.with_choice.Statement.{statement}
 use Rattle.comparing.proofs.answers.with_choice.Tie as tie
 use Rattle.comparing.proofs.answers.with_choice.Reads as reads
 use Rattle.comparing.proofs.answers.with_choice.Lts as lts
-use Rattle.matching.proofs.search.chosen.Reads as chosen-reads
+use Rattle.choosing.proofs.chosen.Reads as chosen-reads
 
 chosen-requires : tie.Need-chosen-requires
 chosen-requires c κs = search needs

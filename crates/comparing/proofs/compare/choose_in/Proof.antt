@@ -6,9 +6,9 @@ use Rattle.comparing.proofs.compare.choose_in.Reads as reads
 use Rattle.comparing.proofs.compare.choose_in.Lts as lts
 use Rattle.comparing.proofs.answers.with_choice.Reads as with-choice-reads
 use Rattle.comparing.proofs.answers.without_choice.Reads as without-choice-reads
-use Rattle.matching.proofs.pairs.fill_table.Reads as fill-table-reads
+use Rattle.agreeing.proofs.fill_table.Reads as fill-table-reads
 use Rattle.matching.proofs.pairs.match_pairs.Reads as match-pairs-reads
-use Rattle.matching.proofs.search.search.Reads as search-reads
+use Rattle.choosing.proofs.search.Reads as search-reads
 
 match-pairs-requires : tie.Need-match-pairs-requires
 match-pairs-requires c κs = search needs

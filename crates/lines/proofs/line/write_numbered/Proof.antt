@@ -5,7 +5,7 @@ use Rattle.lines.proofs.line.write_numbered.Statement.{statement}
 use Rattle.lines.proofs.line.write_numbered.Tie as tie
 use Rattle.lines.proofs.line.write_numbered.Reads as reads
 use Rattle.lines.proofs.line.write_numbered.Lts as lts
-use Rattle.named_literals.proofs.literal.Reads as literal-reads
+use Rattle.literal_walk.proofs.literal.Reads as literal-reads
 use Rattle.literal_text.proofs.write_literal.Reads as write-literal-reads
 
 literal-requires : tie.Need-literal-requires

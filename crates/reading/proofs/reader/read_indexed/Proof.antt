@@ -12,7 +12,7 @@ use Rattle.reading.proofs.reader.read_indexed.Statement.{statement}
 use Rattle.reading.proofs.reader.read_indexed.Tie as tie
 use Rattle.reading.proofs.reader.read_indexed.Reads as reads
 use Rattle.reading.proofs.reader.read_indexed.Lts as lts
-use Rattle.reading.proofs.reader.read_record.Reads as read-record-reads
+use Rattle.record_reading.proofs.read_record.Reads as read-record-reads
 
 abbrev Inv-loop : tie.InvT-loop
 Inv-loop file symbols₀ rows₀ clauses₀ bindings₀ nodes₀ origins₀ values₀ heads₀ links₀ counts₀ k₀ symbols rows clauses bindings nodes origins values heads links counts k =
