@@ -1,6 +1,6 @@
 -- One clause of the search for the answer: what is left of it finds the same as the whole.
 use mathlib.Core.Path.{_≡_, sym, ap, _∙_}
-use mathlib.Core.Bool.{Bool, true, false, _&&_}
+use mathlib.Core.Bool.{Bool, true, false, _&&_, and-true, and-false}
 use mathlib.Core.Option.{Option, some}
 use mathlib.Core.List.{List}
 use Prim.Native.Nat.{ℕ, suc, _+_, _-_, _*_, _%_, _≤_, _<_}
@@ -14,15 +14,14 @@ use Rattle.boards.specs.Cells.{answers, lowestAnswer}
 use Rattle.board_cells.specs.Given.{boardGiven}
 use Rattle.board_cells.specs.declared.lowest.BoardAnswer.the-variants as answer
 
-module _ (C B : List ℕ) (n : ℕ) {x : ℕ} (isCell : x ≡ getD B n 0) where
-  rest : x % 8 ≡ getD B n 0 % 8
-  rest = ap (λ (i : ℕ). i % 8) isCell
+module _ (C B : List ℕ) (n : ℕ) {y : ℕ} (isCount : y ≡ getD C (5 * n + 1) 0) where
+  pub cell-decides : y ≡ 0 → {x : ℕ} → x ≡ getD B n 0 → eqb (x % 8) 7 ≡ answers C B n
+  cell-decides z e =
+      ap (λ (i : ℕ). eqb (i % 8) 7) e ∙ sym (and-true (eqb (getD B n 0 % 8) 7))
+      ∙ ap (λ (b : Bool). eqb (getD B n 0 % 8) 7 && b) (sym (eq-eqb (getD C (5 * n + 1) 0) 0 (sym isCount ∙ z)))
 
-  pub literals-decide : x % 8 ≡ 7 → {y : ℕ} → y ≡ getD C (5 * n + 1) 0 → eqb y 0 ≡ answers C B n
-  literals-decide z e = sym (ap (λ (b : Bool). b && eqb (getD C (5 * n + 1) 0) 0) (eq-eqb (getD B n 0 % 8) 7 (sym rest ∙ z)) ∙ ap (λ (i : ℕ). eqb i 0) (sym e))
-
-  pub no-answer : ¬ (x % 8 ≡ 7) → false ≡ answers C B n
-  no-answer h = sym (ap (λ (b : Bool). b && eqb (getD C (5 * n + 1) 0) 0) (ne-eqb (getD B n 0 % 8) 7 (λ q. h (rest ∙ q))))
+  pub no-answer : ¬ (y ≡ 0) → false ≡ answers C B n
+  no-answer h = sym (ap (λ (b : Bool). eqb (getD B n 0 % 8) 7 && b) (ne-eqb (getD C (5 * n + 1) 0) 0 (λ q. h (isCount ∙ q))) ∙ and-false (eqb (getD B n 0 % 8) 7))
 
 module _ (C B : List ℕ) (most : ℕ) where
   abbrev onward : ℕ → ℕ → Bool → Option ℕ

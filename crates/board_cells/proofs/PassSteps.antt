@@ -1,13 +1,14 @@
 -- One clause of the pass: what is left of it does the same as the whole.
 use mathlib.Core.Path.{_≡_, sym, ap, ap₂, _∙_}
-use mathlib.Core.Bool.{Bool, true, false}
+use mathlib.Core.Bool.{Bool, true, false, not}
 use mathlib.Core.List.{List}
-use Prim.Native.Nat.{ℕ, suc, _+_, _-_, _≤_, _<_}
+use Prim.Native.Nat.{ℕ, suc, _+_, _-_, _*_, _≤_, _<_}
 use native.Mathlib.Numerals.{add-one}
 use native.Mathlib.Omega.{arith}
-use lib.Dec.{leb}
+use lib.Dec.{eqb, leb}
 use lib.ListN.{getD, set}
-use borrow.Author.Tests.{eq-eqb, ne-eqb, le-leb, lt-leb, lt-ltb, le-ltb}
+use mir.Val.{boolByte}
+use borrow.Author.Tests.{le-leb, lt-leb, lt-ltb, le-ltb}
 use Rattle.record.specs.Record.{pick}
 use Rattle.boards.specs.Cells.{childCell, newCell, larger, lastAfter, passed}
 
@@ -18,13 +19,17 @@ larger-second a b l = sym (ap (λ (x : Bool). pick x b a) (lt-ltb a b l))
 pub larger-first : (a b : ℕ) → b ≤ a → a ≡ larger a b
 larger-first a b l = sym (ap (λ (x : Bool). pick x b a) (le-ltb a b l))
 
--- The last child of the clauses that have changed.
-pub last-stays : (last before after : ℕ) → before ≡ after → last ≡ lastAfter last before after
-last-stays last before after e = sym (ap (λ (b : Bool). pick b last (larger last (childCell before))) (eq-eqb before after e))
+-- The last child of the clauses that have changed: a clause that has not changed counts as having none.
+pub product-small : (b : Bool) (c : ℕ) → boolByte b * c ≤ c
+product-small true c = omega arith
+product-small false c = omega arith
 
-pub last-moves : (last before after : ℕ) {child moved : ℕ} → ¬ (before ≡ after) → child ≡ childCell before → moved ≡ larger last child → moved ≡ lastAfter last before after
-last-moves last before after {child} h e m =
-    m ∙ ap (larger last) e ∙ sym (ap (λ (b : Bool). pick b last (larger last (childCell before))) (ne-eqb before after h))
+pub last-moves : (last before after : ℕ) {child r : ℕ} → child ≡ childCell before → r ≡ larger last (boolByte (not (eqb before after)) * child) → r ≡ lastAfter last before after
+last-moves last before after {child} e m = m ∙ by (eqb before after)
+  where
+    by : (b : Bool) → larger last (boolByte (not b) * child) ≡ pick b last (larger last (childCell before))
+    by true = let z : boolByte (not true) * child ≡ 0 = omega arith in ap (larger last) z ∙ ap (λ (x : Bool). pick x 0 last) (le-ltb last 0 (omega arith))
+    by false = let z : boolByte (not false) * child ≡ child = omega arith in ap (larger last) (z ∙ e)
 
 module _ (F C : List ℕ) (most : ℕ) where
   abbrev onward : ℕ → ℕ → ℕ → List ℕ → Bool → List ℕ

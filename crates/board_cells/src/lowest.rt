@@ -12,12 +12,12 @@ pub enum BoardAnswer {
     Refused(u8, u16),
 }
 
-// Whether clause n stands, is in force and has no literals.
+// Whether clause n stands, is in force and has no literals. Few clauses have none, so that the search goes straight on past the others.
 fn is_answer(clauses: &[u16], board: &[u16], n: u16) -> bool
     ensures { λ b. ⌜ b ≡ answers (now (clauses .entry)) (now (board .entry)) n ⌝ }
 {
-    if cell(board, n as usize) % 8 == 7 {
-        cell(clauses, 5 * (n as usize) + 1) == 0
+    if cell(clauses, 5 * (n as usize) + 1) == 0 {
+        cell(board, n as usize) % 8 == 7
     } else {
         false
     }

@@ -13,12 +13,12 @@ fn larger_of(a: u16, b: u16) -> u16
     if a < b { b } else { a }
 }
 
-// The last child of the clauses that have changed, after one whose cell was `before` and now is `after`.
+// The last child of the clauses that have changed, after one whose cell was `before` and now is `after`; without a branch, because which clauses change cannot be foreseen.
 fn last_after(last: u16, before: u16, after: u16) -> u16
     ensures { λ r. ⌜ r ≡ lastAfter last before after ⌝ }
 {
-    let moved = larger_of(last, child_cell(before));
-    if before == after { last } else { moved }
+    let changed = before != after;
+    larger_of(last, (changed as u16) * child_cell(before))
 }
 
 // Each clause from `from` on gets its cell from those of its parents, up to the last child of those that have changed: `child` at first.

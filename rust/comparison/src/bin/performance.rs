@@ -10,7 +10,7 @@ use std::env;
 use std::fmt::Display;
 use std::hint::black_box;
 use std::io;
-use std::time::Duration;
+use std::time::{Duration, Instant};
 
 use yestrwyn::{Board, BoardRefusal, Workspace};
 use yestrwyn_comparison::clock::own_time;
@@ -225,9 +225,11 @@ fn slowest_line(called: &Called) {
     let mut best = vec![Duration::MAX; clauses.len()];
     for _ in 0..15 {
         for (&clause, best) in clauses.iter().zip(&mut best) {
-            let withdrawn = time(|| board.withdraw(clause).expect("it is present"));
-            let returned = time(|| board.give_back(clause).expect("it is withdrawn"));
-            *best = (*best).min(withdrawn.max(returned));
+            let start = Instant::now();
+            board.withdraw(clause).expect("it is present");
+            let withdrawn = start.elapsed();
+            board.give_back(clause).expect("it is withdrawn");
+            *best = (*best).min(withdrawn.max(start.elapsed() - withdrawn));
         }
     }
     let slowest = best.iter().max().expect("an input clause");
