@@ -1,6 +1,6 @@
 -- A call on a board, on each way that the program takes.
 use mathlib.Core.Path.{_≡_, refl, sym, ap, ap₂, _∙_}
-use mathlib.Core.Bool.{Bool, true, false, _&&_}
+use mathlib.Core.Bool.{Bool, true, false, _&&_, Bool·beq, not}
 use mathlib.Core.Option.{Option, none, some}
 use mathlib.Core.List.{List}
 use Prim.Native.Nat.{ℕ, suc, _+_, _-_, _*_, _≤_, _<_}
@@ -10,8 +10,8 @@ use lib.Dec.{eqb, leb, ltb}
 use lib.ListN.{length, getD, set}
 use borrow.Author.Tests.{lt-ltb, le-ltb, le-leb, lt-leb, ltb-true}
 use Rattle.record.specs.Record.{pick, recordPart, kindOf}
-use Rattle.unification.proofs.Tests.{both-true}
-use Rattle.boards.specs.Board.{answered, refusedWith, answerNumbers, same}
+use Rattle.unification.proofs.Tests.{both-true, true-not-false}
+use Rattle.boards.specs.Board.{answered, refusedWith, answerNumbers}
 use Rattle.boards.specs.Cells.{cellWith, childCell, isClauseCell, forceCell, standsCell, passed, lowestAnswer, isInputCell, recordOfClause, withCell, refusal, boardAfter, callAnswer}
 use Rattle.board_cells.specs.Given.{boardGiven}
 use Rattle.board_cells.specs.declared.lowest.BoardAnswer as board
@@ -49,6 +49,17 @@ module _ (F C B : List ℕ) (n : ℕ) where
       z ∙ ap (λ (m : ℕ). passed F C m (n + 1) c B₁) k ∙ ap (λ (m : ℕ). passed F C (4095 - n) m c B₁) (add-one n)
       ∙ ap₂ (passed F C (4095 - n) (suc n)) (r ∙ ap childCell e) (q ∙ ap (set B n) cell)
 
+-- Two conditions compared.
+pub alike-true : (a b : Bool) → a ≡ true → b ≡ Bool·beq a b
+alike-true true true e = refl
+alike-true true false e = refl
+alike-true false b e = absurd (true-not-false refl (sym e))
+
+pub alike-false : (a b : Bool) → a ≡ false → not b ≡ Bool·beq a b
+alike-false false true e = refl
+alike-false false false e = refl
+alike-false true b e = absurd (true-not-false refl e)
+
 -- ── The call ──
 module _ (F C B : List ℕ) (n : ℕ) (present : Bool) where
   abbrev number : Bool → Bool → Bool → Option ℕ
@@ -66,20 +77,20 @@ module _ (F C B : List ℕ) (n : ℕ) (present : Bool) where
   refused-so m a g e = record { answer = g ∙ ap answerNumbers (sym (answer-of (some m) e)); board = sym (board-of (some m) e) }
 
   pub too-short : length B < 4097 → BoardCalled F C B n present (answer.Refused 2 0) B
-  too-short l = refused-so 2 (answer.Refused 2 0) refl (ap (λ (a : Bool). number a (isInputCell F C B n) (same (standsCell (getD B n 0)) present)) (lt-ltb (length B) 4097 l))
+  too-short l = refused-so 2 (answer.Refused 2 0) refl (ap (λ (a : Bool). number a (isInputCell F C B n) (Bool·beq (standsCell (getD B n 0)) present)) (lt-ltb (length B) 4097 l))
 
   module _ (long : 4097 ≤ length B) where
     long-enough : ltb (length B) 4097 ≡ false
     long-enough = le-ltb (length B) 4097 long
 
     pub no-input : {b : Bool} → b ≡ isInputCell F C B n → b ≡ false → BoardCalled F C B n present (answer.Refused 20 0) B
-    no-input e f = refused-so 20 (answer.Refused 20 0) refl (ap₂ (λ (x y : Bool). number x y (same (standsCell (getD B n 0)) present)) long-enough (sym e ∙ f))
+    no-input e f = refused-so 20 (answer.Refused 20 0) refl (ap₂ (λ (x y : Bool). number x y (Bool·beq (standsCell (getD B n 0)) present)) long-enough (sym e ∙ f))
 
-    module _ {b : Bool} (e : b ≡ isInputCell F C B n) (t : b ≡ true) {x : ℕ} (isCell : x ≡ getD B n 0) {s : Bool} (isStanding : s ≡ standsCell x) {c : Bool} (isAlike : c ≡ same s present) where
+    module _ {b : Bool} (e : b ≡ isInputCell F C B n) (t : b ≡ true) {x : ℕ} (isCell : x ≡ getD B n 0) {s : Bool} (isStanding : s ≡ standsCell x) {c : Bool} (isAlike : c ≡ Bool·beq s present) where
       condition : (d : Bool) → c ≡ d → refusal F C B n present ≡ pick d (some 21) none
       condition d z =
-          ap₂ (λ (x y : Bool). number x y (same (standsCell (getD B n 0)) present)) long-enough (sym e ∙ t)
-          ∙ ap (λ (y : Bool). pick y (some 21) none) (sym (isAlike ∙ ap (λ (y : Bool). same y present) (isStanding ∙ ap standsCell isCell)) ∙ z)
+          ap₂ (λ (x y : Bool). number x y (Bool·beq (standsCell (getD B n 0)) present)) long-enough (sym e ∙ t)
+          ∙ ap (λ (y : Bool). pick y (some 21) none) (sym (isAlike ∙ ap (λ (y : Bool). Bool·beq y present) (isStanding ∙ ap standsCell isCell)) ∙ z)
 
       pub already : c ≡ true → BoardCalled F C B n present (answer.Refused 21 0) B
       already z = refused-so 21 (answer.Refused 21 0) refl (condition true z)

@@ -12,8 +12,8 @@ use record::record_part;
 use tables::cell;
 use tables::set_cell;
 ghost use mathlib.Core.Path.{_≡_};
+ghost use mathlib.Core.Bool.{Bool·beq};
 ghost use Prim.Native.Nat.{_<_};
-ghost use Rattle.boards.specs.Board.{same};
 ghost use Rattle.boards.specs.Cells.{isInputCell, withCell};
 ghost use Rattle.board_calls.specs.Called.{BoardCalled};
 
@@ -31,7 +31,7 @@ fn is_input(file: &[u8], clauses: &[u16], board: &[u16], n: u16) -> bool
 }
 
 fn alike(a: bool, b: bool) -> bool
-    ensures { λ c. ⌜ c ≡ same a b ⌝ }
+    ensures { λ c. ⌜ c ≡ Bool·beq a b ⌝ }
 {
     if a { b } else { !b }
 }

@@ -1,7 +1,7 @@
 -- Calls on a board: what becomes of it, and the answers.
 use mathlib.Core.Path.{_≡_, refl, sym, ap, ap₂, _∙_}
 use mathlib.Core.Logic.{_⊎_, inl, inr}
-use mathlib.Core.Bool.{Bool, true, false, _&&_}
+use mathlib.Core.Bool.{Bool, true, false, _&&_, Bool·beq}
 use mathlib.Core.Option.{Option, none, some}
 use mathlib.Core.List.{List, [], _∷_}
 use Prim.Native.Nat.{ℕ, zero, suc, _+_, _-_, _*_, _%_, _≤_, _<_}
@@ -23,7 +23,7 @@ use Rattle.demands.proofs.Acceptance.{first-lowest, some-first}
 use Rattle.demands.proofs.Inversions.{entry-below, entry-some, entry-none, not-below}
 use Rattle.demands.proofs.RangeTests.{not-true, equal}
 use Rattle.demands.proofs.Sources.{SourceOf, earlier, source-of, number-of}
-use Rattle.boards.specs.Board.{Presence, changed, allStand, standsWith, answerAfresh, answered, refusedWith, Call, afterCall, afterCalls, same, answerToCall}
+use Rattle.boards.specs.Board.{Presence, changed, allStand, standsWith, answerAfresh, answered, refusedWith, Call, afterCall, afterCalls, answerToCall}
 use Rattle.boards.specs.Cells.{lastChild, cellWith, childCell, isClauseCell, forceCell, standsCell, clauseCell, boardOf, recordOfClause, answers, lowestAnswer, isInputCell, withCell, refusal, boardAfter, callAnswer}
 use Rattle.boards.specs.Promised.{boardAfterCalls}
 use Rattle.boards.proofs.Parents.{Recorded, Kept, with-record}
@@ -255,29 +255,29 @@ module _ (day : ℕ) (S : State) (board : List ℕ) (few : length (derivations S
   module _ (P : Presence) (n : ℕ) (b : Bool) where
     pub refused-20 : isInput (clauseOf S n) ≡ false → refusal F C (boardOf day S P board) n b ≡ some 20
     refused-20 i =
-        ap₂ (λ (x y : Bool). pick x (some 2) (pick y (pick (same (standsCell (getD (boardOf day S P board) n 0)) b) (some 21) none) (some 20))) (long-board P) (input-cell P n ∙ i)
+        ap₂ (λ (x y : Bool). pick x (some 2) (pick y (pick (Bool·beq (standsCell (getD (boardOf day S P board) n 0)) b) (some 21) none) (some 20))) (long-board P) (input-cell P n ∙ i)
 
-    by-condition : isInput (clauseOf S n) ≡ true → refusal F C (boardOf day S P board) n b ≡ pick (same (P n) b) (some 21) none
+    by-condition : isInput (clauseOf S n) ≡ true → refusal F C (boardOf day S P board) n b ≡ pick (Bool·beq (P n) b) (some 21) none
     by-condition i =
         let f = input-found n i in
         let z : standsCell (getD (boardOf day S P board) n 0) ≡ P n =
         ap standsCell (board-cell day S board few long P n (f .0) (f .1)) ∙ stands-of (lastChild (derivations S) (clauseNumber (f .0))) (usesInForce S day (f .0)) (standsWith P (f .0)) ∙ own-stands P n b (f .0) (f .1) (sym (ap isInput (f .1)) ∙ i) P
         in
-        ap₂ (λ (x y : Bool). pick x (some 2) (pick y (pick (same (standsCell (getD (boardOf day S P board) n 0)) b) (some 21) none) (some 20))) (long-board P) (input-cell P n ∙ i)
-        ∙ ap (λ (x : Bool). pick (same x b) (some 21) none) z
+        ap₂ (λ (x y : Bool). pick x (some 2) (pick y (pick (Bool·beq (standsCell (getD (boardOf day S P board) n 0)) b) (some 21) none) (some 20))) (long-board P) (input-cell P n ∙ i)
+        ∙ ap (λ (x : Bool). pick (Bool·beq x b) (some 21) none) z
 
-  same-true : (a : Bool) → same a a ≡ true
+  same-true : (a : Bool) → Bool·beq a a ≡ true
   same-true true = refl
   same-true false = refl
 
-  same-false : (a b : Bool) → ¬ (a ≡ b) → same a b ≡ false
+  same-false : (a b : Bool) → ¬ (a ≡ b) → Bool·beq a b ≡ false
   same-false true true h = absurd (h refl)
   same-false true false h = refl
   same-false false true h = refl
   same-false false false h = absurd (h refl)
 
   pub refused-21 : (P : Presence) (n : ℕ) (b : Bool) → isInput (clauseOf S n) ≡ true → P n ≡ b → refusal F C (boardOf day S P board) n b ≡ some 21
-  refused-21 P n b i e = by-condition P n b i ∙ ap (λ (x : Bool). pick (same (P n) x) (some 21) none) (sym e) ∙ ap (λ (x : Bool). pick x (some 21) none) (same-true (P n))
+  refused-21 P n b i e = by-condition P n b i ∙ ap (λ (x : Bool). pick (Bool·beq (P n) x) (some 21) none) (sym e) ∙ ap (λ (x : Bool). pick x (some 21) none) (same-true (P n))
 
   pub not-refused : (P : Presence) (n : ℕ) (b : Bool) → isInput (clauseOf S n) ≡ true → ¬ (P n ≡ b) → refusal F C (boardOf day S P board) n b ≡ none
   not-refused P n b i h = by-condition P n b i ∙ ap (λ (x : Bool). pick x (some 21) none) (same-false (P n) b h)
@@ -326,9 +326,9 @@ module _ (day : ℕ) (S : State) (board : List ℕ) (few : length (derivations S
 
   -- The answer to one call is the one worked out afresh.
   pub call-answered : (P : Presence) (call : Call) → callAnswer F C (boardOf day S P board) (call .clause) (call .present) ≡ answerToCall day S P call
-  call-answered P call = try (isInput (clauseOf S (call .clause))) refl (same (P (call .clause)) (call .present)) refl
+  call-answered P call = try (isInput (clauseOf S (call .clause))) refl (Bool·beq (P (call .clause)) (call .present)) refl
     where
-      try : (x : Bool) → isInput (clauseOf S (call .clause)) ≡ x → (y : Bool) → same (P (call .clause)) (call .present) ≡ y
+      try : (x : Bool) → isInput (clauseOf S (call .clause)) ≡ x → (y : Bool) → Bool·beq (P (call .clause)) (call .present) ≡ y
           → callAnswer F C (boardOf day S P board) (call .clause) (call .present)
           ≡ pick x (pick y (refusedWith 21 0) (answered (answerAfresh day S (changed P (call .clause) (call .present))))) (refusedWith 20 0)
       try false i y s = answer-by (boardOf day S P board) (call .clause) (call .present) (some 20) (refused-20 P (call .clause) (call .present) i)

@@ -1,6 +1,6 @@
 -- Document 02, Q-9: which input clauses of a checked file are present, which clauses then stand, and the answers worked out from that afresh. Nothing here
 -- knows of a board.
-use mathlib.Core.Bool.{Bool, true, false, _&&_}
+use mathlib.Core.Bool.{Bool, true, _&&_, Bool·beq}
 use mathlib.Core.Option.{Option, none, some}
 use mathlib.Core.List.{List, [], _∷_}
 use Prim.Native.Nat.{ℕ}
@@ -59,15 +59,10 @@ abbrev pub afterCalls : State → Presence → List Call → Presence
 afterCalls S P [] = P
 afterCalls S P (call ∷ calls) = afterCalls S (afterCall S P call) calls
 
-abbrev pub same : Bool → Bool → Bool
-same true b = b
-same false true = false
-same false false = true
-
 -- The answer to a call, where P says which clauses were present before it: 20 for no input clause of that number, 21 where it is in that condition already, in
 -- this order; and else that of the clauses then present.
 abbrev pub answerToCall : ℕ → State → Presence → Call → Answer
 answerToCall day S P call =
     pick (isInput (clauseOf S (call .clause)))
-    (pick (same (P (call .clause)) (call .present)) (refusedWith 21 0) (answered (answerAfresh day S (changed P (call .clause) (call .present)))))
+    (pick (Bool·beq (P (call .clause)) (call .present)) (refusedWith 21 0) (answered (answerAfresh day S (changed P (call .clause) (call .present)))))
     (refusedWith 20 0)

@@ -1,6 +1,6 @@
 -- Document 02, Q-9: a board as cells, 4,096 for the clauses and one for the day, and what a call does to them, whatever they, the file and the table of
 -- clauses hold.
-use mathlib.Core.Bool.{Bool, true, false, _&&_, _||_}
+use mathlib.Core.Bool.{Bool, true, false, _&&_, _||_, Bool·beq}
 use mathlib.Core.Option.{Option, none, some}
 use mathlib.Core.List.{List, [], _∷_, _++_, map, reverse}
 use Prim.Native.Nat.{ℕ, zero, suc, _+_, _-_, _*_, _/_, _%_}
@@ -10,7 +10,7 @@ use Rattle.record.specs.Record.{pick, recordPart, kindOf, fieldOf}
 use Rattle.derivation.specs.Derivation.{Derivation, input, resolve, factor, clauseNumber}
 use Rattle.verdict.specs.Force.{usesInForce}
 use Rattle.verdict.specs.State.{State, derivations}
-use Rattle.boards.specs.Board.{Presence, standsWith, Answer, answered, refusedWith, same}
+use Rattle.boards.specs.Board.{Presence, standsWith, Answer, answered, refusedWith}
 
 -- ── The cell of a clause ──
 
@@ -104,7 +104,7 @@ withCell F C B n present = passed F C (4095 - n) (suc n) (childCell (getD B n 0)
 abbrev pub refusal : List ℕ → List ℕ → List ℕ → ℕ → Bool → Option ℕ
 refusal F C B n present =
     pick (ltb (length B) 4097) (some 2)
-    (pick (isInputCell F C B n) (pick (same (standsCell (getD B n 0)) present) (some 21) none) (some 20))
+    (pick (isInputCell F C B n) (pick (Bool·beq (standsCell (getD B n 0)) present) (some 21) none) (some 20))
 
 unfoldable pub boardAfter : List ℕ → List ℕ → List ℕ → ℕ → Bool → List ℕ
 boardAfter F C B n present = elim (refusal F C B n present) [ some number ↦ B | none ↦ withCell F C B n present ]

@@ -15,7 +15,7 @@ use Rattle.unification.proofs.Failures.{reached-run}
 use Rattle.unification.proofs.Limits.{work-16384}
 use Rattle.unification.proofs.Trees as trees
 use Rattle.derivation.specs.Derivation.{input, inputLiterals}
-use Rattle.verdict.specs.Cases.{recordOf, inputClause, nines, holding, Case, works, caseOf, caseLongest, caseTooLong, casesBefore, casesAfter, cases, StoredAsBytes, CasesHold}
+use Rattle.verdict.specs.Cases.{recordOf, inputClause, nines, holding, Case, works, caseOf, caseLongest, caseTooLong, cases, StoredAsBytes, CasesHold, caseA, caseB, caseC, caseD, caseE, caseF, caseG, caseGBad, caseH, caseI, caseJ, caseRepeats, caseSeveral, caseSides, caseInOrder, caseInSeason, caseOutOfSeason, caseTwice, caseRepeatedLiteral, caseK}
 use Rattle.verdict.specs.Edges.{answerTo, ranges, unusedFields, outlines, severalLiterals, indexEdge, literalEdge, workEdge, eights, EdgesHold, RoomsHold, FarRowHolds, WindowsHold, ShortTablesHold, TextsHold}
 use Rattle.verdict.specs.Readout.{linesOf, joinedLines, readout, readoutLines}
 use Rattle.verdict.specs.Refusal.{badLength, mostLiterals, mostIndex}
@@ -114,6 +114,14 @@ too-long-by = refl
 
 abbrev madeFrom : List Case → List Case
 madeFrom cs = map (λ c. caseBy (c .day) (c .file) ninesLengths) cs
+
+-- The cases before the two of the longest files, and those after them.
+abbrev casesBefore : List Case
+casesBefore = caseA ∷ caseB ∷ caseC ∷ []
+
+abbrev casesAfter : List Case
+casesAfter =
+    caseD ∷ caseE ∷ caseF ∷ caseG ∷ caseGBad ∷ caseH ∷ caseI ∷ caseJ ∷ caseRepeats ∷ caseSeveral ∷ caseSides ∷ caseInOrder ∷ caseInSeason ∷ caseOutOfSeason ∷ caseTwice ∷ caseRepeatedLiteral ∷ caseK ∷ []
 
 computed-before : madeFrom casesBefore ≡ casesBefore
 unfolding fileBytes recordBytes records ending require addClause clashWithin mostOutlinePairs run mostWork mostBindings mostLinks mostLiterals mostIndex

@@ -419,16 +419,10 @@ caseRepeatedLiteral = record {
   readout = lines ("open" ∷ "0 1 +s0(v0.1) +s0(v0.1)" ∷ "1 1 +s0(v0.1)" ∷ []);
 }
 
--- The table: the cases before the two of the longest files, these, and the cases after them.
-abbrev pub casesBefore : List Case
-casesBefore = caseA ∷ caseB ∷ caseC ∷ []
-
-abbrev pub casesAfter : List Case
-casesAfter =
-    caseD ∷ caseE ∷ caseF ∷ caseG ∷ caseGBad ∷ caseH ∷ caseI ∷ caseJ ∷ caseRepeats ∷ caseSeveral ∷ caseSides ∷ caseInOrder ∷ caseInSeason ∷ caseOutOfSeason ∷ caseTwice ∷ caseRepeatedLiteral ∷ caseK ∷ []
-
+-- The table: every case of the sheet, and those for the requests of document 02.
 abbrev pub cases : List Case
-cases = casesBefore ++ (caseLongest ∷ caseTooLong ∷ casesAfter)
+cases =
+    caseA ∷ caseB ∷ caseC ∷ caseLongest ∷ caseTooLong ∷ caseD ∷ caseE ∷ caseF ∷ caseG ∷ caseGBad ∷ caseH ∷ caseI ∷ caseJ ∷ caseRepeats ∷ caseSeveral ∷ caseSides ∷ caseInOrder ∷ caseInSeason ∷ caseOutOfSeason ∷ caseTwice ∷ caseRepeatedLiteral ∷ caseK ∷ []
 
 -- The definitions give what is written.
 abbrev pub CasesHold : Type 0

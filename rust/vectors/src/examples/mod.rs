@@ -12,6 +12,7 @@ pub mod kowalski;
 pub mod merges;
 pub mod outlines;
 pub mod refusals;
+mod refutations;
 pub mod repeats;
 pub mod resolution_rules;
 pub mod several;

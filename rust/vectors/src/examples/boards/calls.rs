@@ -1,7 +1,7 @@
 //! Calls, files and boards that are refused, with the reason in the name.
 
-use super::files::{opposites, refuted};
 use super::{each, Call, Script};
+use crate::examples::refutations::{opposites, refuted};
 use crate::examples::{cases, refusals};
 use crate::sketch::{app, neg, pos, Sketch};
 

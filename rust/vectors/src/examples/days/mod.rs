@@ -5,7 +5,7 @@ mod refusals;
 mod windows;
 
 use super::{cases, deep, Example};
-use crate::sketch::{app, neg, pos, Sketch};
+use crate::sketch::Sketch;
 
 /// All of them: windows and the days at their ends, windows superseded and clauses out of force, refused records, and old
 /// files on other days.
@@ -52,24 +52,4 @@ fn window_bytes(clause: u16, first: u16, last: u16) -> Vec<u8> {
     let mut file = Sketch::new();
     file.window(clause, first, last);
     file.finish()
-}
-
-/// +p and -p for each of so many symbols p: clauses 2 × k and 2 × k + 1.
-fn opposites(count: u16) -> Sketch {
-    let mut file = Sketch::new();
-    for _ in 0..count {
-        let p = file.symbol(0);
-        file.clause(&[pos(app(p, []))]);
-        file.clause(&[neg(app(p, []))]);
-    }
-    file
-}
-
-/// The same, with the empty clause made of each two.
-fn refuted(count: u16) -> Sketch {
-    let mut file = opposites(count);
-    for pair in 0..count {
-        file.resolve(2 * pair, 1, 2 * pair + 1, 1);
-    }
-    file
 }

@@ -3,8 +3,9 @@
 use yestrwyn_types::limits::RECORD_BYTES;
 use yestrwyn_types::record::{kind, Record};
 
-use super::{on_days, opposites, refuted, window_bytes, Example};
+use super::{on_days, window_bytes, Example};
 use crate::examples::cases::case_a;
+use crate::examples::refutations::{opposites, refuted};
 use crate::repeating::rows_twice;
 use crate::sketch::{app, neg, pos, var, Sketch};
 

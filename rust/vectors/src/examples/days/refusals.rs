@@ -4,7 +4,8 @@ use yestrwyn_types::record::kind::WINDOW;
 use yestrwyn_types::record::Record;
 
 use super::super::refusals::{unused_bytes_of, with};
-use super::{refuted, Example};
+use super::Example;
+use crate::examples::refutations::refuted;
 use crate::sketch::Sketch;
 
 /// All of them; the day alters none of the refusals.

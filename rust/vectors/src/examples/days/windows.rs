@@ -1,7 +1,8 @@
 //! Windows and the days at their ends, on which a file is accepted or open.
 
-use super::{on_days, opposites, refuted, Example};
-use crate::sketch::{app, neg, pos, var, Sketch};
+use super::{on_days, Example};
+use crate::examples::refutations::{factored, opposites, refuted, several, with_itself};
+use crate::sketch::{app, neg, pos, Sketch};
 
 /// All of them.
 pub fn examples() -> Vec<Example> {
@@ -55,41 +56,6 @@ fn uses() -> Vec<Example> {
         window("far-away", far_away(), 0),
     ];
     all.concat()
-}
-
-/// -p(x) +p(f(x)) with itself, then refuted with +p(a) and -p(f(f(a))).
-fn with_itself() -> Sketch {
-    let mut file = Sketch::new();
-    let [p, f, a] = [1, 1, 0].map(|arity| file.symbol(arity));
-    let f = |inner| app(f, [inner]);
-    let rule = file.clause(&[neg(app(p, [var(0)])), pos(app(p, [f(var(0))]))]);
-    let start = file.clause(&[pos(app(p, [app(a, [])]))]);
-    let goal = file.clause(&[neg(app(p, [f(f(app(a, [])))]))]);
-    let twice = file.resolve(rule, 2, rule, 1);
-    let reached = file.resolve(start, 1, twice, 1);
-    file.resolve(reached, 1, goal, 1);
-    file
-}
-
-/// +p(x) +p(y), factored and refuted with -p(a).
-fn factored() -> Sketch {
-    let mut file = Sketch::new();
-    let [p, a] = [1, 0].map(|arity| file.symbol(arity));
-    let either = file.clause(&[pos(app(p, [var(0)])), pos(app(p, [var(1)]))]);
-    let goal = file.clause(&[neg(app(p, [app(a, [])]))]);
-    let factor = file.factor(either, 1, 2);
-    file.resolve(factor, 1, goal, 1);
-    file
-}
-
-/// +p(x) and -p(y) -p(z), refuted in one step on two right literals.
-fn several() -> Sketch {
-    let mut file = Sketch::new();
-    let p = file.symbol(1);
-    let left = file.clause(&[pos(app(p, [var(0)]))]);
-    let right = file.clause(&[neg(app(p, [var(0)])), neg(app(p, [var(1)]))]);
-    file.resolve_several(left, 1, right, &[1, 2]);
-    file
 }
 
 /// +p0, then rules that lead from each symbol to the next, up to -p20.
