@@ -14,7 +14,7 @@ use Rattle.derivation.specs.Derivation.{Derivation, Use, uses}
 use Rattle.demands.specs.Days.{stepWithoutWindows, readWithoutWindows, readingWithoutWindows, everyClause, verdictWithoutDay, DaysOnlyChoose}
 use Rattle.demands.specs.Demands.{Reached}
 use Rattle.verdict.specs.Force.{allInForce, usesInForce}
-use Rattle.verdict.specs.Readout.{clauseLine, clauseLines, readoutLines}
+use Rattle.verdict.specs.Readout.{LineWriter, clauseLines, readoutLines}
 use Rattle.verdict.specs.Refusal.{Reason, badKind, badLength, shortTable}
 use Rattle.verdict.specs.State.{State, Window, emptyState, withWindow, entry, derivations, clauseOf}
 use Rattle.verdict.specs.Step.{stands, refused, Result, windowIn, enter, step, read, Ending, allStand, refusedAt}
@@ -68,23 +68,23 @@ every-clause day S e = ap (λ (test : Derivation → Bool). firstEmpty test (der
 window-step : (S T : State) (k : ℕ) (r : Record) → r .kind ≡ 8 → step S k r ≡ stands T → T ≡ withWindow S (windowIn r)
 window-step S T k r e q = sym (stands-same (sym (ap (λ (kind : Kind). enter S k kind r) (ap kindNumbered e)) ∙ step-stands S k r T q .1))
 
-pub clause-lines-length : (S : State) (cs : List Derivation) → length (clauseLines S cs) ≡ length cs
-clause-lines-length S [] = refl
-clause-lines-length S (c ∷ cs) = length-append (clauseLines S cs) (clauseLine S (length cs) c ∷ []) ∙ omega (arith, clause-lines-length S cs)
+pub clause-lines-length : (line : LineWriter) (S : State) (cs : List Derivation) → length (clauseLines line S cs) ≡ length cs
+clause-lines-length line S [] = refl
+clause-lines-length line S (c ∷ cs) = length-append (clauseLines line S cs) (line S (length cs) c ∷ []) ∙ omega (arith, clause-lines-length line S cs)
 
 -- The lines of the clauses, by number.
-pub clause-line-at : (S : State) (ds : List Derivation) (n : ℕ) (d : Derivation) → entry ds n ≡ some d → getD (clauseLines S ds) n [] ≡ clauseLine S n d
-clause-line-at S [] n d q = let z = entry-below [] n d q in absurd (omega arith)
-clause-line-at S (e ∷ ds) n d q = try (eqb n (length ds)) refl q (λ r. clause-line-at S ds n d r)
+pub clause-line-at : (line : LineWriter) (S : State) (ds : List Derivation) (n : ℕ) (d : Derivation) → entry ds n ≡ some d → getD (clauseLines line S ds) n [] ≡ line S n d
+clause-line-at line S [] n d q = let z = entry-below [] n d q in absurd (omega arith)
+clause-line-at line S (e ∷ ds) n d q = try (eqb n (length ds)) refl q (λ r. clause-line-at line S ds n d r)
   where
-    try : (b : Bool) → eqb n (length ds) ≡ b → pick b (some e) (entry ds n) ≡ some d → (entry ds n ≡ some d → getD (clauseLines S ds) n [] ≡ clauseLine S n d)
-        → getD (clauseLines S ds ++ (clauseLine S (length ds) e ∷ [])) n [] ≡ clauseLine S n d
+    try : (b : Bool) → eqb n (length ds) ≡ b → pick b (some e) (entry ds n) ≡ some d → (entry ds n ≡ some d → getD (clauseLines line S ds) n [] ≡ line S n d)
+        → getD (clauseLines line S ds ++ (line S (length ds) e ∷ [])) n [] ≡ line S n d
     try true p r ih =
-        let z : n ≡ length (clauseLines S ds) + 0 = omega (arith, equal n (length ds) p, clause-lines-length S ds) in
-        ap (λ (k : ℕ). getD (clauseLines S ds ++ (clauseLine S (length ds) e ∷ [])) k []) z
-        ∙ getD-append-add (clauseLines S ds) (clauseLine S (length ds) e ∷ []) 0 []
-        ∙ ap₂ (clauseLine S) (sym (equal n (length ds) p)) (some-injective r)
-    try false p r ih = List·getD-append (clauseLines S ds) (clauseLine S (length ds) e ∷ []) [] n (omega (arith, entry-below ds n d r, clause-lines-length S ds)) ∙ ih r
+        let z : n ≡ length (clauseLines line S ds) + 0 = omega (arith, equal n (length ds) p, clause-lines-length line S ds) in
+        ap (λ (k : ℕ). getD (clauseLines line S ds ++ (line S (length ds) e ∷ [])) k []) z
+        ∙ getD-append-add (clauseLines line S ds) (line S (length ds) e ∷ []) 0 []
+        ∙ ap₂ (line S) (sym (equal n (length ds) p)) (some-injective r)
+    try false p r ih = List·getD-append (clauseLines line S ds) (line S (length ds) e ∷ []) [] n (omega (arith, entry-below ds n d r, clause-lines-length line S ds)) ∙ ih r
 
 -- Where reading comes to no window, it is as it was, and leaves no window.
 abbrev NoWindow : State → ℕ → List Record → Type 0
@@ -144,18 +144,18 @@ module _ (file : List ℕ) (lengths : Lengths) where
           let st = read-whole file lengths S e in
           ap standing (every-clause day S (windows-stay emptyState 0 (records file) S (reached-none (st .fits) h) (st .reads)))
 
-  all-listed : (day : ℕ) → length (readoutLines day file lengths) ≡ 1 + check day file lengths .clauses
+  all-listed : (line : LineWriter) (day : ℕ) → length (readoutLines line day file lengths) ≡ 1 + check day file lengths .clauses
   unfolding check readoutLines
-  all-listed day =
+  all-listed line day =
       let S = stateGiven (reading file lengths) in
-      omega (arith, clause-lines-length S (derivations S), length-map (S .clauses) (λ (c : ℕ × Derivation). c .1))
+      omega (arith, clause-lines-length line S (derivations S), length-map (S .clauses) (λ (c : ℕ × Derivation). c .1))
 
-  listed : (day n : ℕ) (c : Derivation) → clauseOf (stateGiven (reading file lengths)) n ≡ some c → getD (readoutLines day file lengths) (1 + n) [] ≡ clauseLine (stateGiven (reading file lengths)) n c
+  listed : (line : LineWriter) (day n : ℕ) (c : Derivation) → clauseOf (stateGiven (reading file lengths)) n ≡ some c → getD (readoutLines line day file lengths) (1 + n) [] ≡ line (stateGiven (reading file lengths)) n c
   unfolding readoutLines
-  listed day n c q =
+  listed line day n c q =
       let S = stateGiven (reading file lengths) in
       let next : 1 + n ≡ suc n = omega arith in
-      ap (λ (k : ℕ). getD (readoutLines day file lengths) k []) next ∙ clause-line-at S (derivations S) n c q
+      ap (λ (k : ℕ). getD (readoutLines line day file lengths) k []) next ∙ clause-line-at line S (derivations S) n c q
 
   pub days-only-choose : DaysOnlyChoose file lengths
   unfolding check readoutLines
@@ -165,7 +165,7 @@ module _ (file : List ℕ) (lengths : Lengths) where
         (ap (λ (X : State). X .symbols) w, ap (λ (X : State). X .rows) w, ap (λ (X : State). X .clauses) w, ap (λ (X : State). X .total) w, λ t. ap (λ (X : State). filledTables X t) w);
     refusals = λ day other q k z. refused-alike day other (reading file lengths) q k z;
     counts = λ day other. counts-after (verdictGiven day (reading file lengths)) (verdictGiven other (reading file lengths)) (stateGiven (reading file lengths));
-    clauseLines = λ day other. refl;
+    clauseLines = λ line day other. refl;
     allListed = all-listed;
     listed = listed;
     readAlike = reading-alike;

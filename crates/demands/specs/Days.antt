@@ -10,7 +10,7 @@ use lib.ListN.{length, getD, drop}
 use Rattle.record.specs.Record.{pick, Record, records}
 use Rattle.derivation.specs.Derivation.{Derivation}
 use Rattle.demands.specs.Demands.{Reached}
-use Rattle.verdict.specs.Readout.{clauseLine, readoutLines}
+use Rattle.verdict.specs.Readout.{LineWriter, readoutLines}
 use Rattle.verdict.specs.Refusal.{Reason, badKind, badLength, shortTable}
 use Rattle.verdict.specs.State.{State, emptyState, derivations, clauseOf}
 use Rattle.verdict.specs.Step.{stands, refused, Result, step, Ending, allStand, refusedAt}
@@ -51,13 +51,13 @@ pub record DaysOnlyChoose (file : List ℕ) (lengths : Lengths) : Type 0 where
       → (T .symbols ≡ S .symbols) × (T .rows ≡ S .rows) × (T .clauses ≡ S .clauses) × (T .total ≡ S .total) × ((t : Tables) → filledTables T t ≡ filledTables S t)
   -- Refusals do not depend on the day,
   pub refusals : (day other : ℕ) (reason : Reason) (k : ℕ) → check day file lengths .verdict ≡ refusal reason k → check other file lengths .verdict ≡ refusal reason k
-  -- nor do the four counts. On every day all clauses are listed: line 1 + n of the readout is that of clause n, and there are no more lines;
+  -- nor do the four counts. On every day all clauses are listed, however a readout writes a line: line 1 + n is that of clause n, and there are no more lines;
   pub counts : (day other : ℕ) → drop 3 (answerNumbers (check day file lengths)) ≡ drop 3 (answerNumbers (check other file lengths))
-  pub listed : (day n : ℕ) (c : Derivation) → clauseOf (stateGiven (reading file lengths)) n ≡ some c
-      → getD (readoutLines day file lengths) (1 + n) [] ≡ clauseLine (stateGiven (reading file lengths)) n c
-  pub allListed : (day : ℕ) → length (readoutLines day file lengths) ≡ 1 + check day file lengths .clauses
+  pub listed : (line : LineWriter) (day n : ℕ) (c : Derivation) → clauseOf (stateGiven (reading file lengths)) n ≡ some c
+      → getD (readoutLines line day file lengths) (1 + n) [] ≡ line (stateGiven (reading file lengths)) n c
+  pub allListed : (line : LineWriter) (day : ℕ) → length (readoutLines line day file lengths) ≡ 1 + check day file lengths .clauses
   -- so that the lines after the first do not depend on the day.
-  pub clauseLines : (day other : ℕ) → drop 1 (readoutLines day file lengths) ≡ drop 1 (readoutLines other file lengths)
+  pub clauseLines : (line : LineWriter) (day other : ℕ) → drop 1 (readoutLines line day file lengths) ≡ drop 1 (readoutLines line other file lengths)
   -- A file in which reading comes to no record of kind 8 is read as it was, and gets on every day the verdict that it got: and with these the answer,
   -- the tables and the readout.
   pub readAlike : ((k : ℕ) (S : State) (r : Record) → Reached file k S r → ¬ (r .kind ≡ 8)) → reading file lengths ≡ readingWithoutWindows file lengths

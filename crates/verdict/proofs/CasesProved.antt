@@ -17,7 +17,7 @@ use Rattle.unification.proofs.Trees as trees
 use Rattle.derivation.specs.Derivation.{input, inputLiterals}
 use Rattle.verdict.specs.Cases.{recordOf, inputClause, nines, holding, Case, works, caseOf, caseLongest, caseTooLong, cases, StoredAsBytes, CasesHold, caseA, caseB, caseC, caseD, caseE, caseF, caseG, caseGBad, caseH, caseI, caseJ, caseRepeats, caseSeveral, caseSides, caseInOrder, caseInSeason, caseOutOfSeason, caseTwice, caseRepeatedLiteral, caseK}
 use Rattle.verdict.specs.Edges.{answerTo, ranges, unusedFields, outlines, severalLiterals, indexEdge, literalEdge, workEdge, eights, EdgesHold, RoomsHold, FarRowHolds, WindowsHold, ShortTablesHold, TextsHold}
-use Rattle.verdict.specs.Readout.{linesOf, joinedLines, readout, readoutLines}
+use Rattle.verdict.specs.Readout.{clauseLine, linesOf, joinedLines, readout, readoutLines}
 use Rattle.verdict.specs.Refusal.{badLength, mostLiterals, mostIndex}
 use Rattle.verdict.specs.State.{State, emptyState, derivations}
 use Rattle.verdict.specs.Step.{Ending, allStand, refusedAt, require, requireAll, enter, onNamed, step, read, addClause, stateOf}
@@ -73,7 +73,7 @@ caseFrom day file r work = record {
   answer = answerNumbers (answerOf (verdictGiven day r) (stateGiven r));
   tables = tablesOf r;
   work = work;
-  readout = joinedLines (linesOf (verdictGiven day r) (stateGiven r));
+  readout = joinedLines (linesOf clauseLine (verdictGiven day r) (stateGiven r));
 }
 
 abbrev caseBy : ℕ → List ℕ → Lengths → Case

@@ -16,7 +16,7 @@ use Rattle.verdict.specs.Refusal.{reasonNumber}
 use Rattle.verdict.specs.State.{State, emptyState, withRow}
 use Rattle.verdict.specs.Step.{stands, refused, Result, step}
 use Rattle.verdict.specs.Tables.{Tables, lengthsOf, rowCells, tablesAfter}
-use Rattle.verdict.specs.Text.{decimal, signText, termText, literalText}
+use Rattle.verdict.specs.Text.{decimal, numberAndIndex, signText, termText, literalText}
 use Rattle.verdict.specs.Verdict.{check, answerNumbers, leastLengths}
 
 -- Records, and the seven numbers of the answer to the file that they make: 0 open, 1 accepted, 2 refused; clause or reason; record; the
@@ -255,5 +255,5 @@ oneVariable r = variable 0
 
 pub record TextsHold : Type 0 where
   pub digits : map decimal (0 ∷ 9 ∷ 10 ∷ 65535 ∷ []) ≡ map textBytes ("0" ∷ "9" ∷ "10" ∷ "65535" ∷ [])
-  pub occurrences64 : literalText oneVariable (true, nested 63) ≡ signText true ∷ termText oneVariable (nested 63)
-  pub occurrences65 : literalText oneVariable (true, nested 64) ≡ textBytes "+~"
+  pub occurrences64 : literalText (numberAndIndex oneVariable) (true, nested 63) ≡ signText true ∷ termText (numberAndIndex oneVariable) (nested 63)
+  pub occurrences65 : literalText (numberAndIndex oneVariable) (true, nested 64) ≡ textBytes "+~"

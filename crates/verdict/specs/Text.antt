@@ -6,7 +6,6 @@ use lib.Dec.{leb, ltb}
 use Rattle.record.specs.Record.{pick}
 use Rattle.unification.specs.Row.{variable, Row, application, Variable}
 use Rattle.unification.specs.Term.{Term, Terms, var, app, nil, cons, occurrences}
-use Rattle.derivation.specs.Written.{Clause}
 
 -- A number in decimal; five digits are enough for 16 bits.
 abbrev pub digits : ℕ → ℕ → List ℕ → List ℕ
@@ -26,25 +25,29 @@ abbrev pub signText : Bool → ℕ
 signText true = 43
 signText false = 45
 
--- A term: `v`, number, dot and index; or `s`, number, and arguments in parentheses, with commas and no blanks.
-module _ (row : ℕ → Row) where
+-- How the readout names a variable: its number, a dot and its index.
+abbrev pub numberAndIndex : (ℕ → Row) → Variable → List ℕ
+numberAndIndex row x = decimal (variableNumber (row (x .0))) ++ (46 ∷ decimal (x .1))
+
+-- A term, over how variables are named: `v` and the variable's name; or `s`, number, and arguments in parentheses, with commas and no blanks.
+module _ {X : Type 0} (name : X → List ℕ) where
   abbrev mutual
-    pub termText : Term Variable → List ℕ
-    termText (var x) = 118 ∷ (decimal (variableNumber (row (x .0))) ++ (46 ∷ decimal (x .1)))
+    pub termText : Term X → List ℕ
+    termText (var x) = 118 ∷ name x
     termText (app s ts) = 115 ∷ (decimal s ++ argumentsText ts)
 
-    pub argumentsText : Terms Variable → List ℕ
+    pub argumentsText : Terms X → List ℕ
     argumentsText nil = []
     argumentsText (cons t ts) = 40 ∷ (termText t ++ furtherText ts)
 
-    pub furtherText : Terms Variable → List ℕ
+    pub furtherText : Terms X → List ℕ
     furtherText nil = 41 ∷ []
     furtherText (cons t ts) = 44 ∷ (termText t ++ furtherText ts)
 
   -- A literal's text is defined on its value: its sign, and its atom; or `~` for one with more than 64 occurrences.
-  abbrev pub literalText : Bool × Term Variable → List ℕ
+  abbrev pub literalText : Bool × Term X → List ℕ
   literalText l = signText (l .0) ∷ pick (leb (occurrences (l .1)) 64) (termText (l .1)) (126 ∷ [])
 
-  abbrev pub literalsText : Clause → List ℕ
+  abbrev pub literalsText : List (Bool × Term X) → List ℕ
   literalsText [] = []
   literalsText (l ∷ ls) = 32 ∷ (literalText l ++ literalsText ls)

@@ -1,0 +1,90 @@
+-- Document 02, Q-10: two clauses with the same literals in the same order, up to a one-to-one renaming of variables, print the same literals, and any two
+-- that print the same without `~` are so related.
+use mathlib.Core.Path.{_≡_}
+use mathlib.Core.Bool.{Bool, true, false}
+use mathlib.Core.Option.{some}
+use mathlib.Core.Logic.{_⊎_}
+use mathlib.Core.List.{List, [], _∷_, map}
+use Prim.Native.Nat.{ℕ, _<_}
+use lib.Dec.{eqb}
+use Rattle.record.specs.Record.{pick}
+use Rattle.unification.specs.Row.{Variable}
+use Rattle.unification.specs.Term.{Term, Terms, var, app, nil, cons, apply}
+use Rattle.derivation.specs.Derivation.{Derivation}
+use Rattle.derivation.specs.Written.{Clause, written}
+use Rattle.verdict.specs.State.{State, clauseOf, rowOf, termOf}
+use Rattle.verdict.specs.Text.{decimal, numberAndIndex, termText, literalsText}
+use Rattle.verdict.specs.Verdict.{Lengths, reading, stateGiven}
+use Rattle.appearance.specs.Appearance.{canonicalText}
+
+-- ── Renaming, on terms written out ──
+
+-- The variable occurs in a term, in one of several, in a literal of a clause.
+abbrev mutual
+  pub OccursIn : Variable → Term Variable → Type 0
+  OccursIn x (var y) = x ≡ y
+  OccursIn x (app s ts) = OccursInSome x ts
+
+  pub OccursInSome : Variable → Terms Variable → Type 0
+  OccursInSome x nil = ⊥
+  OccursInSome x (cons t ts) = OccursIn x t ⊎ OccursInSome x ts
+
+abbrev pub OccursInClause : Variable → Clause → Type 0
+OccursInClause x [] = ⊥
+OccursInClause x (l ∷ ls) = OccursIn x (l .1) ⊎ OccursInClause x ls
+
+-- A literal with its variables renamed.
+abbrev pub renamedLiteral : (Variable → Variable) → Bool × Term Variable → Bool × Term Variable
+renamedLiteral f l = (l .0, apply (λ x. var (f x)) (l .1))
+
+-- The same literals in the same order up to a renaming that is one-to-one on the clause's variables.
+pub record SameUpToRenaming (ls ms : Clause) : Type 0 where
+  pub renaming : Variable → Variable
+  pub oneToOne : (x y : Variable) → OccursInClause x ls → OccursInClause y ls → renaming x ≡ renaming y → x ≡ y
+  pub same : map (renamedLiteral renaming) ls ≡ ms
+
+-- ── Texts ──
+
+-- The byte is in a text: 126 is `~`.
+abbrev pub contains : ℕ → List ℕ → Bool
+contains b [] = false
+contains b (c ∷ cs) = pick (eqb c b) true (contains b cs)
+
+-- Every number in a term, of a symbol or a variable, has at most five digits.
+abbrev mutual
+  pub FiveDigits : Term ℕ → Type 0
+  FiveDigits (var n) = n < 100000
+  FiveDigits (app s ts) = (s < 100000) × AllFiveDigits ts
+
+  pub AllFiveDigits : Terms ℕ → Type 0
+  AllFiveDigits nil = Unit {0}
+  AllFiveDigits (cons t ts) = FiveDigits t × AllFiveDigits ts
+
+abbrev pub FiveDigitLiterals : List (Bool × Term ℕ) → Type 0
+FiveDigitLiterals [] = Unit {0}
+FiveDigitLiterals (l ∷ ls) = FiveDigits (l .1) × FiveDigitLiterals ls
+
+-- A text can be read back in one way only: terms with numbers for variables, and lists of literals without `~`, that have the same text are the same.
+pub record ReadInOneWay : Type 0 where
+  pub term : (t u : Term ℕ) → FiveDigits t → FiveDigits u → termText decimal t ≡ termText decimal u → t ≡ u
+  pub clause : (ls ms : List (Bool × Term ℕ)) → FiveDigitLiterals ls → FiveDigitLiterals ms → literalsText decimal ls ≡ literalsText decimal ms
+      → contains 126 (literalsText decimal ls) ≡ false → ls ≡ ms
+
+-- ── What is shown ──
+
+-- Clause c is one that a readout of the file lists, and ls are its literals.
+pub record Listed (file : List ℕ) (lengths : Lengths) (ls : Clause) : Type 0 where
+  pub number : ℕ
+  pub clause : Derivation
+  pub isClause : clauseOf (stateGiven (reading file lengths)) number ≡ some clause
+  pub isWritten : written (termOf (stateGiven (reading file lengths))) clause ≡ ls
+
+-- Two clauses, of one file or of two.
+pub record SameClauseSameLine : Type 0 where
+  pub sameText : (ls ms : Clause) → SameUpToRenaming ls ms → canonicalText ls ≡ canonicalText ms
+  pub related : (file other : List ℕ) (lengths otherLengths : Lengths) (ls ms : Clause) → Listed file lengths ls → Listed other otherLengths ms
+      → canonicalText ls ≡ canonicalText ms → contains 126 (canonicalText ls) ≡ false → SameUpToRenaming ls ms
+  pub readInOneWay : ReadInOneWay
+  -- Variables of a clause are told apart as the first readout tells them apart, by number and index: no variable of a clause gets two numbers because two rows declare it.
+  pub oneVariable : (file : List ℕ) (lengths : Lengths) (ls : Clause) → Listed file lengths ls → (x y : Variable) → OccursInClause x ls → OccursInClause y ls
+      → numberAndIndex (rowOf (stateGiven (reading file lengths))) x ≡ numberAndIndex (rowOf (stateGiven (reading file lengths))) y → x ≡ y
