@@ -2,7 +2,7 @@
 use mathlib.Core.Path.{_≡_, refl, sym, ap, _∙_, subst}
 use mathlib.Core.Option.{Option, none, some}
 use mathlib.Core.List.{List, _∷_, _++_}
-use Prim.Native.Nat.{ℕ, zero, suc, _-_, _<_}
+use Prim.Native.Nat.{ℕ, zero, suc, _+_, _-_, _≤_, _<_}
 use native.Mathlib.Omega.{arith}
 use lib.ListN.{length}
 use Rattle.unification.specs.Environment.{follow, Environment, unbound, link, View, applied, viewVariable, viewRow, onward}
@@ -12,11 +12,16 @@ use Rattle.unification.specs.Term.{Term, var, app, occurrences, allOccurrences}
 use Rattle.unification.specs.Unification.{mostLinks}
 use Rattle.unification.specs.ValueArray.{InStep, Models}
 use Rattle.following.specs.Walks.{viewOf, Followable, Walked, Follows}
-use Rattle.following.proofs.Halving.{walked-app}
+use Rattle.following.proofs.Halving.{walked-app, walked-var}
 use Rattle.unification.proofs.Meaning.{writtenView, expressionOf, Ended, written-follow, follow-ends}
 use Rattle.following.specs.declared.follow.Followed.{Followed}
 use Rattle.following.specs.declared.follow.Followed.the-variants.{Variable, Application}
 use Rattle.verdict.specs.Text.{decimal, variableNumber, termText, argumentsText}
+use Rattle.appearance.specs.Appearance.{appearing, allAppearing}
+use Rattle.numbering.specs.Numbering.{nameOf}
+use Rattle.numbering.specs.declared.Naming.{Naming}
+use Rattle.names.specs.Names.{NameReady, WritesName}
+use Rattle.names.specs.declared.Place.{Place}
 use Rattle.text.specs.Buffer.{Wrote}
 use Rattle.terms.specs.Writing.{Writable, WritingReady, WritingArgumentsReady, Came, Writing, WritesTerm, argumentsOut, WritesArguments, FewerOccurrencesLeft, NoMoreOccurrencesLeft}
 use Rattle.terms.specs.declared.Written.{Written}
@@ -67,62 +72,83 @@ some-occurrence : (t : Term Var) → 0 < occurrences t
 some-occurrence (var x) = omega arith
 some-occurrence (app s ts) = omega arith
 
-pub leaves-less : (left l : ℕ) (w : Written) → l < left → NoMoreOccurrencesLeft l w → FewerOccurrencesLeft left w
-leaves-less left l (Done end m) h k = omega arith
-leaves-less left l TooMany h k = tt
+pub leaves-less : (left l count : ℕ) (w : Written) → l < left → NoMoreOccurrencesLeft l count w → FewerOccurrencesLeft left count w
+leaves-less left l count (Done end m c) h k = (omega (arith, k .0), omega (arith, k .1))
+leaves-less left l count TooMany h k = tt
 
-pub done-less : {left end l : ℕ} {w : Written} → w ≡ Done end l → FewerOccurrencesLeft left w → l < left
-done-less {left} q h = subst (FewerOccurrencesLeft left) q h
+pub done-less : (left count : ℕ) {end l c : ℕ} {w : Written} → w ≡ Done end l c → FewerOccurrencesLeft left count w → (l < left) × (c + l ≤ count + left)
+done-less left count q h = subst (FewerOccurrencesLeft left count) q h
 
 -- An application is written by its symbol and then its arguments.
-came-application : (T T₁ T₂ : List ℕ) (at next left : ℕ) (x y : List ℕ) (count : ℕ) (w : Written) → (left ≡ 0 → ⊥) → Wrote T T₁ at next x → Came T₁ T₂ next (left - 1) y count w → Came T T₂ at left (x ++ y) (suc count) w
-came-application T T₁ T₂ at next left x y count (Done end l) nz v c = (omega (arith, c .0), wrote-then T T₁ T₂ at next end x y v (c .1))
-came-application T T₁ T₂ at next left x y count TooMany nz v c = (omega (arith, c .0), kept-then T T₁ T₂ at next (wrote-onward v) (v .kept) (c .1))
+came-application : (naming : Naming) (N : List ℕ) (row : ℕ → Row) (T T₁ T₂ K L : List ℕ) (count at next left : ℕ) (x : List ℕ) (y : (Var → List ℕ) → List ℕ) (size : ℕ) (seen after : List Var) (w : Written) → (left ≡ 0 → ⊥) → Wrote T T₁ at next x
+    → Came naming N row T₁ T₂ K L count next (left - 1) y size seen after w → Came naming N row T T₂ K L count at left (λ name. x ++ y name) (suc size) seen after w
+came-application naming N row T T₁ T₂ K L count at next left x y size seen after (Done end l c) nz v g = (omega (arith, g .0), g .1, λ all W. wrote-then T T₁ T₂ at next end x (y (nameOf naming row all)) v (g .2 all W))
+came-application naming N row T T₁ T₂ K L count at next left x y size seen after TooMany nz v g = (omega (arith, g .0), g .1, kept-then T T₁ T₂ at next (wrote-onward v) (v .kept) (g .2))
 
 -- The ways out of writing a term.
-module _ (N A T : List ℕ) (at : ℕ) (e : Expression) (left : ℕ) where
-  pub term-too-many : left ≡ 0 → WritesTerm N A A T T at e left TooMany
-  term-too-many z top ρ row term σ W = record { models = W .models; came = (omega (arith, some-occurrence (writtenOut term σ e)), kept-same T at) }
+module _ (naming : Naming) (N A T K L : List ℕ) (count at : ℕ) (e : Expression) (left : ℕ) where
+  pub term-too-many : left ≡ 0 → WritesTerm naming N A A T T K K L L count at e left TooMany
+  term-too-many z top ρ row term σ W seen G = record { models = W .models; came = (omega (arith, some-occurrence (writtenOut term σ e)), G, kept-same T at) }
 
   module _ (nz : left ≡ 0 → ⊥) (A′ : List ℕ) (f : Followed) (F : Follows N A A′ e f) where
-    pub term-variable : (r k : ℕ) → f ≡ Variable r k → (number : ℕ) → number ≡ part N r 0 → (T′ : List ℕ) (end : ℕ) → Wrote T T′ at end (118 ∷ (decimal number ++ (46 ∷ decimal k))) → WritesTerm N A A′ T T′ at e left (Done end (left - 1))
-    term-variable r k q number p T′ end v top ρ row term σ W =
-        let K : Walked N top A′ ρ e (Variable r k) = subst (Walked N top A′ ρ e) q (F top ρ (W .models) (W .inStep)) in
-        let z = written-variable N top A A′ ρ row term σ e W r k K in
-        let number-is : number ≡ variableNumber (row r) = p ∙ sym (z .1) in
-        subst (λ (t : Term Var). Writing N top A′ ρ T T′ at left (termText row t) (occurrences t) (Done end (left - 1))) (sym (z .0))
-        (record { models = K .models; came = (omega arith, subst (λ (m : ℕ). Wrote T T′ at end (118 ∷ (decimal m ++ (46 ∷ decimal k)))) number-is v) })
+    pub term-variable : (r k : ℕ) → f ≡ Variable r k → (T′ K′ L′ : List ℕ) (p : Place) → WritesName naming N T T′ at K K′ L L′ count (r, k) p → WritesTerm naming N A A′ T T′ K K′ L L′ count at e left (Done (p .end) (left - 1) (p .count))
+    term-variable r k q T′ K′ L′ p named top ρ row term σ W seen G =
+        let X : Walked N top A′ ρ e (Variable r k) = subst (Walked N top A′ ρ e) q (F top ρ (W .models) (W .inStep)) in
+        let z = written-variable N top A A′ ρ row term σ e W r k X in
+        subst (λ (t : Term Var). Writing naming N top A′ ρ row T T′ K′ L′ count at left (λ name. termText name t) (occurrences t) seen (appearing seen t) (Done (p .end) (left - 1) (p .count))) (sym (z .0))
+        (record { models = X .models; came = (omega arith, named .numbered seen G, λ all H. named .wrote row (z .1) seen G all H) })
 
     pub term-application : (r k : ℕ) → f ≡ Application r k → (symbol : ℕ) → symbol ≡ part N r 0 → (T₁ : List ℕ) (next : ℕ) → Wrote T T₁ at next (115 ∷ decimal symbol)
-        → (A″ T₂ : List ℕ) (w : Written) → WritesArguments N A′ A″ T₁ T₂ next r k (left - 1) w → WritesTerm N A A″ T T₂ at e left w
-    term-application r k q symbol p T₁ next v A″ T₂ w G top ρ row term σ W =
-        let K : Walked N top A′ ρ e (Application r k) = subst (Walked N top A′ ρ e) q (F top ρ (W .models) (W .inStep)) in
-        let z = written-application N top A A′ ρ row term σ e W r k K in
-        let R = G top ρ row term σ (writable-at N top A A′ ρ row term σ e (r, k) W (K .models) (K .good)) (walked-app N top A′ ρ e r k K) in
+        → (A″ T₂ K′ L′ : List ℕ) (w : Written) → WritesArguments naming N A′ A″ T₁ T₂ K K′ L L′ count next r k (left - 1) w → WritesTerm naming N A A″ T T₂ K K′ L L′ count at e left w
+    term-application r k q symbol p T₁ next v A″ T₂ K′ L′ w H top ρ row term σ W seen G =
+        let X : Walked N top A′ ρ e (Application r k) = subst (Walked N top A′ ρ e) q (F top ρ (W .models) (W .inStep)) in
+        let z = written-application N top A A′ ρ row term σ e W r k X in
+        let ts = argumentsOut N term σ r k (nodeArity N r) 1 in
+        let R = H top ρ row term σ (writable-at N top A A′ ρ row term σ e (r, k) W (X .models) (X .good)) (walked-app N top A′ ρ e r k X) seen G in
         let symbol-text : Wrote T T₁ at next (115 ∷ decimal (part N r 0)) = subst (λ (m : ℕ). Wrote T T₁ at next (115 ∷ decimal m)) p v in
-        subst (λ (t : Term Var). Writing N top A″ ρ T T₂ at left (termText row t) (occurrences t) w) (sym z)
-        (record { models = R .models; came = came-application T T₁ T₂ at next left (115 ∷ decimal (part N r 0)) (argumentsText row (argumentsOut N term σ r k (nodeArity N r) 1)) (allOccurrences (argumentsOut N term σ r k (nodeArity N r) 1)) w nz symbol-text (R .came) })
+        subst (λ (t : Term Var). Writing naming N top A″ ρ row T T₂ K′ L′ count at left (λ name. termText name t) (occurrences t) seen (appearing seen t) w) (sym z)
+        (record { models = R .models; came = came-application naming N row T T₁ T₂ K′ L′ count at next left (115 ∷ decimal (part N r 0)) (λ name. argumentsText name ts) (allOccurrences ts) seen (allAppearing seen ts) w nz symbol-text (R .came) })
 
 -- What a call asks, from what the caller was asked and what the calls before it ensured.
-pub followable : {N A T : List ℕ} {e : Expression} → WritingReady N A T e → Followable N A e
+pub followable : {naming : Naming} {N A T K L : List ℕ} {count : ℕ} {e : Expression} {left : ℕ} → WritingReady naming N A T K L count e left → Followable N A e
 followable R = record { nodes = R .sized .nodes; top = R .top; environment = R .environment; models = R .writable .models; inStep = R .writable .inStep }
 
-pub ready-then : {N A T : List ℕ} {e : Expression} → WritingReady N A T e → (T′ : List ℕ) → length T′ ≡ length T → WritingReady N A T′ e
+pub ready-then : {naming : Naming} {N A T K L : List ℕ} {count : ℕ} {e : Expression} {left : ℕ} → WritingReady naming N A T K L count e left → (T′ : List ℕ) → length T′ ≡ length T → WritingReady naming N A T′ K L count e left
 ready-then R T′ q =
-    record { sized = record { nodes = R .sized .nodes; values = R .sized .values; text = q ∙ R .sized .text }; top = R .top; environment = R .environment; row = R .row; term = R .term; value = R .value; writable = R .writable }
+    record { sized = record { nodes = R .sized .nodes; values = R .sized .values; text = q ∙ R .sized .text }; top = R .top; environment = R .environment; row = R .row; term = R .term; value = R .value; writable = R .writable; seen = R .seen; numbered = R .numbered; room = R .room }
 
-pub arguments-ready : {N A T : List ℕ} {e : Expression} → WritingReady N A T e → (A′ T′ : List ℕ) → length T′ ≡ length T → (f : Followed) → Follows N A A′ e f → (r k : ℕ) → f ≡ Application r k → WritingArgumentsReady N A′ T′ r k
-arguments-ready {N} {A} {T} {e} R A′ T′ q f F r k p =
-    let K : Walked N (R .top) A′ (R .environment) e (Application r k) = subst (Walked N (R .top) A′ (R .environment) e) p (F (R .top) (R .environment) (R .writable .models) (R .writable .inStep)) in
+pub name-ready : {naming : Naming} {N A T K L : List ℕ} {count : ℕ} {e : Expression} {left : ℕ} → WritingReady naming N A T K L count e left → (left ≡ 0 → ⊥) → (A′ : List ℕ) (f : Followed) → Follows N A A′ e f → (r k : ℕ) → f ≡ Variable r k → NameReady naming N T K L count (r, k)
+name-ready {N = N} {A} {e = e} {left} R nz A′ f F r k p =
+    let X : Walked N (R .top) A′ (R .environment) e (Variable r k) = subst (Walked N (R .top) A′ (R .environment) e) p (F (R .top) (R .environment) (R .writable .models) (R .writable .inStep)) in
+    record {
+      nodes = R .sized .nodes;
+      text = R .sized .text;
+      table = R .writable .models .table;
+      numberable = record { row = X .good .row; variable = walked-var N (R .top) A′ (R .environment) e r k X .0; index = omega (arith, X .good .high, R .writable .models .fits) };
+      seen = R .seen;
+      numbered = R .numbered;
+      room = positive left nz (R .room);
+    }
+  where
+    positive : (l : ℕ) {c : ℕ} → (l ≡ 0 → ⊥) → c + l ≤ 8192 → c < 8192
+    positive zero h k = absurd (h refl)
+    positive (suc l) h k = omega arith
+
+pub arguments-ready : {naming : Naming} {N A T K L : List ℕ} {count : ℕ} {e : Expression} {left : ℕ} → WritingReady naming N A T K L count e left → (A′ T′ : List ℕ) → length T′ ≡ length T → (f : Followed) → Follows N A A′ e f → (r k : ℕ) → f ≡ Application r k → WritingArgumentsReady naming N A′ T′ K L count r k (left - 1)
+arguments-ready {N = N} {A} {e = e} R A′ T′ q f F r k p =
+    let X : Walked N (R .top) A′ (R .environment) e (Application r k) = subst (Walked N (R .top) A′ (R .environment) e) p (F (R .top) (R .environment) (R .writable .models) (R .writable .inStep)) in
     record {
       whole = record {
-        sized = record { nodes = R .sized .nodes; values = K .models .room; text = q ∙ R .sized .text };
+        sized = record { nodes = R .sized .nodes; values = X .models .room; text = q ∙ R .sized .text };
         top = R .top;
         environment = R .environment;
         row = R .row;
         term = R .term;
         value = R .value;
-        writable = writable-at N (R .top) A A′ (R .environment) (R .row) (R .term) (R .value) e (r, k) (R .writable) (K .models) (K .good);
+        writable = writable-at N (R .top) A A′ (R .environment) (R .row) (R .term) (R .value) e (r, k) (R .writable) (X .models) (X .good);
+        seen = R .seen;
+        numbered = R .numbered;
+        room = omega (arith, R .room);
       };
-      application = walked-app N (R .top) A′ (R .environment) e r k K;
+      application = walked-app N (R .top) A′ (R .environment) e r k X;
     }

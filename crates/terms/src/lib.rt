@@ -1,23 +1,24 @@
 // A term written out, with the occurrences that may be written counted down: a term that has more is broken off.
-// `Text` of the crate verdict has what its text is; `Writing` in specs/ says how the parts of this program go about it.
+// `Text` of the crate verdict has what its text is, over how variables are named; `Writing` in specs/ says how the parts of this program go about it.
 use following::follow::Followed;
 use following::follow::follow;
 use following::nodes::Nodes;
 use following::nodes::arity_of;
 use following::nodes::part_of;
 use following::values::ValueCells;
+use names::put_name;
+use numbering::Naming;
 use text::TextBuffer;
 use text::put_byte;
 use text::put_symbol;
-use text::put_variable;
 ghost use mathlib.Core.Path.{_≡_};
 ghost use lib.ListN.{length};
 ghost use Rattle.text.specs.Buffer.{Wrote};
 ghost use Rattle.terms.specs.Writing.{Sized, markBefore, closingText, WritingReady, WritingArgumentsReady, WritesTerm, WritesArguments, FewerOccurrencesLeft, NoMoreOccurrencesLeft};
 
-// The position after the term, and how many occurrences may still be written; or there are too many.
+// The position after the term, how many occurrences may still be written, and how many variables of the line have numbers; or there are too many.
 pub enum Written {
-    Done(usize, u16),
+    Done(usize, u16, u16),
     TooMany,
 }
 
@@ -45,12 +46,16 @@ pub fn write_term(
     values: &mut ValueCells,
     text: &mut TextBuffer,
     at: usize,
+    naming: Naming,
+    cells: &mut [u16],
+    order: &mut [u32],
+    count: u16,
     row: u16,
     index: u16,
     left: u16,
 ) -> Written
-    requires { ⌜ WritingReady (now nodes) (now values) (now text) (row, index) ⌝ }
-    ensures { λ w. ⌜ WritesTerm (now (nodes .entry)) (now (values .entry)) (now (values .exit)) (now (text .entry)) (now (text .exit)) at (row, index) left w × FewerOccurrencesLeft left w × Sized (now (nodes .entry)) (now (values .exit)) (now (text .exit)) ⌝ }
+    requires { ⌜ WritingReady naming (now nodes) (now values) (now text) (now cells) (now order) count (row, index) left ⌝ }
+    ensures { λ w. ⌜ WritesTerm naming (now (nodes .entry)) (now (values .entry)) (now (values .exit)) (now (text .entry)) (now (text .exit)) (now (cells .entry)) (now (cells .exit)) (now (order .entry)) (now (order .exit)) count at (row, index) left w × FewerOccurrencesLeft left count w × Sized (now (nodes .entry)) (now (values .exit)) (now (text .exit)) ⌝ }
 {
     if left == 0 {
         return Written::TooMany;
@@ -58,14 +63,25 @@ pub fn write_term(
     let x = follow(nodes, values, row, index);
     match x {
         Followed::Variable(r, k) => {
-            let number = part_of(nodes, r, 0);
-            let end = put_variable(text, at, number, k);
-            Written::Done(end, left - 1)
+            let name = put_name(nodes, text, at, naming, cells, order, count, r, k);
+            Written::Done(name.end, left - 1, name.count)
         }
         Followed::Application(r, k) => {
             let symbol = part_of(nodes, r, 0);
             let next = put_symbol(text, at, symbol);
-            write_arguments(nodes, values, text, next, r, k, left - 1)
+            write_arguments(
+                nodes,
+                values,
+                text,
+                next,
+                naming,
+                cells,
+                order,
+                count,
+                r,
+                k,
+                left - 1,
+            )
         }
     }
 }
@@ -77,25 +93,33 @@ fn write_arguments(
     values: &mut ValueCells,
     text: &mut TextBuffer,
     at: usize,
+    naming: Naming,
+    cells: &mut [u16],
+    order: &mut [u32],
+    count: u16,
     r: u16,
     k: u16,
     left: u16,
 ) -> Written
-    requires { ⌜ WritingArgumentsReady (now nodes) (now values) (now text) r k ⌝ }
-    ensures { λ w. ⌜ WritesArguments (now (nodes .entry)) (now (values .entry)) (now (values .exit)) (now (text .entry)) (now (text .exit)) at r k left w × NoMoreOccurrencesLeft left w × Sized (now (nodes .entry)) (now (values .exit)) (now (text .exit)) ⌝ }
+    requires { ⌜ WritingArgumentsReady naming (now nodes) (now values) (now text) (now cells) (now order) count r k left ⌝ }
+    ensures { λ w. ⌜ WritesArguments naming (now (nodes .entry)) (now (values .entry)) (now (values .exit)) (now (text .entry)) (now (text .exit)) (now (cells .entry)) (now (cells .exit)) (now (order .entry)) (now (order .exit)) count at r k left w × NoMoreOccurrencesLeft left count w × Sized (now (nodes .entry)) (now (values .exit)) (now (text .exit)) ⌝ }
 {
     let mut end = at;
     let mut n: u16 = 1;
     let mut rest = arity_of(nodes, r);
     let mut spare = left;
+    let mut numbered = count;
     while rest > 0 {
         let start = put_byte(text, end, mark(n));
         let a = part_of(nodes, r, n);
-        let one = write_term(nodes, values, text, start, a, k, spare);
+        let one = write_term(
+            nodes, values, text, start, naming, cells, order, numbered, a, k, spare,
+        );
         match one {
-            Written::Done(e, l) => {
+            Written::Done(e, l, c) => {
                 end = e;
                 spare = l;
+                numbered = c;
             }
             Written::TooMany => {
                 return Written::TooMany;
@@ -105,5 +129,5 @@ fn write_arguments(
         rest -= 1;
     }
     let last = put_closing(text, end, n);
-    Written::Done(last, spare)
+    Written::Done(last, spare, numbered)
 }

@@ -87,3 +87,12 @@ pub fn put_variable(text: &mut TextBuffer, at: usize, variable: u16, index: u16)
     let last = put_byte(text, dot, b'.');
     put_decimal(text, last, index)
 }
+
+// `v` and the number of a variable by its appearance.
+pub fn put_numbered_variable(text: &mut TextBuffer, at: usize, n: u16) -> usize
+    requires { ⌜ length (now text) ≡ 131072 ⌝ }
+    ensures { λ end. ⌜ Wrote (now (text .entry)) (now (text .exit)) at end (118 ∷ decimal n) ⌝ }
+{
+    let number = put_byte(text, at, b'v');
+    put_decimal(text, number, n)
+}
