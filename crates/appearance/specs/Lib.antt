@@ -1,1 +1,2 @@
 pub mod Appearance
+pub mod Growing

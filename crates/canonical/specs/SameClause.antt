@@ -12,7 +12,7 @@ use Rattle.unification.specs.Row.{Variable}
 use Rattle.unification.specs.Term.{Term, Terms, var, app, nil, cons, apply}
 use Rattle.derivation.specs.Derivation.{Derivation}
 use Rattle.derivation.specs.Written.{Clause, written}
-use Rattle.verdict.specs.State.{State, clauseOf, rowOf, termOf}
+use Rattle.verdict.specs.State.{clauseOf, rowOf, termOf}
 use Rattle.verdict.specs.Text.{decimal, numberAndIndex, termText, literalsText}
 use Rattle.verdict.specs.Verdict.{Lengths, reading, stateGiven}
 use Rattle.appearance.specs.Appearance.{canonicalText}

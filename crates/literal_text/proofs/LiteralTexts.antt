@@ -14,7 +14,8 @@ use Rattle.derivation.specs.Written.{Clause}
 use Rattle.verdict.specs.Text.{decimal, variableNumber, signText, termText, argumentsText, furtherText, literalText, literalsText}
 use Rattle.appearance.specs.Appearance.{position, appearing}
 use Rattle.text.specs.Buffer.{Wrote}
-use Rattle.numbering.specs.Numbering.{nameOf, Later, Numbered}
+use Rattle.numbering.specs.Numbering.{nameOf, Numbered}
+use Rattle.appearance.specs.Growing.{Longer}
 use Rattle.numbering.specs.declared.Naming.{Naming}
 use Rattle.numbering.specs.declared.Naming.the-variants.{AsWritten, ByAppearance}
 use Rattle.names.specs.declared.Place.{Place}
@@ -43,7 +44,7 @@ module _ (naming : Naming) (N A A′ T T₁ T₂ T₃ K K′ L L′ : List ℕ) 
         numbered = subst (λ (b : Bool). Numbered naming N K′ L′ (p .count) (pick b (appearing seen t) seen)) (sym few) numbered;
         wrote = λ all X. subst (λ (k : ℕ). Wrote T T₃ at k (32 ∷ literalText (nameOf naming row all) (positive, t))) (sym pe)
             (then-text T₃ end (pick (leb (occurrences t) 64) (termText (nameOf naming row all) t) (126 ∷ []))
-            (subst (λ (b : Bool). Wrote T₂ T₃ atom end (pick b (termText (nameOf naming row all) t) (126 ∷ []))) (sym few) (R .came .2 all (subst (λ (b : Bool). Later (pick b (appearing seen t) seen) all) few X))));
+            (subst (λ (b : Bool). Wrote T₂ T₃ atom end (pick b (termText (nameOf naming row all) t) (126 ∷ []))) (sym few) (R .came .2 all (subst (λ (b : Bool). Longer (pick b (appearing seen t) seen) all) few X))));
       }
 
   pub literal-over : w ≡ TooMany → (T₄ : List ℕ) (p : Place) → Wrote T₃ T₄ atom (p .end) (126 ∷ []) → p .count ≡ count → WritesLiteral naming N A A′ T T₄ K K′ L L′ count at positive e p

@@ -10,7 +10,8 @@ use Rattle.unification.specs.ValueArray.{Models}
 use Rattle.verdict.specs.Text.{literalText}
 use Rattle.appearance.specs.Appearance.{shown}
 use Rattle.text.specs.Buffer.{Wrote}
-use Rattle.numbering.specs.Numbering.{nameOf, Later, Numbered}
+use Rattle.numbering.specs.Numbering.{nameOf, Numbered}
+use Rattle.appearance.specs.Growing.{Longer}
 use Rattle.numbering.specs.declared.Naming.{Naming}
 use Rattle.names.specs.declared.Place.{Place}
 use Rattle.terms.specs.Writing.{Writable}
@@ -19,7 +20,7 @@ use Rattle.terms.specs.Writing.{Writable}
 pub record PartWritten (naming : Naming) (N : List ℕ) (top : ℕ) (A : List ℕ) (ρ : Environment) (row : ℕ → Row) (T T′ K L : List ℕ) (at : ℕ) (text : (Variable → List ℕ) → List ℕ) (after : List Variable) (p : Place) : Type 0 where
   pub models : Models N top A ρ
   pub numbered : Numbered naming N K L (p .count) after
-  pub wrote : (all : List Variable) → Later after all → Wrote T T′ at (p .end) (text (nameOf naming row all))
+  pub wrote : (all : List Variable) → Longer after all → Wrote T T′ at (p .end) (text (nameOf naming row all))
 
 -- A literal with an expression for its atom: a blank, and its text.
 abbrev pub WritesLiteral : Naming → List ℕ → List ℕ → List ℕ → List ℕ → List ℕ → List ℕ → List ℕ → List ℕ → List ℕ → ℕ → ℕ → Bool → Expression → Place → Type 0

@@ -11,10 +11,11 @@ use Rattle.unification.specs.Row.{Row, Variable}
 use Rattle.appearance.specs.Appearance.{noted, position}
 use Rattle.verdict.specs.Text.{decimal, variableNumber}
 use Rattle.text.specs.Buffer.{Wrote}
-use Rattle.numbering.specs.Numbering.{Later, countAfter, NumberReady, TakesNumber}
+use Rattle.numbering.specs.Numbering.{countAfter, NumberReady, TakesNumber}
+use Rattle.appearance.specs.Growing.{Longer}
 use Rattle.numbering.specs.declared.Naming.{Naming}
 use Rattle.numbering.specs.declared.Naming.the-variants.{AsWritten, ByAppearance}
-use Rattle.numbering.proofs.Positions.{noted-position}
+use Rattle.appearance.proofs.Positions.{noted-position}
 use Rattle.names.specs.Names.{NameReady, WritesName}
 use Rattle.names.specs.declared.Place.{Place}
 

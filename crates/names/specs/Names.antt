@@ -8,7 +8,8 @@ use Rattle.unification.specs.Row.{Row, Variable}
 use Rattle.appearance.specs.Appearance.{noted}
 use Rattle.verdict.specs.Text.{variableNumber}
 use Rattle.text.specs.Buffer.{Wrote}
-use Rattle.numbering.specs.Numbering.{nameOf, Later, Numberable, Numbered}
+use Rattle.numbering.specs.Numbering.{nameOf, Numberable, Numbered}
+use Rattle.appearance.specs.Growing.{Longer}
 use Rattle.numbering.specs.declared.Naming.{Naming}
 use Rattle.names.specs.declared.Place.{Place}
 
@@ -26,6 +27,6 @@ pub record NameReady (naming : Naming) (N T K L : List ℕ) (count : ℕ) (x : V
 pub record WritesName (naming : Naming) (N T T′ : List ℕ) (at : ℕ) (K K′ L L′ : List ℕ) (count : ℕ) (x : Variable) (w : Place) : Type 0 where
   pub numbered : (seen : List Variable) → Numbered naming N K L count seen → Numbered naming N K′ L′ (w .count) (noted seen x)
   pub wrote : (row : ℕ → Row) → variableNumber (row (x .0)) ≡ part N (x .0) 0 → (seen : List Variable) → Numbered naming N K L count seen
-      → (all : List Variable) → Later (noted seen x) all → Wrote T T′ at (w .end) (118 ∷ nameOf naming row all x)
+      → (all : List Variable) → Longer (noted seen x) all → Wrote T T′ at (w .end) (118 ∷ nameOf naming row all x)
   pub room : length T′ ≡ length T
   pub most : w .count ≤ suc count

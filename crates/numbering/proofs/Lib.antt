@@ -1,2 +1,1 @@
-pub mod Positions
 pub mod Taking

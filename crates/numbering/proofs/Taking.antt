@@ -13,10 +13,11 @@ use Rattle.unification.specs.Nodes.{part, NodesOk}
 use Rattle.unification.specs.Row.{Variable, same}
 use Rattle.unification.proofs.Tests.{same-eq, same-refl, true-not-false}
 use Rattle.appearance.specs.Appearance.{position, noted}
-use Rattle.numbering.specs.Numbering.{Later, numberCell, Numberable, NumberAt, NumbersFrom, Numbers, Numbered, hasNumber, countAfter, NumberReady, TakesNumber}
+use Rattle.numbering.specs.Numbering.{numberCell, Numberable, NumberAt, NumbersFrom, Numbers, Numbered, hasNumber, countAfter, NumberReady, TakesNumber}
+use Rattle.appearance.specs.Growing.{Longer}
 use Rattle.numbering.specs.declared.Naming.{Naming}
 use Rattle.numbering.specs.declared.Naming.the-variants.{AsWritten, ByAppearance}
-use Rattle.numbering.proofs.Positions.{noted-old, noted-new}
+use Rattle.appearance.proofs.Positions.{noted-old, noted-new}
 
 -- The cell of a variable is its own, and inside the array.
 module _ {N : List ℕ} (T : NodesOk N) {x : Variable} (X : Numberable N x) where
@@ -129,10 +130,10 @@ numbers-fewer : (N K L : List ℕ) (i : ℕ) (seen more : List Variable) → Num
 numbers-fewer N K L i [] more E = tt
 numbers-fewer N K L i (x ∷ xs) more E = (E .0, numbers-fewer N K L (suc i) xs more (E .1))
 
-numbers-before : {N K L : List ℕ} {count count′ : ℕ} {seen all : List Variable} → Later seen all → count ≡ length seen → Numbers N K L count′ all → Numbers N K L count seen
-numbers-before {N} {K} {L} {seen = seen} W e G = record { room = G .room; counted = e; each = numbers-fewer N K L 0 seen (W .more) (subst (NumbersFrom N K L 0) (W .joined) (G .each)) }
+numbers-before : {N K L : List ℕ} {count count′ : ℕ} {seen all : List Variable} → Longer seen all → count ≡ length seen → Numbers N K L count′ all → Numbers N K L count seen
+numbers-before {N} {K} {L} {seen = seen} W e G = record { room = G .room; counted = e; each = numbers-fewer N K L 0 seen (W .more) (subst (NumbersFrom N K L 0) (W .grown) (G .each)) }
 
 -- Going back to the variables seen before: their numbers are as they were.
-pub numbered-back : (naming : Naming) (N K L K′ L′ : List ℕ) (count count′ : ℕ) (seen all : List Variable) → Later seen all → Numbered naming N K L count seen → Numbered naming N K′ L′ count′ all → Numbered naming N K′ L′ count seen
+pub numbered-back : (naming : Naming) (N K L K′ L′ : List ℕ) (count count′ : ℕ) (seen all : List Variable) → Longer seen all → Numbered naming N K L count seen → Numbered naming N K′ L′ count′ all → Numbered naming N K′ L′ count seen
 numbered-back AsWritten N K L K′ L′ count count′ seen all W G H = tt
 numbered-back ByAppearance N K L K′ L′ count count′ seen all W G H = numbers-before W (G .counted) H

@@ -2,7 +2,7 @@
 -- readouts stands `lineOf`; the rest only says how the parts of the program fit together.
 use mathlib.Core.Path.{_≡_}
 use mathlib.Core.Bool.{Bool, true, false}
-use mathlib.Core.List.{List, [], _∷_, _++_}
+use mathlib.Core.List.{List, [], _∷_}
 use Prim.Native.Nat.{ℕ, suc, _+_, _*_, _≤_, _<_}
 use lib.Dec.{eqb, ltb}
 use lib.ListN.{length, getD}
@@ -25,11 +25,6 @@ nameOf ByAppearance row all = numberIn all
 
 abbrev pub lineOf : Naming → State → ℕ → Derivation → List ℕ
 lineOf naming S n c = lineWith (nameOf naming (rowOf S) (allShown [] (written (termOf S) c))) S n c
-
--- A list of variables with more behind it.
-pub record Later (seen all : List Variable) : Type 0 where
-  pub more : List Variable
-  pub joined : all ≡ seen ++ more
 
 -- The cell of a variable: 64 for each index.
 abbrev pub numberCell : List ℕ → Variable → ℕ

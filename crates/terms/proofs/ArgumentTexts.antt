@@ -16,9 +16,10 @@ use Rattle.unification.specs.ValueArray.{Models}
 use Rattle.following.proofs.Occurrence.{arg-good, args-eq}
 use Rattle.verdict.specs.Text.{termText, argumentsText, furtherText}
 use Rattle.appearance.specs.Appearance.{appearing, allAppearing}
-use Rattle.numbering.specs.Numbering.{nameOf, Later, Numbered}
+use Rattle.numbering.specs.Numbering.{nameOf, Numbered}
+use Rattle.appearance.specs.Growing.{Longer}
 use Rattle.numbering.specs.declared.Naming.{Naming}
-use Rattle.numbering.proofs.Positions.{later-same, later-then, appearing-later}
+use Rattle.appearance.proofs.Positions.{longer-same, longer-then, appearing-longer}
 use Rattle.numbering.proofs.Taking.{numbered-back}
 use Rattle.text.specs.Buffer.{Wrote}
 use Rattle.terms.specs.Writing.{markBefore, closingText, Writable, WritingReady, WritingArgumentsReady, WritesTerm, argumentsOut, WritesArguments}
@@ -41,11 +42,11 @@ from-one name n t ts low = try (eqb n 1) ∙ ap (λ (b : Bool). markBefore n ∷
 pub record Scanning (naming : Naming) (N : List ℕ) (top : ℕ) (A : List ℕ) (ρ : Environment) (row : ℕ → Row) (term : ℕ → Term ℕ) (σ : Variable → Term Variable) (T T′ K L : List ℕ) (at r k left end n rest spare numbered : ℕ) (seen : List Variable) : Type 0 where
   pub models : Models N top A ρ
   pub sofar : List Variable
-  pub later : Later seen sofar
+  pub later : Longer seen sofar
   pub numbers : Numbered naming N K L numbered sofar
   pub onward : allAppearing sofar (argumentsOut N term σ r k rest n) ≡ allAppearing seen (argumentsOut N term σ r k (nodeArity N r) 1)
   pub before : (Variable → List ℕ) → List ℕ
-  pub wrote : (all : List Variable) → Later sofar all → Wrote T T′ at end (before (nameOf naming row all))
+  pub wrote : (all : List Variable) → Longer sofar all → Wrote T T′ at end (before (nameOf naming row all))
   pub whole : (name : Variable → List ℕ) → before name ++ textFrom name n (argumentsOut N term σ r k rest n) ≡ argumentsText name (argumentsOut N term σ r k (nodeArity N r) 1)
   pub count : left + allOccurrences (argumentsOut N term σ r k rest n) ≡ spare + allOccurrences (argumentsOut N term σ r k (nodeArity N r) 1)
 
@@ -61,7 +62,7 @@ module _ (naming : Naming) (N A T K L : List ℕ) (count at r k left : ℕ) wher
       record {
         models = W .models;
         sofar = seen;
-        later = later-same seen;
+        later = longer-same seen;
         numbers = G;
         onward = ap (λ (m : ℕ). allAppearing seen (argumentsOut N term σ r k m 1)) p;
         before = λ name. [];
@@ -81,7 +82,7 @@ module _ (naming : Naming) (N A T K L : List ℕ) (count at r k left : ℕ) wher
           models = S′ .models;
           came = (omega arith, subst (Numbered naming N K₁ L₁ numbered) last-seen (S′ .numbers),
             λ all H. subst (λ (l : List ℕ). Wrote T T₂ at last l) (whole (nameOf naming row all))
-            (wrote-then T T₁ T₂ at end last (S′ .before (nameOf naming row all)) (closingText n) (S′ .wrote all (subst (λ (xs : List Variable). Later xs all) (sym last-seen) H)) v));
+            (wrote-then T T₁ T₂ at end last (S′ .before (nameOf naming row all)) (closingText n) (S′ .wrote all (subst (λ (xs : List Variable). Longer xs all) (sym last-seen) H)) v));
         }
 
     -- The argument at hand, with its mark before it.
@@ -102,7 +103,7 @@ module _ (naming : Naming) (N A T K L : List ℕ) (count at r k left : ℕ) wher
         rest-out : argumentsOut N term σ r k rest n ≡ cons argument further
         rest-out = ap (λ (xs : List ℕ). applyAll (λ w. σ (w, k)) (argumentTerms term xs)) (args-eq N top r n rest pos a p)
 
-        mark-written : (all : List Variable) → Later (here .sofar) all → Wrote T T₂ at begin (here .before (nameOf naming row all) ++ (m ∷ []))
+        mark-written : (all : List Variable) → Longer (here .sofar) all → Wrote T T₂ at begin (here .before (nameOf naming row all) ++ (m ∷ []))
         mark-written all H = wrote-then T T₁ T₂ at end begin (here .before (nameOf naming row all)) (m ∷ []) (here .wrote all H) v
 
         counted : left + (occurrences argument + allOccurrences further) ≡ spare + allOccurrences (argumentsOut N term σ r k (nodeArity N r) 1)
@@ -120,7 +121,7 @@ module _ (naming : Naming) (N A T K L : List ℕ) (count at r k left : ℕ) wher
       scan-broke A₂ T₃ K₂ L₂ X top ρ row term σ W f seen G =
           let S′ = S top ρ row term σ W f seen G in
           let X′ = X top ρ row term σ (argument-writable top ρ row term σ W f seen G) (S′ .sofar) (S′ .numbers) in
-          let M = mark-written top ρ row term σ W f seen G (S′ .sofar) (later-same (S′ .sofar)) in
+          let M = mark-written top ρ row term σ W f seen G (S′ .sofar) (longer-same (S′ .sofar)) in
           record { models = X′ .models; came = (omega (arith, counted top ρ row term σ W f seen G, X′ .came .0), numbered-back naming N K L K₂ L₂ count numbered seen (S′ .sofar) (S′ .later) G (X′ .came .1), kept-then T T₂ T₃ at begin (wrote-onward M) (M .kept) (X′ .came .2)) }
 
       pub scan-next : (A₂ T₃ K₂ L₂ : List ℕ) (after l c : ℕ) → WritesTerm naming N A₁ A₂ T₂ T₃ K₁ K₂ L₁ L₂ numbered begin (a, k) spare (Done after l c) → Scanned naming N A A₂ T T₃ K K₂ L L₂ count at r k left after (n + 1) (rest - 1) l c
@@ -128,15 +129,15 @@ module _ (naming : Naming) (N A T K L : List ℕ) (count at r k left : ℕ) wher
           let S′ = S top ρ row term σ W f seen G in
           let X′ = X top ρ row term σ (argument-writable top ρ row term σ W f seen G) (S′ .sofar) (S′ .numbers) in
           let t = writtenOut term σ (a, k) in
-          let onto = appearing-later (S′ .sofar) t in
+          let onto = appearing-longer (S′ .sofar) t in
           record {
             models = X′ .models;
             sofar = appearing (S′ .sofar) t;
-            later = later-then (S′ .later) onto;
+            later = longer-then (S′ .later) onto;
             numbers = X′ .came .1;
             onward = sym (ap (allAppearing (S′ .sofar)) (rest-out top ρ row term σ W f seen G)) ∙ S′ .onward;
             before = λ name. (S′ .before name ++ (m ∷ [])) ++ termText name t;
-            wrote = λ all H. wrote-then T T₂ T₃ at begin after (S′ .before (nameOf naming row all) ++ (m ∷ [])) (termText (nameOf naming row all) t) (mark-written top ρ row term σ W f seen G all (later-then onto H)) (X′ .came .2 all H);
+            wrote = λ all H. wrote-then T T₂ T₃ at begin after (S′ .before (nameOf naming row all) ++ (m ∷ [])) (termText (nameOf naming row all) t) (mark-written top ρ row term σ W f seen G all (longer-then onto H)) (X′ .came .2 all H);
             whole = λ name. append-assoc (S′ .before name ++ (m ∷ [])) (termText name t) (textFrom name (n + 1) (argumentsOut N term σ r k (rest - 1) (n + 1))) ∙ joined top ρ row term σ W f seen G name;
             count = omega (arith, counted top ρ row term σ W f seen G, X′ .came .0);
           }

@@ -16,7 +16,8 @@ use Rattle.derivation.specs.Written.{WritesOut}
 use Rattle.verdict.specs.Text.{termText, argumentsText}
 use Rattle.appearance.specs.Appearance.{appearing, allAppearing}
 use Rattle.text.specs.Buffer.{KeptBefore, Wrote}
-use Rattle.numbering.specs.Numbering.{nameOf, Later, Numbered}
+use Rattle.numbering.specs.Numbering.{nameOf, Numbered}
+use Rattle.appearance.specs.Growing.{Longer}
 use Rattle.numbering.specs.declared.Naming.{Naming}
 use Rattle.terms.specs.declared.Written.{Written}
 use Rattle.terms.specs.declared.Written.the-variants.{Done, TooMany}
@@ -68,7 +69,7 @@ pub record WritingArgumentsReady (naming : Naming) (N A T K L : List ℕ) (count
 -- have begun, and the variables seen before it have their numbers.
 abbrev pub Came : Naming → List ℕ → (ℕ → Row) → List ℕ → List ℕ → List ℕ → List ℕ → ℕ → ℕ → ℕ → ((Variable → List ℕ) → List ℕ) → ℕ → List Variable → List Variable → Written → Type 0
 Came naming N row T T′ K L count at left text size seen after (Done end l c) =
-    (size + l ≡ left) × Numbered naming N K L c after × ((all : List Variable) → Later after all → Wrote T T′ at end (text (nameOf naming row all)))
+    (size + l ≡ left) × Numbered naming N K L c after × ((all : List Variable) → Longer after all → Wrote T T′ at end (text (nameOf naming row all)))
 Came naming N row T T′ K L count at left text size seen after TooMany = (left < size) × Numbered naming N K L count seen × KeptBefore T T′ at
 
 -- What came of it, and the array still stands for ρ.

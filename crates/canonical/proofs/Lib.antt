@@ -1,0 +1,9 @@
+pub mod Digits
+pub mod Reading
+pub mod Relabelling
+pub mod Renaming
+pub mod Related
+pub mod Symbols
+pub mod WrittenVariables
+pub mod ShownOfFiles
+pub mod SameClauseShown
