@@ -35,16 +35,23 @@ use Rattle.entry.proofs.Kept.{fitting-records}
 use Rattle.inference.proofs.KeptClauses as kept
 use Rattle.lines.specs.Lines.{AllWritable, NumberedReady, LiteralsReady, WritesNumbered, WritesLiterals, LineReady, LineWritten}
 use Rattle.collecting.specs.Literals.{listed, Collectable, Collected}
-use Rattle.verdict.specs.Readout.{clauseLine}
 use Rattle.verdict.specs.Text.{decimal, literalText, literalsText}
+use Rattle.appearance.specs.Appearance.{shown, allShown}
+use Rattle.appearance.specs.Growing.{Longer}
+use Rattle.appearance.proofs.Positions.{longer-same, longer-then, shown-longer}
 use Rattle.text.specs.Buffer.{Wrote}
-use Rattle.terms.specs.Writing.{Sized, WritingReady, WritesLiteral}
+use Rattle.numbering.specs.Numbering.{nameOf, lineOf, NumberRoom, Numbered}
+use Rattle.numbering.specs.declared.Naming.{Naming}
+use Rattle.numbering.proofs.Taking.{numbered-none, numbered-room}
+use Rattle.names.specs.declared.Place.{Place}
+use Rattle.terms.specs.Writing.{Sized, WritingReady}
+use Rattle.literal_text.specs.Literals.{PartWritten, WritesLiteral}
 use Rattle.text.proofs.Decimals.{decimal-length}
-use Rattle.literal_text.proofs.LiteralTexts.{literals-text-short}
+use Rattle.literal_text.proofs.LiteralTexts.{name-short, literals-text-short}
 use Rattle.text.proofs.Positions.{wrote-nothing, wrote-then}
 
 -- The literal that the program found is the one with the number.
-module _ (O C N A T : List ℕ) (at c n : ℕ) (r : NamedLiteral) (G : (B : List ℕ) (d : Derivation) → Stored O C B c d → r ≡ namedLiteral (numbered (literals d) n)) where
+module _ (naming : Naming) (O C N A T K L : List ℕ) (count at c n : ℕ) (r : NamedLiteral) (G : (B : List ℕ) (d : Derivation) → Stored O C B c d → r ≡ namedLiteral (numbered (literals d) n)) where
   same-literal : (positive : Bool) (row index : ℕ) (l : Literal) → Found positive row index ≡ namedLiteral (some l) → (positive, (row, index)) ≡ l
   same-literal positive row index l e =
       let p : positive ≡ l .0 = cc in
@@ -52,41 +59,41 @@ module _ (O C N A T : List ℕ) (at c n : ℕ) (r : NamedLiteral) (G : (B : List
       let k : index ≡ l .1 .1 = cc in
       λ i. (p i, (q i, k i))
 
-  pub numbered-found : (positive : Bool) (row index : ℕ) → r ≡ Found positive row index → (A′ T′ : List ℕ) (end : ℕ) → WritesLiteral N A A′ T T′ at positive (row, index) end → WritesNumbered O C N A A′ T T′ at c n end
-  numbered-found positive row index q A′ T′ end W B d s l p =
-      subst (λ (x : Literal). WritesLiteral N A A′ T T′ at (x .0) (x .1) end) (same-literal positive row index l (sym q ∙ G B d s ∙ ap namedLiteral p)) W
+  pub numbered-found : (positive : Bool) (row index : ℕ) → r ≡ Found positive row index → (A′ T′ K′ L′ : List ℕ) (e : Place) → WritesLiteral naming N A A′ T T′ K K′ L L′ count at positive (row, index) e → WritesNumbered naming O C N A A′ T T′ K K′ L L′ count at c n e
+  numbered-found positive row index q A′ T′ K′ L′ e W B d s l p =
+      subst (λ (x : Literal). WritesLiteral naming N A A′ T T′ K K′ L L′ count at (x .0) (x .1) e) (same-literal positive row index l (sym q ∙ G B d s ∙ ap namedLiteral p)) W
 
-  pub found-ready : (R : NumberedReady O C N A T c n) (positive : Bool) (row index : ℕ) → r ≡ Found positive row index → WritingReady N A T (row, index)
+  pub found-ready : (R : NumberedReady naming O C N A T K L count c n) (positive : Bool) (row index : ℕ) → r ≡ Found positive row index → WritingReady naming N A T K L count (row, index) 64
   found-ready R positive row index q =
-      subst (λ (x : Literal). WritingReady N A T (x .1)) (sym (same-literal positive row index (R .literal) (sym q ∙ G (R .clause .bindings) (R .clause .derivation) (R .clause .stored) ∙ ap namedLiteral (R .isNumbered)))) (R .ready)
+      subst (λ (x : Literal). WritingReady naming N A T K L count (x .1) 64) (sym (same-literal positive row index (R .literal) (sym q ∙ G (R .clause .bindings) (R .clause .derivation) (R .clause .stored) ∙ ap namedLiteral (R .isNumbered)))) (R .ready)
 
-  pub numbered-absent : r ≡ Absent → WritesNumbered O C N A A T T at c n at
-  numbered-absent q B d s l p = absurd (no (sym q ∙ G B d s ∙ ap namedLiteral p))
+  pub numbered-absent : r ≡ Absent → (e : Place) → WritesNumbered naming O C N A A T T K K L L count at c n e
+  numbered-absent q e B d s l p = absurd (no (sym q ∙ G B d s ∙ ap namedLiteral p))
     where
       no : Absent ≡ namedLiteral (some l) → ⊥
       no e = let z : _≡_ {A = ℕ} 0 1 = cc in omega arith
 
 -- There is room in the list for all literals.
-pub collected-few : {O C L L′ : List ℕ} {c count : ℕ} → Collectable O C 0 c 0 → Collected O C L L′ 0 c 0 count → count < 16512
+pub collected-few : {O C M M′ : List ℕ} {c count : ℕ} → Collectable O C 0 c 0 → Collected O C M M′ 0 c 0 count → count < 16512
 collected-few R K = omega (arith, R .few, K .last (R .bindings) (R .derivation) (R .stored))
 
 -- The literal that the program has in its list is the one with the number.
-listed-is : {O C B L L′ : List ℕ} {c count : ℕ} {d : Derivation} → Collected O C L L′ 0 c 0 count → Stored O C B c d → (n : ℕ) → 1 ≤ n → n ≤ count → (l : Literal) → numbered (literals d) n ≡ some l → listed L′ n ≡ l
-listed-is {B = B} {L′ = L′} {d = d} K s n low high l p =
+listed-is : {O C B M M′ : List ℕ} {c count : ℕ} {d : Derivation} → Collected O C M M′ 0 c 0 count → Stored O C B c d → (n : ℕ) → 1 ≤ n → n ≤ count → (l : Literal) → numbered (literals d) n ≡ some l → listed M′ n ≡ l
+listed-is {B = B} {M′ = M′} {d = d} K s n low high l p =
     let z : n ≡ 0 + n = omega arith in
-    some-same (ap (λ (k : ℕ). some (listed L′ k)) z ∙ K .holds B d s .literal n low (omega (arith, high, K .last B d s)) ∙ sym (raise-named-zero (numbered (literals d) n)) ∙ p)
+    some-same (ap (λ (k : ℕ). some (listed M′ k)) z ∙ K .holds B d s .literal n low (omega (arith, high, K .last B d s)) ∙ sym (raise-named-zero (numbered (literals d) n)) ∙ p)
   where
     some-same : {x y : Literal} → some x ≡ some y → x ≡ y
     some-same e = cc
 
-pub listed-ready : {O C L L′ : List ℕ} {c count : ℕ} → Collected O C L L′ 0 c 0 count → (n : ℕ) → 1 ≤ n → n ≤ count → {N A T : List ℕ} → NumberedReady O C N A T c n → WritingReady N A T (listed L′ n .1)
-listed-ready K n low high {N} {A} {T} R =
-    subst (λ (x : Literal). WritingReady N A T (x .1)) (sym (listed-is K (R .clause .stored) n low high (R .literal) (R .isNumbered))) (R .ready)
+pub listed-ready : {O C M M′ : List ℕ} {c count : ℕ} → Collected O C M M′ 0 c 0 count → (n : ℕ) → 1 ≤ n → n ≤ count → {naming : Naming} {N A T K L : List ℕ} {m : ℕ} → NumberedReady naming O C N A T K L m c n → WritingReady naming N A T K L m (listed M′ n .1) 64
+listed-ready X n low high {naming} {N} {A} {T} {K} {L} {m} R =
+    subst (λ (x : Literal). WritingReady naming N A T K L m (x .1) 64) (sym (listed-is X (R .clause .stored) n low high (R .literal) (R .isNumbered))) (R .ready)
 
-pub numbered-listed : {O C L L′ : List ℕ} {c count : ℕ} → Collected O C L L′ 0 c 0 count → (n : ℕ) → 1 ≤ n → n ≤ count
-    → {N A A′ T T′ : List ℕ} {at end : ℕ} → WritesLiteral N A A′ T T′ at (listed L′ n .0) (listed L′ n .1) end → WritesNumbered O C N A A′ T T′ at c n end
-numbered-listed K n low high {N} {A} {A′} {T} {T′} {at} {end} W B d s l p =
-    subst (λ (x : Literal). WritesLiteral N A A′ T T′ at (x .0) (x .1) end) (listed-is K s n low high l p) W
+pub numbered-listed : {O C M M′ : List ℕ} {c count : ℕ} → Collected O C M M′ 0 c 0 count → (n : ℕ) → 1 ≤ n → n ≤ count
+    → (naming : Naming) (N A A′ T T′ K K′ L L′ : List ℕ) (m at : ℕ) (e : Place) → WritesLiteral naming N A A′ T T′ K K′ L L′ m at (listed M′ n .0) (listed M′ n .1) e → WritesNumbered naming O C N A A′ T T′ K K′ L L′ m at c n e
+numbered-listed X n low high naming N A A′ T T′ K K′ L L′ m at e W B d s l p =
+    subst (λ (x : Literal). WritesLiteral naming N A A′ T T′ K K′ L L′ m at (x .0) (x .1) e) (listed-is X s n low high l p) W
 
 -- So many literals has clause c, whatever derivation it is: the number in its cell, and the number of those collected.
 abbrev pub HasLiterals : List ℕ → List ℕ → ℕ → ℕ → Type 0
@@ -95,7 +102,7 @@ HasLiterals O C c count = (B : List ℕ) (d : Derivation) → Stored O C B c d �
 pub cell-literals : {O C : List ℕ} {c count : ℕ} → count ≡ literalsCell C c → HasLiterals O C c count
 cell-literals e B d s = e ∙ stored-cells s .literalCount
 
-pub collected-literals : {O C L L′ : List ℕ} {c count : ℕ} → Collected O C L L′ 0 c 0 count → HasLiterals O C c count
+pub collected-literals : {O C M M′ : List ℕ} {c count : ℕ} → Collected O C M M′ 0 c 0 count → HasLiterals O C c count
 collected-literals K B d s = omega (arith, K .last B d s)
 
 -- The literal with the next number is the first of those left.
@@ -115,60 +122,75 @@ none-left [] (suc n) h = refl
 none-left (l ∷ ls) zero h = absurd (omega arith)
 none-left (l ∷ ls) (suc n) h = none-left ls n (omega arith)
 
--- After the text `before` what is left, from the literal after the n-th on, makes the text of all literals.
-pub record LiteralsSoFar (N : List ℕ) (top : ℕ) (A : List ℕ) (ρ : Environment) (row : ℕ → Row) (term : ℕ → Term ℕ) (σ : Variable → Term Variable) (T T′ : List ℕ) (at end n : ℕ) (ls : List Literal) : Type 0 where
+-- After the text `before` what is left, from the literal after the n-th on, makes the text of all literals; and the variables seen so far, with those of what is left, are all.
+pub record LiteralsSoFar (naming : Naming) (N : List ℕ) (top : ℕ) (A : List ℕ) (ρ : Environment) (row : ℕ → Row) (term : ℕ → Term ℕ) (σ : Variable → Term Variable) (T T′ K L : List ℕ) (at end count n : ℕ) (ls : List Literal) : Type 0 where
   pub models : Models N top A ρ
-  pub before : List ℕ
-  pub wrote : Wrote T T′ at end before
-  pub whole : before ++ literalsText row (map (writtenLiteral term σ) (drop n ls)) ≡ literalsText row (map (writtenLiteral term σ) ls)
+  pub sofar : List Variable
+  pub numbers : Numbered naming N K L count sofar
+  pub onward : allShown sofar (map (writtenLiteral term σ) (drop n ls)) ≡ allShown [] (map (writtenLiteral term σ) ls)
+  pub before : (Variable → List ℕ) → List ℕ
+  pub wrote : (all : List Variable) → Longer sofar all → Wrote T T′ at end (before (nameOf naming row all))
+  pub whole : (name : Variable → List ℕ) → before name ++ literalsText name (map (writtenLiteral term σ) (drop n ls)) ≡ literalsText name (map (writtenLiteral term σ) ls)
 
-abbrev pub WritesSoFar : List ℕ → List ℕ → List ℕ → List ℕ → List ℕ → List ℕ → List ℕ → ℕ → ℕ → ℕ → ℕ → Type 0
-WritesSoFar O C N A A′ T T′ at c end n =
+abbrev pub WritesSoFar : Naming → List ℕ → List ℕ → List ℕ → List ℕ → List ℕ → List ℕ → List ℕ → List ℕ → List ℕ → List ℕ → List ℕ → ℕ → ℕ → ℕ → ℕ → ℕ → Type 0
+WritesSoFar naming O C N A A′ T T′ K K′ L L′ at c end count n =
     (B : List ℕ) (d : Derivation) → Stored O C B c d
-    → (top : ℕ) (ρ : Environment) (row : ℕ → Row) (term : ℕ → Term ℕ) (σ : Variable → Term Variable) → AllWritable N top A ρ row term σ (literals d)
-    → LiteralsSoFar N top A′ ρ row term σ T T′ at end n (literals d)
+    → (top : ℕ) (ρ : Environment) (row : ℕ → Row) (term : ℕ → Term ℕ) (σ : Variable → Term Variable) → AllWritable N top A ρ row term σ (literals d) → NumberRoom naming K L
+    → LiteralsSoFar naming N top A′ ρ row term σ T T′ K′ L′ at end count n (literals d)
 
-module _ (O C N A T : List ℕ) (at c : ℕ) where
-  pub literals-start : WritesSoFar O C N A A T T at c at 0
-  literals-start B d s top ρ row term σ W = record { models = W .models; before = []; wrote = wrote-nothing T at; whole = refl }
+module _ (naming : Naming) (O C N A T K L : List ℕ) (at c : ℕ) where
+  pub literals-start : WritesSoFar naming O C N A A T T K K L L at c at 0 0
+  literals-start B d s top ρ row term σ W room = record { models = W .models; sofar = []; numbers = numbered-none naming N K L room; onward = refl; before = λ name. []; wrote = λ all H. wrote-nothing T at; whole = λ name. refl }
 
-  module _ (A₁ T₁ : List ℕ) (end n count : ℕ) (S : WritesSoFar O C N A A₁ T T₁ at c end n) (counted : HasLiterals O C c count) where
-    pub literals-end : count ≤ n → WritesLiterals O C N A A₁ T T₁ at c end
-    literals-end h B d s top ρ row term σ W =
-        let S′ = S B d s top ρ row term σ W in
+  module _ (A₁ T₁ K₁ L₁ : List ℕ) (end count n literalCount : ℕ) (S : WritesSoFar naming O C N A A₁ T T₁ K K₁ L L₁ at c end count n) (counted : HasLiterals O C c literalCount) where
+    pub literals-end : literalCount ≤ n → (e : Place) → e .end ≡ end → e .count ≡ count → WritesLiterals naming O C N A A₁ T T₁ K K₁ L L₁ at c e
+    literals-end h e pe pc B d s top ρ row term σ W room =
+        let S′ = S B d s top ρ row term σ W room in
+        let ls = map (writtenLiteral term σ) (literals d) in
         let none : drop n (literals d) ≡ [] = none-left (literals d) n (omega (arith, counted B d s)) in
-        let all : S′ .before ≡ literalsText row (map (writtenLiteral term σ) (literals d)) =
-        sym (append-nil (S′ .before)) ∙ ap (λ (ls : List Literal). S′ .before ++ literalsText row (map (writtenLiteral term σ) ls)) (sym none) ∙ S′ .whole in
-        record { models = S′ .models; wrote = subst (Wrote T T₁ at end) all (S′ .wrote) }
+        let last-seen : S′ .sofar ≡ allShown [] ls = ap (λ (xs : List Literal). allShown (S′ .sofar) (map (writtenLiteral term σ) xs)) (sym none) ∙ S′ .onward in
+        let all-text : (name : Variable → List ℕ) → S′ .before name ≡ literalsText name ls =
+        λ name. sym (append-nil (S′ .before name)) ∙ ap (λ (xs : List Literal). S′ .before name ++ literalsText name (map (writtenLiteral term σ) xs)) (sym none) ∙ S′ .whole name in
+        record {
+          models = S′ .models;
+          numbered = subst (λ (k : ℕ). Numbered naming N K₁ L₁ k (allShown [] ls)) (sym pc) (subst (Numbered naming N K₁ L₁ count) last-seen (S′ .numbers));
+          wrote = λ all H. subst (λ (k : ℕ). Wrote T T₁ at k (literalsText (nameOf naming row all) ls)) (sym pe)
+              (subst (Wrote T T₁ at end) (all-text (nameOf naming row all)) (S′ .wrote all (subst (λ (xs : List Variable). Longer xs all) (sym last-seen) H)));
+        }
 
-    pub literals-next : n < count → (A₂ T₂ : List ℕ) (after : ℕ) → WritesNumbered O C N A₁ A₂ T₁ T₂ end c (n + 1) after → WritesSoFar O C N A A₂ T T₂ at c after (n + 1)
-    literals-next h A₂ T₂ after G B d s top ρ row term σ W =
-        let S′ = S B d s top ρ row term σ W in
+    pub literals-next : n < literalCount → (A₂ T₂ K₂ L₂ : List ℕ) (e : Place) → WritesNumbered naming O C N A₁ A₂ T₁ T₂ K₁ K₂ L₁ L₂ count end c (n + 1) e → WritesSoFar naming O C N A A₂ T T₂ K K₂ L L₂ at c (e .end) (e .count) (n + 1)
+    literals-next h A₂ T₂ K₂ L₂ e G B d s top ρ row term σ W room =
+        let S′ = S B d s top ρ row term σ W room in
         let x = next-literal (literals d) n (omega (arith, counted B d s)) in
         let l = x .next in
         let isLiteral : numbered (literals d) (n + 1) ≡ some l = ap (numbered (literals d)) (add-one n) ∙ x .isNumbered in
-        let text : List ℕ = 32 ∷ literalText row (l .0, writtenOut term σ (l .1)) in
+        let text : (Variable → List ℕ) → List ℕ = λ name. 32 ∷ literalText name (writtenLiteral term σ l) in
         let isFirst : drop n (literals d) ≡ l ∷ drop (n + 1) (literals d) = x .isFirst ∙ ap (λ (m : ℕ). l ∷ drop m (literals d)) (sym (add-one n)) in
-        let w = G B d s l isLiteral top ρ row term σ (record { models = S′ .models; inStep = W .inStep (n + 1) l isLiteral; rows = W .rows; terms = W .terms; values = W .values }) in
+        let w = G B d s l isLiteral top ρ row term σ (record { models = S′ .models; inStep = W .inStep (n + 1) l isLiteral; rows = W .rows; terms = W .terms; values = W .values }) (S′ .sofar) (S′ .numbers) in
+        let onto = shown-longer (S′ .sofar) (writtenLiteral term σ l) in
         record {
           models = w .models;
-          before = S′ .before ++ text;
-          wrote = wrote-then T T₁ T₂ at end after (S′ .before) text (S′ .wrote) (w .wrote);
-          whole =
-              append-assoc (S′ .before) text (literalsText row (map (writtenLiteral term σ) (drop (n + 1) (literals d))))
-              ∙ ap (λ (ls : List Literal). S′ .before ++ literalsText row (map (writtenLiteral term σ) ls)) (sym isFirst) ∙ S′ .whole;
+          sofar = shown (S′ .sofar) (writtenLiteral term σ l);
+          numbers = w .numbered;
+          onward = ap (λ (xs : List Literal). allShown (S′ .sofar) (map (writtenLiteral term σ) xs)) (sym isFirst) ∙ S′ .onward;
+          before = λ name. S′ .before name ++ text name;
+          wrote = λ all H. wrote-then T T₁ T₂ at end (e .end) (S′ .before (nameOf naming row all)) (text (nameOf naming row all)) (S′ .wrote all (longer-then onto H)) (w .wrote all H);
+          whole = λ name.
+              append-assoc (S′ .before name) (text name) (literalsText name (map (writtenLiteral term σ) (drop (n + 1) (literals d))))
+              ∙ ap (λ (xs : List Literal). S′ .before name ++ literalsText name (map (writtenLiteral term σ) xs)) (sym isFirst) ∙ S′ .whole name;
         }
 
 -- What writing the next literal asks.
-pub numbered-ready : {O C N A A₁ T T₁ : List ℕ} {at c end n count : ℕ} → LiteralsReady O C N A T c → WritesSoFar O C N A A₁ T T₁ at c end n → HasLiterals O C c count → n < count → Sized N A₁ T₁ → NumberedReady O C N A₁ T₁ c (n + 1)
-numbered-ready {n = n} R S counted h Z =
-    let K = R .collectable in
+pub numbered-ready : {naming : Naming} {O C N A A₁ T T₁ K K₁ L L₁ : List ℕ} {at c end count n literalCount : ℕ} → LiteralsReady naming O C N A T K L c → WritesSoFar naming O C N A A₁ T T₁ K K₁ L L₁ at c end count n → HasLiterals O C c literalCount → n < literalCount → count ≤ 64 * n → Sized N A₁ T₁ → NumberedReady naming O C N A₁ T₁ K₁ L₁ count c (n + 1)
+numbered-ready {n = n} R S counted h few Z =
+    let X = R .collectable in
     let W = R .writable in
-    let S′ = S (K .bindings) (K .derivation) (K .stored) (R .top) (R .environment) (R .row) (R .term) (R .value) W in
-    let x = next-literal (literals (K .derivation)) n (omega (arith, counted (K .bindings) (K .derivation) (K .stored))) in
-    let isLiteral : numbered (literals (K .derivation)) (n + 1) ≡ some (x .next) = ap (numbered (literals (K .derivation))) (add-one n) ∙ x .isNumbered in
+    let m = counted (X .bindings) (X .derivation) (X .stored) in
+    let S′ = S (X .bindings) (X .derivation) (X .stored) (R .top) (R .environment) (R .row) (R .term) (R .value) W (R .numbers) in
+    let x = next-literal (literals (X .derivation)) n (omega (arith, m)) in
+    let isLiteral : numbered (literals (X .derivation)) (n + 1) ≡ some (x .next) = ap (numbered (literals (X .derivation))) (add-one n) ∙ x .isNumbered in
     record {
-      clause = record { room = K .originRoom; bindings = K .bindings; derivation = K .derivation; stored = K .stored; fits = omega (arith, K .fits) };
+      clause = record { room = X .originRoom; bindings = X .bindings; derivation = X .derivation; stored = X .stored; fits = omega (arith, X .fits) };
       literal = x .next;
       isNumbered = isLiteral;
       ready = record {
@@ -179,6 +201,9 @@ numbered-ready {n = n} R S counted h Z =
         term = R .term;
         value = R .value;
         writable = record { models = S′ .models; inStep = W .inStep (n + 1) (x .next) isLiteral; rows = W .rows; terms = W .terms; values = W .values };
+        seen = S′ .sofar;
+        numbered = S′ .numbers;
+        room = omega (arith, few, R .few, m, h);
       };
     }
 
@@ -199,7 +224,7 @@ clause-there S c h = let x = there (derivations S) (omega (arith, length-map (S 
         try false q ih = let ne : ¬ (c ≡ length ds) = not-equal c (length ds) (rw q) in ih (omega arith)
 
 -- What writing a line asks of its callees.
-module _ {C B N O A T : List ℕ} {c : ℕ} (R : LineReady C B N O A T c) where
+module _ {naming : Naming} {C B N O A T K L : List ℕ} {c : ℕ} (R : LineReady naming C B N O A T K L c) where
   here : ClauseThere (R .state) c
   here = clause-there (R .state) c (R .inside)
 
@@ -257,48 +282,62 @@ module _ {F C B N O A : List ℕ} {t : Tables} {S : State} {symbols rows : List 
       }
 
 -- What writing its literals asks.
-pub line-literals : {C B N O A T : List ℕ} {c : ℕ} (R : LineReady C B N O A T c) (top : ℕ) → top ≡ indexCell C c → (A₁ A₂ : List ℕ) → Cleared A A₁ (128 * (top + 1)) → Loaded O C B N A₁ A₂ c 0 → (T′ : List ℕ) → length T′ ≡ 131072 → LiteralsReady O C N A₂ T′ c
-line-literals {c = c} R top p A₁ A₂ K L T′ room =
+pub line-literals : {naming : Naming} {C B N O A T K L : List ℕ} {c : ℕ} (R : LineReady naming C B N O A T K L c) (top : ℕ) → top ≡ indexCell C c → (A₁ A₂ : List ℕ) → Cleared A A₁ (128 * (top + 1)) → Loaded O C B N A₁ A₂ c 0 → (T′ : List ℕ) → length T′ ≡ 131072 → LiteralsReady naming O C N A₂ T′ K L c
+line-literals {c = c} R top p A₁ A₂ X Y T′ room =
     let S = R .state in
     let d = here R .clause in
     let q = here R .isClause in
     record {
       collectable = line-collect R;
-      sized = record { nodes = line-nodes R; values = L .room; text = room };
+      few = few-literals R;
+      sized = record { nodes = line-nodes R; values = Y .room; text = room };
+      numbers = R .numbers;
       top = top;
       environment = lookup d;
       row = rowOf S;
       term = termOf S;
       value = substitution (termOf S) d;
-      writable = line-writable (R .read) c d q top (p ∙ line-index (R .read) c d q) A₁ A₂ K L;
+      writable = line-writable (R .read) c d q top (p ∙ line-index (R .read) c d q) A₁ A₂ X Y;
     }
 
 -- The parts of a line, one after another.
-pub line-written : (C B N O A T : List ℕ) (at c top : ℕ) → top ≡ indexCell C c → (A₁ A₂ A₃ : List ℕ) → Cleared A A₁ (128 * (top + 1)) → Loaded O C B N A₁ A₂ c 0
-    → (T₁ : List ℕ) (blank : ℕ) → Wrote T T₁ at blank (decimal c) → (T₂ : List ℕ) (index : ℕ) → Wrote T₁ T₂ blank index (32 ∷ []) → (T₃ : List ℕ) (first : ℕ) → Wrote T₂ T₃ index first (decimal top)
-    → (T₄ : List ℕ) (last : ℕ) → WritesLiterals O C N A₂ A₃ T₃ T₄ first c last → Sized N A₃ T₄ → (T₅ : List ℕ) (end : ℕ) → Wrote T₄ T₅ last end (10 ∷ []) → LineWritten C B N O A A₃ T T₅ at c end
-line-written C B N O A T at c top p A₁ A₂ A₃ K L T₁ blank v₁ T₂ index v₂ T₃ first v₃ T₄ last G Z T₅ end v₄ =
-    record { wrote = written-line; sized = record { nodes = Z .nodes; values = Z .values; text = v₄ .kept .room ∙ Z .text } }
-  where
-    written-line : (F : List ℕ) (t : Tables) (S : State) (symbols rows : List ℕ) → ReadTo F t S (tablesWith symbols rows C B) N O A → (d : Derivation) → clauseOf S c ≡ some d → Wrote T T₅ at end (clauseLine S c d)
-    written-line F t S symbols rows R d q =
+module _ (naming : Naming) (C B N O A T K L : List ℕ) (at c top : ℕ) (p : top ≡ indexCell C c) (A₁ A₂ A₃ : List ℕ) (X : Cleared A A₁ (128 * (top + 1))) (Y : Loaded O C B N A₁ A₂ c 0)
+    (T₁ : List ℕ) (blank : ℕ) (v₁ : Wrote T T₁ at blank (decimal c)) (T₂ : List ℕ) (index : ℕ) (v₂ : Wrote T₁ T₂ blank index (32 ∷ [])) (T₃ : List ℕ) (first : ℕ) (v₃ : Wrote T₂ T₃ index first (decimal top))
+    (T₄ K′ L′ : List ℕ) (last : Place) (G : WritesLiterals naming O C N A₂ A₃ T₃ T₄ K K′ L L′ first c last) (Z : Sized N A₃ T₄) (T₅ : List ℕ) (end : ℕ) (v₄ : Wrote T₄ T₅ (last .end) end (10 ∷ [])) where
+  parts : (F : List ℕ) (t : Tables) (S : State) (symbols rows : List ℕ) → ReadTo F t S (tablesWith symbols rows C B) N O A → (d : Derivation) → clauseOf S c ≡ some d → NumberRoom naming K L
+      → PartWritten naming N top A₃ (lookup d) (rowOf S) T₃ T₄ K′ L′ first (λ name. literalsText name (written (termOf S) d)) (allShown [] (written (termOf S) d)) last
+  parts F t S symbols rows R d q room =
+      let m : top ≡ maximumIndex d = p ∙ line-index {t = t} {symbols = symbols} {rows = rows} R c d q in
+      G B d (kept.stored-of (R .kept) (R .few) c d q) top (lookup d) (rowOf S) (termOf S) (substitution (termOf S) d) (line-writable R c d q top m A₁ A₂ X Y) room
+
+  pub line-written : LineReady naming C B N O A T K L c → LineWritten naming C B N O A A₃ T T₅ K′ L′ at c end
+  line-written ready = record {
+    wrote = λ F t S symbols rows R d q.
         let m : top ≡ maximumIndex d = p ∙ line-index {t = t} {symbols = symbols} {rows = rows} R c d q in
-        let w = G B d (kept.stored-of (R .kept) (R .few) c d q) top (lookup d) (rowOf S) (termOf S) (substitution (termOf S) d) (line-writable R c d q top m A₁ A₂ K L) in
-        let x = literalsText (rowOf S) (written (termOf S) d) in
+        let all = allShown [] (written (termOf S) d) in
+        let w = parts F t S symbols rows R d q (ready .numbers) in
+        let x = literalsText (nameOf naming (rowOf S) all) (written (termOf S) d) in
         let y = decimal c ++ (32 ∷ decimal (maximumIndex d)) in
         let index-text : Wrote T₂ T₃ index first (decimal (maximumIndex d)) = subst (λ (i : ℕ). Wrote T₂ T₃ index first (decimal i)) m v₃ in
-        wrote-then T T₄ T₅ at last end (y ++ x) (10 ∷ [])
-        (wrote-then T T₃ T₄ at first last y x
+        wrote-then T T₄ T₅ at (last .end) end (y ++ x) (10 ∷ [])
+        (wrote-then T T₃ T₄ at first (last .end) y x
         (wrote-then T T₁ T₃ at blank first (decimal c) (32 ∷ decimal (maximumIndex d)) v₁ (wrote-then T₁ T₂ T₃ blank index first (32 ∷ []) (decimal (maximumIndex d)) v₂ index-text))
-        (w .wrote))
-        v₄
+        (w .wrote all (longer-same all)))
+        v₄;
+    sized = record { nodes = Z .nodes; values = Z .values; text = v₄ .kept .room ∙ Z .text };
+    numbers =
+        let R = ready .read in
+        let w = parts (ready .file) (ready .tablesBefore) (ready .state) (ready .symbols) (ready .rows) R (here ready .clause) (here ready .isClause) (ready .numbers) in
+        numbered-room naming N K′ L′ (last .count) (allShown [] (written (termOf (ready .state)) (here ready .clause))) (w .numbered);
+  }
 
 -- A line fits into the buffer: at most 128 literals of 834 bytes each, two numbers of five digits, a blank and a line feed.
-pub line-short : (S : State) → StateOk 4096 S → (c : ℕ) (d : Derivation) → clauseOf S c ≡ some d → length (clauseLine S c d) ≤ 106780
+pub line-short : (naming : Naming) (S : State) → StateOk 4096 S → (c : ℕ) (d : Derivation) → clauseOf S c ≡ some d → length (lineOf naming S c d) ≤ 106780
 unfolding mostLiterals
-line-short S H c d q =
+line-short naming S H c d q =
     let few = order-of 4096 S H c d q .literalsFit in
     let number = decimal c in
     let index : List ℕ = 32 ∷ decimal (maximumIndex d) in
-    let text = literalsText (rowOf S) (written (termOf S) d) in
-    omega (arith, length-append (number ++ index ++ text) (10 ∷ []), length-append (number ++ index) text, length-append number index, decimal-length c, decimal-length (maximumIndex d), literals-text-short (rowOf S) (written (termOf S) d), length-map (literals d) (writtenLiteral (termOf S) (substitution (termOf S) d)), few)
+    let name = nameOf naming (rowOf S) (allShown [] (written (termOf S) d)) in
+    let text = literalsText name (written (termOf S) d) in
+    omega (arith, length-append (number ++ index ++ text) (10 ∷ []), length-append (number ++ index) text, length-append number index, decimal-length c, decimal-length (maximumIndex d), literals-text-short name (name-short naming (rowOf S) (allShown [] (written (termOf S) d))) (written (termOf S) d), length-map (literals d) (writtenLiteral (termOf S) (substitution (termOf S) d)), few)

@@ -11,21 +11,24 @@ use literal_text::write_literal;
 use literal_walk::literal;
 use loading::load;
 use named_literals::NamedLiteral;
+use names::Place;
+use numbering::Naming;
 use text::TextBuffer;
 use text::put_byte;
 use text::put_decimal;
 ghost use mathlib.Core.Path.{_≡_};
-ghost use Prim.Native.Nat.{_<_};
+ghost use Prim.Native.Nat.{_+_, _≤_, _<_};
 ghost use lib.ListN.{length};
 ghost use Rattle.lines.specs.Lines.{NumberedReady, LiteralsReady, WritesNumbered, WritesLiterals, LineReady, LineWritten};
 ghost use Rattle.collecting.specs.Literals.{listed};
-ghost use Rattle.terms.specs.Writing.{Sized, WritingReady, WritesLiteral};
+ghost use Rattle.terms.specs.Writing.{Sized, WritingReady};
+ghost use Rattle.literal_text.specs.Literals.{WritesLiteral};
 
 // A clause with at most so many literals has each of them looked up. One with more has them collected in one walk, which takes as long
 // however few they are.
 const FEW: u16 = 6;
 
-// Literal n of clause c, from 1, looked up and written after a blank. The array holds the clause.
+// Literal n of clause c, from 1, looked up and written after a blank. The array holds the clause; so many variables of the line have numbers.
 fn write_numbered(
     origins: &Origins,
     clauses: &[u16],
@@ -33,17 +36,26 @@ fn write_numbered(
     values: &mut ValueCells,
     text: &mut TextBuffer,
     at: usize,
+    naming: Naming,
+    cells: &mut [u16],
+    order: &mut [u32],
+    numbered: u16,
     c: u16,
     n: u16,
-) -> usize
-    requires { ⌜ NumberedReady (now origins) (now clauses) (now nodes) (now values) (now text) c n ⌝ }
-    ensures { λ end. ⌜ WritesNumbered (now (origins .entry)) (now (clauses .entry)) (now (nodes .entry)) (now (values .entry)) (now (values .exit)) (now (text .entry)) (now (text .exit)) at c n end × Sized (now (nodes .entry)) (now (values .exit)) (now (text .exit)) ⌝ }
+) -> Place
+    requires { ⌜ NumberedReady naming (now origins) (now clauses) (now nodes) (now values) (now text) (now cells) (now order) numbered c n ⌝ }
+    ensures { λ p. ⌜ WritesNumbered naming (now (origins .entry)) (now (clauses .entry)) (now (nodes .entry)) (now (values .entry)) (now (values .exit)) (now (text .entry)) (now (text .exit)) (now (cells .entry)) (now (cells .exit)) (now (order .entry)) (now (order .exit)) numbered at c n p × (p .count ≤ numbered + 64) × Sized (now (nodes .entry)) (now (values .exit)) (now (text .exit)) ⌝ }
 {
     let l = literal(origins, clauses, c, n);
     let NamedLiteral::Found(positive, row, index) = l else {
-        return at;
+        return Place {
+            end: at,
+            count: numbered,
+        };
     };
-    write_literal(nodes, values, text, at, positive, row, index)
+    write_literal(
+        nodes, values, text, at, naming, cells, order, numbered, positive, row, index,
+    )
 }
 
 // All literals of clause c, each looked up by its number.
@@ -54,19 +66,30 @@ fn write_found_literals(
     values: &mut ValueCells,
     text: &mut TextBuffer,
     at: usize,
+    naming: Naming,
+    cells: &mut [u16],
+    order: &mut [u32],
     c: u16,
-) -> usize
-    requires { ⌜ LiteralsReady (now origins) (now clauses) (now nodes) (now values) (now text) c ⌝ }
-    ensures { λ end. ⌜ WritesLiterals (now (origins .entry)) (now (clauses .entry)) (now (nodes .entry)) (now (values .entry)) (now (values .exit)) (now (text .entry)) (now (text .exit)) at c end × Sized (now (nodes .entry)) (now (values .exit)) (now (text .exit)) ⌝ }
+) -> Place
+    requires { ⌜ LiteralsReady naming (now origins) (now clauses) (now nodes) (now values) (now text) (now cells) (now order) c ⌝ }
+    ensures { λ p. ⌜ WritesLiterals naming (now (origins .entry)) (now (clauses .entry)) (now (nodes .entry)) (now (values .entry)) (now (values .exit)) (now (text .entry)) (now (text .exit)) (now (cells .entry)) (now (cells .exit)) (now (order .entry)) (now (order .exit)) at c p × Sized (now (nodes .entry)) (now (values .exit)) (now (text .exit)) ⌝ }
 {
     let count = literals_cell(clauses, c);
     let mut end = at;
+    let mut numbered: u16 = 0;
     let mut n: u16 = 0;
     while n < count {
         n += 1;
-        end = write_numbered(origins, clauses, nodes, values, text, end, c, n);
+        let p = write_numbered(
+            origins, clauses, nodes, values, text, end, naming, cells, order, numbered, c, n,
+        );
+        end = p.end;
+        numbered = p.count;
     }
-    end
+    Place {
+        end,
+        count: numbered,
+    }
 }
 
 // Literal n of the list, after a blank.
@@ -75,17 +98,33 @@ fn write_listed(
     values: &mut ValueCells,
     text: &mut TextBuffer,
     at: usize,
+    naming: Naming,
+    cells: &mut [u16],
+    order: &mut [u32],
+    numbered: u16,
     list: &LiteralList,
     n: usize,
-) -> usize
-    requires { ⌜ WritingReady (now nodes) (now values) (now text) (listed (now list) n .1) ⌝ }
+) -> Place
+    requires { ⌜ WritingReady naming (now nodes) (now values) (now text) (now cells) (now order) numbered (listed (now list) n .1) 64 ⌝ }
     requires { ⌜ length (now list) ≡ 33024 ⌝ }
     requires { ⌜ n < 16512 ⌝ }
-    ensures { λ end. ⌜ WritesLiteral (now (nodes .entry)) (now (values .entry)) (now (values .exit)) (now (text .entry)) (now (text .exit)) at (listed (now (list .entry)) n .0) (listed (now (list .entry)) n .1) end × Sized (now (nodes .entry)) (now (values .exit)) (now (text .exit)) ⌝ }
+    ensures { λ p. ⌜ WritesLiteral naming (now (nodes .entry)) (now (values .entry)) (now (values .exit)) (now (text .entry)) (now (text .exit)) (now (cells .entry)) (now (cells .exit)) (now (order .entry)) (now (order .exit)) numbered at (listed (now (list .entry)) n .0) (listed (now (list .entry)) n .1) p × (p .count ≤ numbered + 64) × Sized (now (nodes .entry)) (now (values .exit)) (now (text .exit)) ⌝ }
 {
     let code = list[2 * n];
     let index = list[2 * n + 1];
-    write_literal(nodes, values, text, at, code % 2 == 1, code / 2, index)
+    write_literal(
+        nodes,
+        values,
+        text,
+        at,
+        naming,
+        cells,
+        order,
+        numbered,
+        code % 2 == 1,
+        code / 2,
+        index,
+    )
 }
 
 // All literals of clause c, collected in a list first.
@@ -96,20 +135,31 @@ fn write_collected_literals(
     values: &mut ValueCells,
     text: &mut TextBuffer,
     at: usize,
+    naming: Naming,
+    cells: &mut [u16],
+    order: &mut [u32],
     c: u16,
-) -> usize
-    requires { ⌜ LiteralsReady (now origins) (now clauses) (now nodes) (now values) (now text) c ⌝ }
-    ensures { λ end. ⌜ WritesLiterals (now (origins .entry)) (now (clauses .entry)) (now (nodes .entry)) (now (values .entry)) (now (values .exit)) (now (text .entry)) (now (text .exit)) at c end × Sized (now (nodes .entry)) (now (values .exit)) (now (text .exit)) ⌝ }
+) -> Place
+    requires { ⌜ LiteralsReady naming (now origins) (now clauses) (now nodes) (now values) (now text) (now cells) (now order) c ⌝ }
+    ensures { λ p. ⌜ WritesLiterals naming (now (origins .entry)) (now (clauses .entry)) (now (nodes .entry)) (now (values .entry)) (now (values .exit)) (now (text .entry)) (now (text .exit)) (now (cells .entry)) (now (cells .exit)) (now (order .entry)) (now (order .exit)) at c p × Sized (now (nodes .entry)) (now (values .exit)) (now (text .exit)) ⌝ }
 {
     let mut list = [0u16; 33024];
     let count = collect(origins, clauses, &mut list, 0, c, 0);
     let mut end = at;
+    let mut numbered: u16 = 0;
     let mut n: usize = 0;
     while n < count {
         n += 1;
-        end = write_listed(nodes, values, text, end, &list, n);
+        let p = write_listed(
+            nodes, values, text, end, naming, cells, order, numbered, &list, n,
+        );
+        end = p.end;
+        numbered = p.count;
     }
-    end
+    Place {
+        end,
+        count: numbered,
+    }
 }
 
 // All literals of clause c, each after a blank. The array holds the clause.
@@ -120,18 +170,25 @@ fn write_literals(
     values: &mut ValueCells,
     text: &mut TextBuffer,
     at: usize,
+    naming: Naming,
+    cells: &mut [u16],
+    order: &mut [u32],
     c: u16,
-) -> usize
-    requires { ⌜ LiteralsReady (now origins) (now clauses) (now nodes) (now values) (now text) c ⌝ }
-    ensures { λ end. ⌜ WritesLiterals (now (origins .entry)) (now (clauses .entry)) (now (nodes .entry)) (now (values .entry)) (now (values .exit)) (now (text .entry)) (now (text .exit)) at c end × Sized (now (nodes .entry)) (now (values .exit)) (now (text .exit)) ⌝ }
+) -> Place
+    requires { ⌜ LiteralsReady naming (now origins) (now clauses) (now nodes) (now values) (now text) (now cells) (now order) c ⌝ }
+    ensures { λ p. ⌜ WritesLiterals naming (now (origins .entry)) (now (clauses .entry)) (now (nodes .entry)) (now (values .entry)) (now (values .exit)) (now (text .entry)) (now (text .exit)) (now (cells .entry)) (now (cells .exit)) (now (order .entry)) (now (order .exit)) at c p × Sized (now (nodes .entry)) (now (values .exit)) (now (text .exit)) ⌝ }
 {
     if literals_cell(clauses, c) <= FEW {
-        return write_found_literals(origins, clauses, nodes, values, text, at, c);
+        return write_found_literals(
+            origins, clauses, nodes, values, text, at, naming, cells, order, c,
+        );
     }
-    write_collected_literals(origins, clauses, nodes, values, text, at, c)
+    write_collected_literals(
+        origins, clauses, nodes, values, text, at, naming, cells, order, c,
+    )
 }
 
-// The line of clause c. The array is cleared as far as the clause reaches, and then the clause is loaded.
+// The line of clause c. The array is cleared as far as the clause reaches, and then the clause is loaded. No variable has a number at first.
 pub fn write_line(
     origins: &Origins,
     clauses: &[u16],
@@ -140,10 +197,13 @@ pub fn write_line(
     values: &mut ValueCells,
     text: &mut TextBuffer,
     at: usize,
+    naming: Naming,
+    cells: &mut [u16],
+    order: &mut [u32],
     c: u16,
 ) -> usize
-    requires { ⌜ LineReady (now clauses) (now bindings) (now nodes) (now origins) (now values) (now text) c ⌝ }
-    ensures { λ end. ⌜ LineWritten (now (clauses .entry)) (now (bindings .entry)) (now (nodes .entry)) (now (origins .entry)) (now (values .entry)) (now (values .exit)) (now (text .entry)) (now (text .exit)) at c end ⌝ }
+    requires { ⌜ LineReady naming (now clauses) (now bindings) (now nodes) (now origins) (now values) (now text) (now cells) (now order) c ⌝ }
+    ensures { λ end. ⌜ LineWritten naming (now (clauses .entry)) (now (bindings .entry)) (now (nodes .entry)) (now (origins .entry)) (now (values .entry)) (now (values .exit)) (now (text .entry)) (now (text .exit)) (now (cells .exit)) (now (order .exit)) at c end ⌝ }
 {
     let top = index_cell(clauses, c);
     clear(values, top);
@@ -151,6 +211,8 @@ pub fn write_line(
     let blank = put_decimal(text, at, c);
     let index = put_byte(text, blank, b' ');
     let first = put_decimal(text, index, top);
-    let last = write_literals(origins, clauses, nodes, values, text, first, c);
-    put_byte(text, last, b'\n')
+    let last = write_literals(
+        origins, clauses, nodes, values, text, first, naming, cells, order, c,
+    );
+    put_byte(text, last.end, b'\n')
 }

@@ -13,7 +13,7 @@ use Rattle.unification.specs.Nodes.{part, NodesOk}
 use Rattle.unification.specs.Row.{Variable, same}
 use Rattle.unification.proofs.Tests.{same-eq, same-refl, true-not-false}
 use Rattle.appearance.specs.Appearance.{position, noted}
-use Rattle.numbering.specs.Numbering.{numberCell, Numberable, NumberAt, NumbersFrom, Numbers, Numbered, hasNumber, countAfter, NumberReady, TakesNumber}
+use Rattle.numbering.specs.Numbering.{numberCell, Numberable, NumberAt, NumbersFrom, NumberRoom, Numbers, Numbered, hasNumber, countAfter, NumberReady, TakesNumber}
 use Rattle.appearance.specs.Growing.{Longer}
 use Rattle.numbering.specs.declared.Naming.{Naming}
 use Rattle.numbering.specs.declared.Naming.the-variants.{AsWritten, ByAppearance}
@@ -137,3 +137,12 @@ numbers-before {N} {K} {L} {seen = seen} W e G = record { room = G .room; counte
 pub numbered-back : (naming : Naming) (N K L K′ L′ : List ℕ) (count count′ : ℕ) (seen all : List Variable) → Longer seen all → Numbered naming N K L count seen → Numbered naming N K′ L′ count′ all → Numbered naming N K′ L′ count seen
 numbered-back AsWritten N K L K′ L′ count count′ seen all W G H = tt
 numbered-back ByAppearance N K L K′ L′ count count′ seen all W G H = numbers-before W (G .counted) H
+
+-- At first none has a number; and there is room for as long as there are numbers.
+pub numbered-none : (naming : Naming) (N K L : List ℕ) → NumberRoom naming K L → Numbered naming N K L 0 []
+numbered-none AsWritten N K L h = tt
+numbered-none ByAppearance N K L h = record { room = h; counted = refl; each = tt }
+
+pub numbered-room : (naming : Naming) (N K L : List ℕ) (count : ℕ) (seen : List Variable) → Numbered naming N K L count seen → NumberRoom naming K L
+numbered-room AsWritten N K L count seen G = tt
+numbered-room ByAppearance N K L count seen G = G .room

@@ -1,6 +1,8 @@
 -- After n literals, what was written and the literals that are left make the text of all.
-use Prim.Native.Nat.{_-_, _≤_}
+use mathlib.Core.Path.{_≡_, refl, _∙_}
+use Prim.Native.Nat.{_-_, _*_, _≤_}
 use native.Mathlib.Omega.{arith}
+use lib.ListN.{length}
 use Rattle.terms.specs.Writing.{Sized}
 use Rattle.lines.proofs.LineTexts.{WritesSoFar, literals-start, literals-end, literals-next, numbered-ready, cell-literals}
 use borrow.Author.Needs.{needs}
@@ -12,11 +14,11 @@ use Rattle.clauses.proofs.literals_cell.Reads as literals-cell-reads
 use Rattle.lines.proofs.line.write_numbered.Reads as write-numbered-reads
 
 abbrev Inv-loop : tie.InvT-loop
-Inv-loop origins clauses nodes values₀ text₀ at c count end₀ n₀ values text end n =
-    Sized nodes values text × (n ≤ count) × WritesSoFar origins clauses nodes values₀ values text₀ text at c end n
+Inv-loop origins clauses nodes values₀ text₀ at naming cells₀ order₀ c count end₀ numbered₀ n₀ values text cells order end numbered n =
+    Sized nodes values text × (n ≤ count) × WritesSoFar naming origins clauses nodes values₀ values text₀ text cells₀ cells order₀ order at c end numbered n × (numbered ≤ 64 * n) × (length cells ≡ length cells₀) × (length order ≡ length order₀)
 
 abbrev μ-loop : tie.MeasureT-loop
-μ-loop origins clauses nodes values₀ text₀ at c count end₀ n₀ values text end n =
+μ-loop origins clauses nodes values₀ text₀ at naming cells₀ order₀ c count end₀ numbered₀ n₀ values text cells order end numbered n =
     count - n
 
 literals-cell-requires : tie.Need-literals-cell-requires Inv-loop μ-loop
@@ -24,7 +26,7 @@ literals-cell-requires c κs = search needs
 
 loop-holds : tie.Need-loop-holds Inv-loop μ-loop
 loop-holds c =
-    (c .before .before .pre .sized, omega arith, literals-start _ _ _ _ _ _ _)
+    (c .before .before .before .before .pre .sized, omega arith, literals-start _ _ _ _ _ _ _ _ _ _, omega arith, refl, refl)
 
 add-n : tie.Need-add-n Inv-loop μ-loop
 add-n c =
@@ -32,8 +34,8 @@ add-n c =
 
 write-numbered-requires : tie.Need-write-numbered-requires Inv-loop μ-loop
 write-numbered-requires c κs =
-    let l = c .before .before .before .loop in
-    numbered-ready (c .before .before .before .before .before .before .pre) (l .inv .2) (cell-literals (c .before .before .before .before .literals-cell .ensures)) (c .before .before .loop-test .taken) (l .inv .0)
+    let l = c .before .before .before .before .before .loop in
+    numbered-ready (c .before .before .before .before .before .before .before .before .before .before .pre) (l .inv .2) (cell-literals (c .before .before .before .before .before .before .literals-cell .ensures)) (c .before .before .before .before .loop-test .taken) (l .inv .3) (l .inv .0)
 
 loop-less : tie.Need-loop-less Inv-loop μ-loop
 loop-less c =
@@ -41,13 +43,19 @@ loop-less c =
 
 loop-again : tie.Need-loop-again Inv-loop μ-loop
 loop-again c =
-    let l = c .before .before .before .before .loop in
-    (c .write-numbered .ensures .1, omega arith, literals-next _ _ _ _ _ _ _ _ _ (l .end) (l .n) _ (l .inv .2) (cell-literals (c .before .before .before .before .before .literals-cell .ensures)) (c .before .before .before .loop-test .taken) _ _ _ (c .write-numbered .ensures .0))
+    let l = c .before .before .before .before .before .before .before .before .before .before .loop in
+    (c .before .before .before .before .write-numbered .ensures .2, omega arith, literals-next _ _ _ _ _ _ _ _ _ _ _ _ _ _ (l .end) (l .numbered) (l .n) _ (l .inv .2) (cell-literals (c .before .before .before .before .before .before .before .before .before .before .before .literals-cell .ensures)) (c .before .before .before .before .before .before .before .before .before .loop-test .taken) _ _ _ _ _ (c .before .before .before .before .write-numbered .ensures .0), omega (arith, c .before .before .before .before .write-numbered .ensures .1), c .before .before .before .cells .given ∙ l .inv .4, c .before .order .given ∙ l .inv .5)
+
+same-length : tie.Need-same-length Inv-loop μ-loop
+same-length c = search needs
+
+same-length-2 : tie.Need-same-length-2 Inv-loop μ-loop
+same-length-2 c = search needs
 
 returns : tie.Need-returns Inv-loop μ-loop
 returns c =
     let l = c .before .loop in
-    (literals-end _ _ _ _ _ _ _ _ _ (l .end) (l .n) _ (l .inv .2) (cell-literals (c .before .before .literals-cell .ensures)) (omega arith), l .inv .0)
+    (literals-end _ _ _ _ _ _ _ _ _ _ _ _ _ _ (l .end) (l .numbered) (l .n) _ (l .inv .2) (cell-literals (c .before .before .literals-cell .ensures)) (omega arith) _ refl refl, l .inv .0)
 
 pub write-found-literals-spec : {M : Type 1} → statement M
 write-found-literals-spec =
@@ -61,4 +69,6 @@ write-found-literals-spec =
     write-numbered-requires
     loop-less
     loop-again
+    same-length
+    same-length-2
     returns)

@@ -18,12 +18,12 @@ index-cell-requires c κs = search needs
 
 clear-requires : tie.Need-clear-requires
 clear-requires c κs =
-    let h = line-clear (c .before .before .before .before .pre) _ (c .before .index-cell .ensures) in
+    let h = line-clear (c .before .before .before .before .before .before .pre) _ (c .before .index-cell .ensures) in
     (h .0, omega (arith, h .1))
 
 load-requires : tie.Need-load-requires
 load-requires c κs =
-    line-load (c .before .before .before .before .before .before .pre) _ (c .before .clear .ensures .1)
+    line-load (c .before .before .before .before .before .before .before .before .pre) _ (c .before .clear .ensures .1)
 
 put-decimal-requires : tie.Need-put-decimal-requires
 put-decimal-requires c κs = search needs
@@ -36,15 +36,21 @@ put-decimal-requires-2 c κs = search needs
 
 write-literals-requires : tie.Need-write-literals-requires
 write-literals-requires c κs =
-    line-literals (c .before .before .before .before .before .before .before .before .before .before .before .before .before .before .before .pre) _ (c .before .before .before .before .before .before .before .before .before .before .before .before .index-cell .ensures) _ _ (c .before .before .before .before .before .before .before .before .before .before .clear .ensures .0) (c .before .before .before .before .before .before .before .before .load .ensures) _
-    (c .before .before .put-decimal2 .ensures .kept .room ∙ c .before .before .before .before .put-byte .ensures .kept .room ∙ c .before .before .before .before .before .before .put-decimal .ensures .kept .room ∙ c .before .before .before .before .before .before .before .before .before .before .before .before .before .before .before .pre .text)
+    line-literals (c .before .before .before .before .before .before .before .before .before .before .before .before .before .before .before .before .before .before .before .pre) _ (c .before .before .before .before .before .before .before .before .before .before .before .before .before .before .index-cell .ensures) _ _ (c .before .before .before .before .before .before .before .before .before .before .before .before .clear .ensures .0) (c .before .before .before .before .before .before .before .before .before .before .load .ensures) _
+    (c .before .before .before .before .put-decimal2 .ensures .kept .room ∙ c .before .before .before .before .before .before .put-byte .ensures .kept .room ∙ c .before .before .before .before .before .before .before .before .put-decimal .ensures .kept .room ∙ c .before .before .before .before .before .before .before .before .before .before .before .before .before .before .before .before .before .before .before .pre .text)
 
 put-byte-requires-2 : tie.Need-put-byte-requires-2
 put-byte-requires-2 c κs = search needs
 
+same-length : tie.Need-same-length
+same-length c = search needs
+
+same-length-2 : tie.Need-same-length-2
+same-length-2 c = search needs
+
 returns : tie.Need-returns
 returns c =
-    line-written _ _ _ _ _ _ _ _ _ (c .before .before .before .before .before .before .before .before .before .before .before .before .before .before .before .index-cell .ensures) _ _ _ (c .before .before .before .before .before .before .before .before .before .before .before .before .before .clear .ensures .0) (c .before .before .before .before .before .before .before .before .before .before .before .load .ensures) _ _ (c .before .before .before .before .before .before .before .before .before .put-decimal .ensures) _ _ (c .before .before .before .before .before .before .before .put-byte .ensures) _ _ (c .before .before .before .before .before .put-decimal2 .ensures) _ _ (c .before .before .write-literals .ensures .0) (c .before .before .write-literals .ensures .1) _ _ (c .put-byte2 .ensures)
+    line-written _ _ _ _ _ _ _ _ _ _ _ _ (c .before .before .before .before .before .before .before .before .before .before .before .before .before .before .before .before .before .before .before .before .before .index-cell .ensures) _ _ _ (c .before .before .before .before .before .before .before .before .before .before .before .before .before .before .before .before .before .before .before .clear .ensures .0) (c .before .before .before .before .before .before .before .before .before .before .before .before .before .before .before .before .before .load .ensures) _ _ (c .before .before .before .before .before .before .before .before .before .before .before .before .before .before .before .put-decimal .ensures) _ _ (c .before .before .before .before .before .before .before .before .before .before .before .before .before .put-byte .ensures) _ _ (c .before .before .before .before .before .before .before .before .before .before .before .put-decimal2 .ensures) _ _ _ _ (c .before .before .before .before .before .before .write-literals .ensures .0) (c .before .before .before .before .before .before .write-literals .ensures .1) _ _ (c .put-byte2 .ensures) (c .before .before .before .before .before .before .before .before .before .before .before .before .before .before .before .before .before .before .before .before .before .before .before .before .before .before .pre)
 
 pub write-line-spec : {M : Type 1} → statement M
 write-line-spec =
@@ -58,4 +64,6 @@ write-line-spec =
     put-decimal-requires-2
     write-literals-requires
     put-byte-requires-2
+    same-length
+    same-length-2
     returns)

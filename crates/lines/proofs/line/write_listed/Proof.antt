@@ -30,12 +30,18 @@ element-copy-out-index c = search needs
 write-literal-requires : tie.Need-write-literal-requires
 unfolding listed
 write-literal-requires c κs =
-    c .before .before .before .before .pre .0
+    c .before .before .before .before .before .before .before .before .pre .0
+
+same-length : tie.Need-same-length
+same-length c = search needs
+
+same-length-2 : tie.Need-same-length-2
+same-length-2 c = search needs
 
 returns : tie.Need-returns
 unfolding listed
 returns c =
-    c .write-literal .ensures
+    c .before .before .before .before .write-literal .ensures
 
 pub write-listed-spec : {M : Type 1} → statement M
 write-listed-spec =
@@ -49,4 +55,6 @@ write-listed-spec =
     mul-index-2
     element-copy-out-index
     write-literal-requires
+    same-length
+    same-length-2
     returns)
