@@ -28,44 +28,44 @@ joined-more : (us : List (List ℕ)) (u : List ℕ) → joinedLines (us ++ (u �
 joined-more [] u = append-nil u
 joined-more (v ∷ us) u = ap (λ (x : List ℕ). v ++ x) (joined-more us u) ∙ sym (append-assoc v (joinedLines us) u)
 
-module _ (day : ℕ) (F : List ℕ) (lengths : Lengths) (begin : ℕ) (out₀ : List ℕ) where
+module _ (line : LineWriter) (day : ℕ) (F : List ℕ) (lengths : Lengths) (begin : ℕ) (out₀ : List ℕ) where
   pub record SoFar (out : List ℕ) (n written : ℕ) : Type 0 where
     pub taken : List (List ℕ)
     pub count : begin + length taken ≡ n
     pub size : written ≡ length (joinedLines taken)
-    pub lines : pieceLines day F lengths begin (length out₀) ≡ taken ++ fitting (length out₀ - written) (unitsFrom day F lengths n)
+    pub lines : pieceLines line day F lengths begin (length out₀) ≡ taken ++ fitting (length out₀ - written) (unitsFrom line day F lengths n)
     pub bytes : out ≡ joinedLines taken ++ drop written out₀
     pub low : written ≤ length out₀
 
   pub so-far-none : SoFar out₀ begin 0
-  so-far-none = record { taken = []; count = omega arith; size = refl; lines = ap (λ (k : ℕ). fitting k (unitsFrom day F lengths begin)) (let z : length out₀ ≡ length out₀ - 0 = omega arith in z); bytes = refl; low = omega arith }
+  so-far-none = record { taken = []; count = omega arith; size = refl; lines = ap (λ (k : ℕ). fitting k (unitsFrom line day F lengths begin)) (let z : length out₀ ≡ length out₀ - 0 = omega arith in z); bytes = refl; low = omega arith }
 
   module _ {out : List ℕ} {n written : ℕ} (X : SoFar out n written) where
     -- No unit is left.
-    pub so-far-all : length (units (readoutLines day F lengths)) ≤ n → (p : Piece) → p .written ≡ written → p .rest ≡ Complete → PieceAt day F lengths begin out₀ out p
+    pub so-far-all : length (units (readoutLines line day F lengths)) ≤ n → (p : Piece) → p .written ≡ written → p .rest ≡ Complete → PieceAt line day F lengths begin out₀ out p
     unfolding unitsFrom
     so-far-all h p pw pr =
-        let e : unitsFrom day F lengths n ≡ [] = drop-of-length-le (units (readoutLines day F lengths)) {i = n} h in
-        let all : pieceLines day F lengths begin (length out₀) ≡ X .taken = X .lines ∙ ap (λ (us : List (List ℕ)). X .taken ++ fitting (length out₀ - written) us) e ∙ append-nil (X .taken) in
+        let e : unitsFrom line day F lengths n ≡ [] = drop-of-length-le (units (readoutLines line day F lengths)) {i = n} h in
+        let all : pieceLines line day F lengths begin (length out₀) ≡ X .taken = X .lines ∙ ap (λ (us : List (List ℕ)). X .taken ++ fitting (length out₀ - written) us) e ∙ append-nil (X .taken) in
         record {
           written = pw ∙ X .size ∙ ap (λ (us : List (List ℕ)). length (joinedLines us)) (sym all);
-          rest = ap restGiven pr ∙ sym (ap₂ (λ (us : List (List ℕ)) (k : ℕ). afterPiece us begin k) (ap (λ (us : List (List ℕ)). unitsFrom day F lengths (begin + length us)) all ∙ ap (unitsFrom day F lengths) (X .count) ∙ e) (ap length all));
+          rest = ap restGiven pr ∙ sym (ap₂ (λ (us : List (List ℕ)) (k : ℕ). afterPiece us begin k) (ap (λ (us : List (List ℕ)). unitsFrom line day F lengths (begin + length us)) all ∙ ap (unitsFrom line day F lengths) (X .count) ∙ e) (ap length all));
           bytes = X .bytes ∙ ap₂ (λ (us : List (List ℕ)) (k : ℕ). joinedLines us ++ drop k out₀) (sym all) (X .size ∙ ap (λ (us : List (List ℕ)). length (joinedLines us)) (sym all));
         }
 
-    module _ (h : n < length (units (readoutLines day F lengths))) where
-      one : unitsFrom day F lengths n ≡ unitAt day F lengths n ∷ unitsFrom day F lengths (suc n)
+    module _ (h : n < length (units (readoutLines line day F lengths))) where
+      one : unitsFrom line day F lengths n ≡ unitAt line day F lengths n ∷ unitsFrom line day F lengths (suc n)
       unfolding unitsFrom unitAt
-      one = drop-cons (units (readoutLines day F lengths)) n [] h
+      one = drop-cons (units (readoutLines line day F lengths)) n [] h
 
       -- The next unit does not fit.
-      pub so-far-stopped : length out₀ - written < length (unitAt day F lengths n) → (p : Piece) → p .written ≡ written → restGiven (p .rest) ≡ stoppedAt begin n → PieceAt day F lengths begin out₀ out p
+      pub so-far-stopped : length out₀ - written < length (unitAt line day F lengths n) → (p : Piece) → p .written ≡ written → restGiven (p .rest) ≡ stoppedAt begin n → PieceAt line day F lengths begin out₀ out p
       so-far-stopped l p pw pr =
-          let e : fitting (length out₀ - written) (unitsFrom day F lengths n) ≡ [] = ap (fitting (length out₀ - written)) one ∙ rw (lt-leb (length (unitAt day F lengths n)) (length out₀ - written) l) in
-          let all : pieceLines day F lengths begin (length out₀) ≡ X .taken = X .lines ∙ ap (λ (us : List (List ℕ)). X .taken ++ us) e ∙ append-nil (X .taken) in
+          let e : fitting (length out₀ - written) (unitsFrom line day F lengths n) ≡ [] = ap (fitting (length out₀ - written)) one ∙ rw (lt-leb (length (unitAt line day F lengths n)) (length out₀ - written) l) in
+          let all : pieceLines line day F lengths begin (length out₀) ≡ X .taken = X .lines ∙ ap (λ (us : List (List ℕ)). X .taken ++ us) e ∙ append-nil (X .taken) in
           record {
             written = pw ∙ X .size ∙ ap (λ (us : List (List ℕ)). length (joinedLines us)) (sym all);
-            rest = pr ∙ stop (length (X .taken)) (X .count) ∙ sym (ap₂ (λ (us : List (List ℕ)) (k : ℕ). afterPiece us begin k) (ap (λ (us : List (List ℕ)). unitsFrom day F lengths (begin + length us)) all ∙ ap (unitsFrom day F lengths) (X .count) ∙ one) (ap length all));
+            rest = pr ∙ stop (length (X .taken)) (X .count) ∙ sym (ap₂ (λ (us : List (List ℕ)) (k : ℕ). afterPiece us begin k) (ap (λ (us : List (List ℕ)). unitsFrom line day F lengths (begin + length us)) all ∙ ap (unitsFrom line day F lengths) (X .count) ∙ one) (ap length all));
             bytes = X .bytes ∙ ap₂ (λ (us : List (List ℕ)) (k : ℕ). joinedLines us ++ drop k out₀) (sym all) (X .size ∙ ap (λ (us : List (List ℕ)). length (joinedLines us)) (sym all));
           }
         where
@@ -77,27 +77,27 @@ module _ (day : ℕ) (F : List ℕ) (lengths : Lengths) (begin : ℕ) (out₀ : 
               ∙ sym (ap (λ (b : Bool). pick b (tooShortFor begin) (goOnWith (begin + suc k))) (ne-eqb (suc k) 0 (λ z. omega arith)))
 
       -- It fits, and goes to the output.
-      pub so-far-more : (T : List ℕ) (end : ℕ) → end ≡ length (unitAt day F lengths n) → take end T ≡ unitAt day F lengths n → end ≤ length out₀ - written → {out′ : List ℕ} → out′ ≡ paste out written T end → SoFar out′ (n + 1) (written + end)
+      pub so-far-more : (T : List ℕ) (end : ℕ) → end ≡ length (unitAt line day F lengths n) → take end T ≡ unitAt line day F lengths n → end ≤ length out₀ - written → {out′ : List ℕ} → out′ ≡ paste out written T end → SoFar out′ (n + 1) (written + end)
       so-far-more T end pe pt l {out′} q =
           record {
-            taken = X .taken ++ (unitAt day F lengths n ∷ []);
-            count = omega (arith, X .count, length-append (X .taken) (unitAt day F lengths n ∷ []));
-            size = omega (arith, X .size, pe, ap length (joined-more (X .taken) (unitAt day F lengths n)), length-append (joinedLines (X .taken)) (unitAt day F lengths n));
+            taken = X .taken ++ (unitAt line day F lengths n ∷ []);
+            count = omega (arith, X .count, length-append (X .taken) (unitAt line day F lengths n ∷ []));
+            size = omega (arith, X .size, pe, ap length (joined-more (X .taken) (unitAt line day F lengths n)), length-append (joinedLines (X .taken)) (unitAt line day F lengths n));
             lines =
                 X .lines
                 ∙ ap (λ (us : List (List ℕ)). X .taken ++ us) rest
-                ∙ sym (append-assoc (X .taken) (unitAt day F lengths n ∷ []) (fitting (length out₀ - (written + end)) (unitsFrom day F lengths (n + 1))));
-            bytes = q ∙ pasted ∙ ap (λ (x : List ℕ). x ++ drop (written + end) out₀) (sym (joined-more (X .taken) (unitAt day F lengths n)));
+                ∙ sym (append-assoc (X .taken) (unitAt line day F lengths n ∷ []) (fitting (length out₀ - (written + end)) (unitsFrom line day F lengths (n + 1))));
+            bytes = q ∙ pasted ∙ ap (λ (x : List ℕ). x ++ drop (written + end) out₀) (sym (joined-more (X .taken) (unitAt line day F lengths n)));
             low = let w = X .low in omega arith;
           }
         where
-          rest : fitting (length out₀ - written) (unitsFrom day F lengths n) ≡ (unitAt day F lengths n ∷ []) ++ fitting (length out₀ - (written + end)) (unitsFrom day F lengths (n + 1))
+          rest : fitting (length out₀ - written) (unitsFrom line day F lengths n) ≡ (unitAt line day F lengths n ∷ []) ++ fitting (length out₀ - (written + end)) (unitsFrom line day F lengths (n + 1))
           rest =
               ap (fitting (length out₀ - written)) one
-              ∙ ap (λ (b : Bool). pick b (unitAt day F lengths n ∷ fitting (length out₀ - written - length (unitAt day F lengths n)) (unitsFrom day F lengths (suc n))) []) (le-leb (length (unitAt day F lengths n)) (length out₀ - written) (omega (arith, pe, l)))
-              ∙ ap₂ (λ (k m : ℕ). unitAt day F lengths n ∷ fitting k (unitsFrom day F lengths m)) (let z : length out₀ - written - length (unitAt day F lengths n) ≡ length out₀ - (written + end) = omega (arith, pe) in z) (sym (add-one n))
+              ∙ ap (λ (b : Bool). pick b (unitAt line day F lengths n ∷ fitting (length out₀ - written - length (unitAt line day F lengths n)) (unitsFrom line day F lengths (suc n))) []) (le-leb (length (unitAt line day F lengths n)) (length out₀ - written) (omega (arith, pe, l)))
+              ∙ ap₂ (λ (k m : ℕ). unitAt line day F lengths n ∷ fitting k (unitsFrom line day F lengths m)) (let z : length out₀ - written - length (unitAt line day F lengths n) ≡ length out₀ - (written + end) = omega (arith, pe) in z) (sym (add-one n))
 
-          pasted : paste out written T end ≡ (joinedLines (X .taken) ++ unitAt day F lengths n) ++ drop (written + end) out₀
+          pasted : paste out written T end ≡ (joinedLines (X .taken) ++ unitAt line day F lengths n) ++ drop (written + end) out₀
           pasted =
               let w = X .size in
               let front : take written out ≡ joinedLines (X .taken) = ap (take written) (X .bytes) ∙ take-at (joinedLines (X .taken)) (drop written out₀) written (sym w) in

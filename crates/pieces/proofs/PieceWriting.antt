@@ -19,9 +19,9 @@ use Rattle.units.proofs.UnitSizes.{number}
 module _ {C B N O A : List ℕ} {a : Answer} (R : AfterCheck C B N O A a) where
   -- A unit as it stands at the start of the buffer.
   record AtStart (T : List ℕ) (n end : ℕ) : Type 0 where
-    inside : n < length (units (readoutLines (R .day) (R .file) (lengthsOf (R .before))))
-    size : end ≡ length (unitAt (R .day) (R .file) (lengthsOf (R .before)) n)
-    bytes : take end T ≡ unitAt (R .day) (R .file) (lengthsOf (R .before)) n
+    inside : n < length (units (readoutLines (lineOf naming) (R .day) (R .file) (lengthsOf (R .before))))
+    size : end ≡ length (unitAt (lineOf naming) (R .day) (R .file) (lengthsOf (R .before)) n)
+    bytes : take end T ≡ unitAt (lineOf naming) (R .day) (R .file) (lengthsOf (R .before)) n
 
   at-start : {A₁ A₂ T : List ℕ} {n end : ℕ} → length A₁ ≡ 524416 → n < unitsWithin (a .clauses) → UnitWritten C B N O A₁ A₂ T a n end → AtStart T n end
   unfolding after-again
@@ -29,16 +29,16 @@ module _ {C B N O A : List ℕ} {a : Answer} (R : AfterCheck C B N O A a) where
 
 -- The invariant of the loop and the ways out of it.
 abbrev pub Written : List ℕ → List ℕ → List ℕ → List ℕ → List ℕ → Answer → ℕ → List ℕ → List ℕ → ℕ → ℕ → Type 0
-Written C B N O A a begin out₀ out n written = (R : AfterCheck C B N O A a) → SoFar (R .day) (R .file) (lengthsOf (R .before)) begin out₀ out n written
+Written C B N O A a begin out₀ out n written = (R : AfterCheck C B N O A a) → SoFar (lineOf naming) (R .day) (R .file) (lengthsOf (R .before)) begin out₀ out n written
 
 module _ {C B N O A : List ℕ} {a : Answer} {begin : ℕ} {out₀ : List ℕ} where
   pub written-none : Written C B N O A a begin out₀ out₀ begin 0
-  written-none R = so-far-none (R .day) (R .file) (lengthsOf (R .before)) begin out₀
+  written-none R = so-far-none (lineOf naming) (R .day) (R .file) (lengthsOf (R .before)) begin out₀
 
   module _ {out : List ℕ} {n written : ℕ} (X : Written C B N O A a begin out₀ out n written) where
     pub written-all : {A₁ : List ℕ} → length A₁ ≡ 524416 → unitsWithin (a .clauses) ≤ n → (p : Piece) → p .written ≡ written → p .rest ≡ Complete → PieceOf C B N O A A₁ a begin out₀ out p
     written-all v h p pw pr = record {
-      piece = λ R. so-far-all (R .day) (R .file) (lengthsOf (R .before)) begin out₀ (X R) (subst (λ (k : ℕ). k ≤ n) (number R) h) p pw pr;
+      piece = λ R. so-far-all (lineOf naming) (R .day) (R .file) (lengthsOf (R .before)) begin out₀ (X R) (subst (λ (k : ℕ). k ≤ n) (number R) h) p pw pr;
       values = v;
     }
 
@@ -47,11 +47,11 @@ module _ {C B N O A : List ℕ} {a : Answer} {begin : ℕ} {out₀ : List ℕ} w
       written-stopped h p pw pr = record {
         piece = λ R.
             let s = at-start R values l W in
-            so-far-stopped (R .day) (R .file) (lengthsOf (R .before)) begin out₀ (X R) (s .inside) (subst (λ (k : ℕ). length out₀ - written < k) (s .size) h) p pw pr;
+            so-far-stopped (lineOf naming) (R .day) (R .file) (lengthsOf (R .before)) begin out₀ (X R) (s .inside) (subst (λ (k : ℕ). length out₀ - written < k) (s .size) h) p pw pr;
         values = W .sized .values;
       }
 
       pub written-more : end ≤ length out₀ - written → {out′ : List ℕ} → out′ ≡ paste out written T end → Written C B N O A a begin out₀ out′ (n + 1) (written + end)
       written-more h q R =
           let s = at-start R values l W in
-          so-far-more (R .day) (R .file) (lengthsOf (R .before)) begin out₀ (X R) (s .inside) T end (s .size) (s .bytes) h q
+          so-far-more (lineOf naming) (R .day) (R .file) (lengthsOf (R .before)) begin out₀ (X R) (s .inside) T end (s .size) (s .bytes) h q

@@ -25,12 +25,12 @@ abbrev pub stoppedAt : ℕ → ℕ → Progress
 stoppedAt begin n = pick (eqb n begin) (tooShortFor begin) (goOnWith n)
 
 -- The bytes of a piece at the start of an output, and the rest of it as it was.
-pub record PieceAt (day : ℕ) (file : List ℕ) (lengths : Lengths) (begin : ℕ) (output output′ : List ℕ) (p : Piece) : Type 0 where
-  pub written : p .written ≡ length (pieceBytes day file lengths begin (length output))
-  pub rest : restGiven (p .rest) ≡ progress day file lengths begin (length output)
-  pub bytes : output′ ≡ pieceBytes day file lengths begin (length output) ++ drop (length (pieceBytes day file lengths begin (length output))) output
+pub record PieceAt (line : LineWriter) (day : ℕ) (file : List ℕ) (lengths : Lengths) (begin : ℕ) (output output′ : List ℕ) (p : Piece) : Type 0 where
+  pub written : p .written ≡ length (pieceBytes line day file lengths begin (length output))
+  pub rest : restGiven (p .rest) ≡ progress line day file lengths begin (length output)
+  pub bytes : output′ ≡ pieceBytes line day file lengths begin (length output) ++ drop (length (pieceBytes line day file lengths begin (length output))) output
 
 -- What writing a piece says, whichever tables there were before the check. The array keeps its length, so that the next piece can be written.
 pub record PieceOf (C B N O A A′ : List ℕ) (a : Answer) (begin : ℕ) (output output′ : List ℕ) (p : Piece) : Type 0 where
-  pub piece : (R : AfterCheck C B N O A a) → PieceAt (R .day) (R .file) (lengthsOf (R .before)) begin output output′ p
+  pub piece : (R : AfterCheck C B N O A a) → PieceAt line (R .day) (R .file) (lengthsOf (R .before)) begin output output′ p
   pub values : length A′ ≡ 524416

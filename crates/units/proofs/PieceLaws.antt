@@ -9,7 +9,7 @@ use lib.ListN.{length, drop, length-append, drop-of-length-le}
 use borrow.Author.Tests.{eqb-true, eqb-false, leb-true, leb-false, le-leb}
 use Rattle.record.specs.Record.{pick}
 use Rattle.verdict.specs.Verdict.{check, Lengths}
-use Rattle.verdict.specs.Readout.{readoutLines, joinedLines, readout}
+use Rattle.verdict.specs.Readout.{LineWriter, readoutLines, joinedLines, readoutBy}
 use Rattle.units.specs.Pieces.{units, unitsWithin, fitting, Progress, complete, goOnWith, tooShortFor, afterPiece, unitsFrom, pieceLines, pieceBytes, progress, Pieces, lastPiece, piece, PiecesHold}
 
 units-joined : (ls : List (List ℕ)) → joinedLines (units ls) ≡ joinedLines ls
@@ -51,8 +51,8 @@ all-fit (u ∷ us) room l =
     ap (λ (b : Bool). pick b (u ∷ fitting (room - length u) us) []) (le-leb (length u) room (omega arith)) ∙ ap (λ (xs : List (List ℕ)). u ∷ xs) (all-fit us (room - length u) (omega arith))
 
 -- A piece is no longer than its room.
-pub piece-size : (day : ℕ) (file : List ℕ) (lengths : Lengths) (n room : ℕ) → length (pieceBytes day file lengths n room) ≤ room
-piece-size day file lengths n room = fitting-size room (unitsFrom day file lengths n)
+pub piece-size : (line : LineWriter) (day : ℕ) (file : List ℕ) (lengths : Lengths) (n room : ℕ) → length (pieceBytes line day file lengths n room) ≤ room
+piece-size line day file lengths n room = fitting-size room (unitsFrom line day file lengths n)
 
 complete-none : (us : List (List ℕ)) (n taken : ℕ) → afterPiece us n taken ≡ complete → us ≡ []
 complete-none [] n taken q = refl
@@ -118,58 +118,58 @@ first-fits room (u ∷ us) n h q = absurd (try (leb (length u) room) refl q)
     try true p z = omega arith
     try false p z = let y = leb-false (length u) room p in let x = h .0 in omega arith
 
-module _ (day : ℕ) (file : List ℕ) (lengths : Lengths) where
-  from-rest : (n room : ℕ) → joinedLines (unitsFrom day file lengths n) ≡ pieceBytes day file lengths n room ++ joinedLines (unitsFrom day file lengths (n + length (pieceLines day file lengths n room)))
+module _ (line : LineWriter) (day : ℕ) (file : List ℕ) (lengths : Lengths) where
+  from-rest : (n room : ℕ) → joinedLines (unitsFrom line day file lengths n) ≡ pieceBytes line day file lengths n room ++ joinedLines (unitsFrom line day file lengths (n + length (pieceLines line day file lengths n room)))
   unfolding unitsFrom
   from-rest n room =
-      fitting-rest room (unitsFrom day file lengths n)
-      ∙ ap (λ (x : List (List ℕ)). pieceBytes day file lengths n room ++ joinedLines x) (drop-more n (length (pieceLines day file lengths n room)) (units (readoutLines day file lengths)))
+      fitting-rest room (unitsFrom line day file lengths n)
+      ∙ ap (λ (x : List (List ℕ)). pieceBytes line day file lengths n room ++ joinedLines x) (drop-more n (length (pieceLines line day file lengths n room)) (units (readoutLines line day file lengths)))
 
-  pieces-from : (n : ℕ) (text : List ℕ) → Pieces day file lengths n text → text ≡ joinedLines (unitsFrom day file lengths n)
+  pieces-from : (n : ℕ) (text : List ℕ) → Pieces line day file lengths n text → text ≡ joinedLines (unitsFrom line day file lengths n)
   pieces-from n text (lastPiece room q) =
       sym
       (from-rest n room
-      ∙ ap (λ (x : List (List ℕ)). pieceBytes day file lengths n room ++ joinedLines x) (complete-none (unitsFrom day file lengths (n + length (pieceLines day file lengths n room))) n (length (pieceLines day file lengths n room)) q)
-      ∙ append-nil (pieceBytes day file lengths n room))
+      ∙ ap (λ (x : List (List ℕ)). pieceBytes line day file lengths n room ++ joinedLines x) (complete-none (unitsFrom line day file lengths (n + length (pieceLines line day file lengths n room))) n (length (pieceLines line day file lengths n room)) q)
+      ∙ append-nil (pieceBytes line day file lengths n room))
   pieces-from n text (piece {m = m} {text = rest} room q more) =
-      ap (λ (x : List ℕ). pieceBytes day file lengths n room ++ x)
-      (pieces-from m rest more ∙ ap (λ (k : ℕ). joinedLines (unitsFrom day file lengths k)) (go-on-is (unitsFrom day file lengths (n + length (pieceLines day file lengths n room))) n (length (pieceLines day file lengths n room)) m q .0))
+      ap (λ (x : List ℕ). pieceBytes line day file lengths n room ++ x)
+      (pieces-from m rest more ∙ ap (λ (k : ℕ). joinedLines (unitsFrom line day file lengths k)) (go-on-is (unitsFrom line day file lengths (n + length (pieceLines line day file lengths n room))) n (length (pieceLines line day file lengths n room)) m q .0))
       ∙ sym (from-rest n room)
 
-  all-units : joinedLines (unitsFrom day file lengths 0) ≡ readout day file lengths
+  all-units : joinedLines (unitsFrom line day file lengths 0) ≡ readoutBy line day file lengths
   unfolding unitsFrom
-  all-units = units-joined (readoutLines day file lengths)
+  all-units = units-joined (readoutLines line day file lengths)
 
   -- With room for all of it, one piece is the readout.
   abbrev roomForAll : ℕ
-  roomForAll = length (joinedLines (unitsFrom day file lengths 0))
+  roomForAll = length (joinedLines (unitsFrom line day file lengths 0))
 
-  all-taken : pieceLines day file lengths 0 roomForAll ≡ unitsFrom day file lengths 0
-  all-taken = all-fit (unitsFrom day file lengths 0) roomForAll (omega arith)
+  all-taken : pieceLines line day file lengths 0 roomForAll ≡ unitsFrom line day file lengths 0
+  all-taken = all-fit (unitsFrom line day file lengths 0) roomForAll (omega arith)
 
-  none-after : unitsFrom day file lengths (0 + length (unitsFrom day file lengths 0)) ≡ []
+  none-after : unitsFrom line day file lengths (0 + length (unitsFrom line day file lengths 0)) ≡ []
   unfolding unitsFrom
-  none-after = drop-of-length-le (units (readoutLines day file lengths)) (let z : length (units (readoutLines day file lengths)) ≤ 0 + length (units (readoutLines day file lengths)) = omega arith in z)
+  none-after = drop-of-length-le (units (readoutLines line day file lengths)) (let z : length (units (readoutLines line day file lengths)) ≤ 0 + length (units (readoutLines line day file lengths)) = omega arith in z)
 
-  whole : Pieces day file lengths 0 (readout day file lengths)
-  whole = subst (Pieces day file lengths 0) (ap joinedLines all-taken ∙ all-units) (lastPiece roomForAll
-      (ap (λ (us : List (List ℕ)). afterPiece us 0 (length (pieceLines day file lengths 0 roomForAll))) (ap (λ (ls : List (List ℕ)). unitsFrom day file lengths (0 + length ls)) all-taken ∙ none-after)))
+  whole : Pieces line day file lengths 0 (readoutBy line day file lengths)
+  whole = subst (Pieces line day file lengths 0) (ap joinedLines all-taken ∙ all-units) (lastPiece roomForAll
+      (ap (λ (us : List (List ℕ)). afterPiece us 0 (length (pieceLines line day file lengths 0 roomForAll))) (ap (λ (ls : List (List ℕ)). unitsFrom line day file lengths (0 + length ls)) all-taken ∙ none-after)))
 
-  pub pieces-hold : AllWithin 131072 (units (readoutLines day file lengths)) → length (units (readoutLines day file lengths)) ≡ unitsWithin (check day file lengths .clauses) → PiecesHold day file lengths
+  pub pieces-hold : AllWithin 131072 (units (readoutLines line day file lengths)) → length (units (readoutLines line day file lengths)) ≡ unitsWithin (check day file lengths .clauses) → PiecesHold line day file lengths
   unfolding unitsFrom tag
   pieces-hold within counted = record {
     count = counted;
-    lines = units-joined (readoutLines day file lengths);
+    lines = units-joined (readoutLines line day file lengths);
     together = λ text p. pieces-from 0 text p ∙ all-units;
     whole = whole;
     moves = λ n room m q.
-        let z = go-on-is (unitsFrom day file lengths (n + length (pieceLines day file lengths n room))) n (length (pieceLines day file lengths n room)) m q in
+        let z = go-on-is (unitsFrom line day file lengths (n + length (pieceLines line day file lengths n room))) n (length (pieceLines line day file lengths n room)) m q in
         let y = z .1 in
         let x = z .0 in
-        positive n m (length (pieceLines day file lengths n room)) x y;
+        positive n m (length (pieceLines line day file lengths n room)) x y;
     short = λ n room m q.
-        let z = too-short-is (unitsFrom day file lengths (n + length (pieceLines day file lengths n room))) n (length (pieceLines day file lengths n room)) m q in
-        (z .0, ap joinedLines (none-left (pieceLines day file lengths n room) (z .1)));
+        let z = too-short-is (unitsFrom line day file lengths (n + length (pieceLines line day file lengths n room))) n (length (pieceLines line day file lengths n room)) m q in
+        (z .0, ap joinedLines (none-left (pieceLines line day file lengths n room) (z .1)));
     enough = λ n room m big q. never n room m big q;
   }
     where
@@ -185,9 +185,9 @@ module _ (day : ℕ) (file : List ℕ) (lengths : Lengths) where
       left [] n taken m q e = let y : _≡_ {A = ℕ} 0 2 = ap tag q in omega arith
       left (u ∷ us) n taken m q e = let y : length (u ∷ us) ≡ 0 = ap length e in omega arith
 
-      never : (n room m : ℕ) → 131072 ≤ room → progress day file lengths n room ≡ tooShortFor m → ⊥
+      never : (n room m : ℕ) → 131072 ≤ room → progress line day file lengths n room ≡ tooShortFor m → ⊥
       never n room m big q =
-          let z = too-short-is (unitsFrom day file lengths (n + length (pieceLines day file lengths n room))) n (length (pieceLines day file lengths n room)) m q in
-          let e : unitsFrom day file lengths n ≡ [] = first-fits room (unitsFrom day file lengths n) n (wider room big (unitsFrom day file lengths n) (drop-within 131072 n (units (readoutLines day file lengths)) within)) (z .1) in
-          let d : unitsFrom day file lengths (n + length (pieceLines day file lengths n room)) ≡ [] = sym (drop-more n (length (pieceLines day file lengths n room)) (units (readoutLines day file lengths))) ∙ ap (drop (length (pieceLines day file lengths n room))) e ∙ drop-none {A = List ℕ} (length (pieceLines day file lengths n room)) in
-          left (unitsFrom day file lengths (n + length (pieceLines day file lengths n room))) n (length (pieceLines day file lengths n room)) m q d
+          let z = too-short-is (unitsFrom line day file lengths (n + length (pieceLines line day file lengths n room))) n (length (pieceLines line day file lengths n room)) m q in
+          let e : unitsFrom line day file lengths n ≡ [] = first-fits room (unitsFrom line day file lengths n) n (wider room big (unitsFrom line day file lengths n) (drop-within 131072 n (units (readoutLines line day file lengths)) within)) (z .1) in
+          let d : unitsFrom line day file lengths (n + length (pieceLines line day file lengths n room)) ≡ [] = sym (drop-more n (length (pieceLines line day file lengths n room)) (units (readoutLines line day file lengths))) ∙ ap (drop (length (pieceLines line day file lengths n room))) e ∙ drop-none {A = List ℕ} (length (pieceLines line day file lengths n room)) in
+          left (unitsFrom line day file lengths (n + length (pieceLines line day file lengths n room))) n (length (pieceLines line day file lengths n room)) m q d

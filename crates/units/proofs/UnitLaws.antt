@@ -16,13 +16,13 @@ use Rattle.verdict.specs.Verdict.{check, Lengths}
 use Rattle.demands.proofs.Inversions.{entry-below}
 use Rattle.answer.proofs.GivenNumbers.{stateLeft}
 use Rattle.units.specs.Pieces.{units, unitsWithin}
-use Rattle.verdict.specs.Readout.{verdictLine, clauseLine, clauseLines, linesOf, readoutLines}
+use Rattle.verdict.specs.Readout.{LineWriter, verdictLine, clauseLines, linesOf, readoutLines}
 use Rattle.units.specs.Units.{unitAt}
 
 -- The lines of a file are those of the verdict and the state that its check leaves.
-pub lines-left : (day : ℕ) (F : List ℕ) (lengths : Lengths) → readoutLines day F lengths ≡ linesOf (check day F lengths .verdict) (stateLeft F lengths)
+pub lines-left : (line : LineWriter) (day : ℕ) (F : List ℕ) (lengths : Lengths) → readoutLines line day F lengths ≡ linesOf line (check day F lengths .verdict) (stateLeft F lengths)
 unfolding readoutLines check
-lines-left day F lengths = refl
+lines-left line day F lengths = refl
 
 -- Units of a line and the lines after it.
 units-one : (v : List ℕ) (ls : List (List ℕ)) → length ls ≡ 0 → getD (units (v ∷ ls)) 0 [] ≡ v
@@ -42,42 +42,42 @@ units-length : (v : List ℕ) (ls : List (List ℕ)) → length (units (v ∷ ls
 units-length v [] = refl
 units-length v (l ∷ ls) = sym (ap (λ (b : Bool). pick b 1 (suc (length ls))) (ne-eqb (suc (length ls)) 0 (λ q. omega arith)))
 
-module _ (day : ℕ) (F : List ℕ) (lengths : Lengths) where
+module _ (line : LineWriter) (day : ℕ) (F : List ℕ) (lengths : Lengths) where
   abbrev S : State
   S = stateLeft F lengths
 
   abbrev lines : List (List ℕ)
-  lines = clauseLines S (derivations S)
+  lines = clauseLines line S (derivations S)
 
   abbrev heading : List ℕ
   heading = verdictLine (check day F lengths .verdict)
 
   lines-count : length lines ≡ length (S .clauses)
-  lines-count = clause-lines-length S (derivations S) ∙ length-map (S .clauses) (λ (c : ℕ × Derivation). c .1)
+  lines-count = clause-lines-length line S (derivations S) ∙ length-map (S .clauses) (λ (c : ℕ × Derivation). c .1)
 
-  pub unit-count : length (units (readoutLines day F lengths)) ≡ unitsWithin (length (S .clauses))
-  unit-count = ap (λ (l : List (List ℕ)). length (units l)) (lines-left day F lengths) ∙ units-length heading lines ∙ ap unitsWithin lines-count
+  pub unit-count : length (units (readoutLines line day F lengths)) ≡ unitsWithin (length (S .clauses))
+  unit-count = ap (λ (l : List (List ℕ)). length (units l)) (lines-left line day F lengths) ∙ units-length heading lines ∙ ap unitsWithin lines-count
 
   -- Unit 0 without clauses, unit 0 with clauses, and any other.
-  pub unit-alone : length (S .clauses) ≡ 0 → unitAt day F lengths 0 ≡ heading
+  pub unit-alone : length (S .clauses) ≡ 0 → unitAt line day F lengths 0 ≡ heading
   unfolding unitAt
-  unit-alone z = ap (λ (l : List (List ℕ)). getD (units l) 0 []) (lines-left day F lengths) ∙ units-one heading lines (lines-count ∙ z)
+  unit-alone z = ap (λ (l : List (List ℕ)). getD (units l) 0 []) (lines-left line day F lengths) ∙ units-one heading lines (lines-count ∙ z)
 
-  pub unit-first : (d : Derivation) → clauseOf S 0 ≡ some d → unitAt day F lengths 0 ≡ heading ++ clauseLine S 0 d
+  pub unit-first : (d : Derivation) → clauseOf S 0 ≡ some d → unitAt line day F lengths 0 ≡ heading ++ line S 0 d
   unfolding unitAt
   unit-first d q =
       let l = entry-below (derivations S) 0 d q in
-      ap (λ (x : List (List ℕ)). getD (units x) 0 []) (lines-left day F lengths)
-      ∙ units-first heading lines (omega (arith, l, clause-lines-length S (derivations S)))
-      ∙ ap (λ (x : List ℕ). heading ++ x) (clause-line-at S (derivations S) 0 d q)
+      ap (λ (x : List (List ℕ)). getD (units x) 0 []) (lines-left line day F lengths)
+      ∙ units-first heading lines (omega (arith, l, clause-lines-length line S (derivations S)))
+      ∙ ap (λ (x : List ℕ). heading ++ x) (clause-line-at line S (derivations S) 0 d q)
 
-  pub unit-other : (n : ℕ) (d : Derivation) → (n ≡ 0 → ⊥) → clauseOf S n ≡ some d → unitAt day F lengths n ≡ clauseLine S n d
+  pub unit-other : (n : ℕ) (d : Derivation) → (n ≡ 0 → ⊥) → clauseOf S n ≡ some d → unitAt line day F lengths n ≡ line S n d
   unfolding unitAt
   unit-other n d h q =
       let l = entry-below (derivations S) n d q in
-      ap (λ (x : List (List ℕ)). getD (units x) n []) (lines-left day F lengths)
-      ∙ units-next heading lines n (positive n h) (omega (arith, l, clause-lines-length S (derivations S)))
-      ∙ clause-line-at S (derivations S) n d q
+      ap (λ (x : List (List ℕ)). getD (units x) n []) (lines-left line day F lengths)
+      ∙ units-next heading lines n (positive n h) (omega (arith, l, clause-lines-length line S (derivations S)))
+      ∙ clause-line-at line S (derivations S) n d q
     where
       positive : (n : ℕ) → (n ≡ 0 → ⊥) → 0 < n
       positive zero h = absurd (h refl)

@@ -16,7 +16,9 @@ use Rattle.demands.proofs.Inversions.{entry-below, entry-more, entry-new}
 use Rattle.demands.proofs.Reading.{ending-ok}
 use Rattle.answer.specs.declared.Answer.{Answer}
 use Rattle.units.specs.Pieces.{units, unitsWithin, PiecesHold}
-use Rattle.verdict.specs.Readout.{verdictLine, clauseLine, clauseLines, readoutLines}
+use Rattle.verdict.specs.Readout.{LineWriter, verdictLine, clauseLines, readoutLines}
+use Rattle.numbering.specs.Numbering.{lineOf}
+use Rattle.numbering.specs.declared.Naming.{Naming}
 use Rattle.verdict.specs.Text.{decimal}
 use Rattle.units.specs.Units.{unitAt, AfterCheck, UnitReady, UnitWritten}
 use Rattle.text.proofs.Decimals.{decimal-length}
@@ -38,9 +40,9 @@ within-append : (room : ℕ) (us : List (List ℕ)) (u : List ℕ) → AllWithin
 within-append room [] u h l = (l, tt)
 within-append room (v ∷ us) u h l = (h .0, within-append room us u (h .1) l)
 
-lines-within : (S : State) (ds : List Derivation) → ((n : ℕ) (d : Derivation) → entry ds n ≡ some d → length (clauseLine S n d) ≤ 106780) → AllWithin 106780 (clauseLines S ds)
-lines-within S [] h = tt
-lines-within S (d ∷ ds) h = within-append 106780 (clauseLines S ds) (clauseLine S (length ds) d) (lines-within S ds (λ n e q. h n e (entry-more d ds n e q))) (h (length ds) d (entry-new d ds))
+lines-within : (line : LineWriter) (S : State) (ds : List Derivation) → ((n : ℕ) (d : Derivation) → entry ds n ≡ some d → length (line S n d) ≤ 106780) → AllWithin 106780 (clauseLines line S ds)
+lines-within line S [] h = tt
+lines-within line S (d ∷ ds) h = within-append 106780 (clauseLines line S ds) (line S (length ds) d) (lines-within line S ds (λ n e q. h n e (entry-more d ds n e q))) (h (length ds) d (entry-new d ds))
 
 wider : (us : List (List ℕ)) → AllWithin 106780 us → AllWithin 131072 us
 wider [] h = tt
@@ -51,55 +53,56 @@ units-within v [] l h = (omega arith, tt)
 units-within v (u ∷ us) l h = let x = h .0 in (omega (arith, length-append v u, l, x), wider us (h .1))
 
 -- Every line of a state is short.
-abbrev Short : State → Type 0
-Short S = (n : ℕ) (d : Derivation) → clauseOf S n ≡ some d → length (clauseLine S n d) ≤ 106780
+abbrev Short : Naming → State → Type 0
+Short naming S = (n : ℕ) (d : Derivation) → clauseOf S n ≡ some d → length (lineOf naming S n d) ≤ 106780
 
-pub all-within : (day : ℕ) (F : List ℕ) (lengths : Lengths) → AllWithin 131072 (units (readoutLines day F lengths))
-all-within day F lengths =
-    subst (λ (ls : List (List ℕ)). AllWithin 131072 (units ls)) (sym (lines-left day F lengths))
-    (units-within (verdictLine (check day F lengths .verdict)) (clauseLines (stateLeft F lengths) (derivations (stateLeft F lengths))) (verdict-short (check day F lengths .verdict))
-    (lines-within (stateLeft F lengths) (derivations (stateLeft F lengths)) (try (fittingLength (length F)) refl (longEnough lengths) refl)))
+pub all-within : (naming : Naming) (day : ℕ) (F : List ℕ) (lengths : Lengths) → AllWithin 131072 (units (readoutLines (lineOf naming) day F lengths))
+all-within naming day F lengths =
+    subst (λ (ls : List (List ℕ)). AllWithin 131072 (units ls)) (sym (lines-left (lineOf naming) day F lengths))
+    (units-within (verdictLine (check day F lengths .verdict)) (clauseLines (lineOf naming) (stateLeft F lengths) (derivations (stateLeft F lengths))) (verdict-short (check day F lengths .verdict))
+    (lines-within (lineOf naming) (stateLeft F lengths) (derivations (stateLeft F lengths)) (try (fittingLength (length F)) refl (longEnough lengths) refl)))
   where
-    none : (n : ℕ) (d : Derivation) → clauseOf emptyState n ≡ some d → length (clauseLine emptyState n d) ≤ 106780
+    none : (n : ℕ) (d : Derivation) → clauseOf emptyState n ≡ some d → length (lineOf naming emptyState n d) ≤ 106780
     none n d q = let z = entry-below [] n d q in absurd (omega arith)
 
-    try : (f : Bool) → fittingLength (length F) ≡ f → (g : Bool) → longEnough lengths ≡ g → (n : ℕ) (d : Derivation) → clauseOf (stateLeft F lengths) n ≡ some d → length (clauseLine (stateLeft F lengths) n d) ≤ 106780
-    try true p true q = let e : stateLeft F lengths ≡ stateOf (ending F) = rw (p, q) refl in subst Short (sym e) (λ n d z. line-short (stateOf (ending F)) (ending-ok F p) n d z)
-    try true p false q = let e : stateLeft F lengths ≡ emptyState = rw (p, q) refl in subst Short (sym e) none
-    try false p g q = let e : stateLeft F lengths ≡ emptyState = rw p refl in subst Short (sym e) none
+    try : (f : Bool) → fittingLength (length F) ≡ f → (g : Bool) → longEnough lengths ≡ g → (n : ℕ) (d : Derivation) → clauseOf (stateLeft F lengths) n ≡ some d → length (lineOf naming (stateLeft F lengths) n d) ≤ 106780
+    try true p true q = let e : stateLeft F lengths ≡ stateOf (ending F) = rw (p, q) refl in subst (Short naming) (sym e) (λ n d z. line-short naming (stateOf (ending F)) (ending-ok F p) n d z)
+    try true p false q = let e : stateLeft F lengths ≡ emptyState = rw (p, q) refl in subst (Short naming) (sym e) none
+    try false p g q = let e : stateLeft F lengths ≡ emptyState = rw p refl in subst (Short naming) (sym e) none
 
 one-within : (room : ℕ) (us : List (List ℕ)) (n : ℕ) → AllWithin room us → n < length us → length (getD us n []) ≤ room
 one-within room [] n h l = absurd (omega arith)
 one-within room (u ∷ us) zero h l = h .0
 one-within room (u ∷ us) (suc n) h l = one-within room us n (h .1) (omega arith)
 
-module _ {C B N O A : List ℕ} {a : Answer} (R : AfterCheck C B N O A a) where
-  pub number : unitsWithin (a .clauses) ≡ length (units (readoutLines (R .day) (R .file) (lengthsOf (R .before))))
-  number = ap unitsWithin (clauses-given (R .day) (R .file) (lengthsOf (R .before)) a (R .checked .checked .answer)) ∙ sym (unit-count (R .day) (R .file) (lengthsOf (R .before)))
+module _ (naming : Naming) {C B N O A : List ℕ} {a : Answer} (R : AfterCheck C B N O A a) where
+  pub number : unitsWithin (a .clauses) ≡ length (units (readoutLines (lineOf naming) (R .day) (R .file) (lengthsOf (R .before))))
+  number = ap unitsWithin (clauses-given (R .day) (R .file) (lengthsOf (R .before)) a (R .checked .checked .answer)) ∙ sym (unit-count (lineOf naming) (R .day) (R .file) (lengthsOf (R .before)))
 
 -- The count of units, by the answer.
-pub units-counted : (day : ℕ) (F : List ℕ) (lengths : Lengths) → length (units (readoutLines day F lengths)) ≡ unitsWithin (check day F lengths .clauses)
+pub units-counted : (naming : Naming) (day : ℕ) (F : List ℕ) (lengths : Lengths) → length (units (readoutLines (lineOf naming) day F lengths)) ≡ unitsWithin (check day F lengths .clauses)
 unfolding check
-units-counted day F lengths = unit-count day F lengths
+units-counted naming day F lengths = unit-count (lineOf naming) day F lengths
 
 -- What holds of pieces holds of the pieces of every file.
-pub pieces-always : (day : ℕ) (F : List ℕ) (lengths : Lengths) → PiecesHold day F lengths
-pieces-always day F lengths = pieces-hold day F lengths (all-within day F lengths) (units-counted day F lengths)
+pub pieces-always : (naming : Naming) (day : ℕ) (F : List ℕ) (lengths : Lengths) → PiecesHold (lineOf naming) day F lengths
+pieces-always naming day F lengths = pieces-hold (lineOf naming) day F lengths (all-within naming day F lengths) (units-counted naming day F lengths)
 
 -- What was written is the whole unit.
-pub unit-whole : {C B N O A A′ T T′ : List ℕ} {a : Answer} {n end : ℕ} → UnitReady C B N O A T a n → UnitWrote C B N O A A′ T T′ a n end → UnitWritten C B N O A A′ T′ a n end
+pub unit-whole : {naming : Naming} {C B N O A A′ T T′ K K′ L L′ : List ℕ} {a : Answer} {n end : ℕ} → UnitReady naming C B N O A T K L a n → UnitWrote naming C B N O A A′ T T′ K′ L′ a n end → UnitWritten naming C B N O A A′ T′ K′ L′ a n end
 unfolding unitAt
-unit-whole {C} {B} {N} {O} {A} {T = T} {a = a} {n = n} U W = record {
+unit-whole {naming} {C} {B} {N} {O} {A} {T = T} {a = a} {n = n} U W = record {
   size = λ R. let e = wrote-position (W .wrote R) (fits R) in omega (arith, e);
   whole = λ R. wrote-bytes (W .wrote R) (fits R);
   sized = W .sized;
+  numbers = W .numbers;
 }
   where
-    fits : (R : AfterCheck C B N O A a) → 0 + length (unitAt (R .day) (R .file) (lengthsOf (R .before)) n) ≤ length T
+    fits : (R : AfterCheck C B N O A a) → 0 + length (unitAt (lineOf naming) (R .day) (R .file) (lengthsOf (R .before)) n) ≤ length T
     fits R =
-        let i : n < length (units (readoutLines (R .day) (R .file) (lengthsOf (R .before)))) = subst (λ (k : ℕ). n < k) (number R) (U .inside) in
-        omega (arith, one-within 131072 (units (readoutLines (R .day) (R .file) (lengthsOf (R .before)))) n (all-within (R .day) (R .file) (lengthsOf (R .before))) i, U .text)
+        let i : n < length (units (readoutLines (lineOf naming) (R .day) (R .file) (lengthsOf (R .before)))) = subst (λ (k : ℕ). n < k) (number naming R) (U .inside) in
+        omega (arith, one-within 131072 (units (readoutLines (lineOf naming) (R .day) (R .file) (lengthsOf (R .before)))) n (all-within naming (R .day) (R .file) (lengthsOf (R .before))) i, U .text)
 
 -- It ends inside the buffer.
-pub end-inside : {C B N O A A₂ T : List ℕ} {a : Answer} {n end : ℕ} → AfterCheck C B N O A a → UnitWritten C B N O A A₂ T a n end → end ≤ 131072
+pub end-inside : {naming : Naming} {C B N O A A₂ T K L : List ℕ} {a : Answer} {n end : ℕ} → AfterCheck C B N O A a → UnitWritten naming C B N O A A₂ T K L a n end → end ≤ 131072
 end-inside {T = T} {end = end} R W = omega (arith, length-take end T, ap length (W .whole R), W .size R, W .sized .text)

@@ -19,7 +19,9 @@ use Rattle.answer.specs.declared.Answer.{Answer}
 use Rattle.lines.specs.Lines.{LineReady, LineWritten}
 use Rattle.heading.specs.Heading.{VerdictWritten}
 use Rattle.units.specs.Pieces.{unitsWithin}
-use Rattle.verdict.specs.Readout.{verdictLine, clauseLine}
+use Rattle.verdict.specs.Readout.{verdictLine}
+use Rattle.numbering.specs.Numbering.{lineOf, NumberRoom}
+use Rattle.numbering.specs.declared.Naming.{Naming}
 use Rattle.units.specs.Units.{unitAt, AfterCheck, UnitReady}
 use Rattle.text.specs.Buffer.{Wrote}
 use Rattle.terms.specs.Writing.{Sized}
@@ -36,7 +38,7 @@ units-none c q = sym (ap (λ (b : Bool). pick b 1 c) (eq-eqb c 0 q))
 pub units-some : (c : ℕ) → (c ≡ 0 → ⊥) → c ≡ unitsWithin c
 units-some c q = sym (ap (λ (b : Bool). pick b 1 c) (ne-eqb c 0 q))
 
-module _ {C B N O A : List ℕ} {a : Answer} (R : AfterCheck C B N O A a) where
+module _ (naming : Naming) {C B N O A : List ℕ} {a : Answer} (R : AfterCheck C B N O A a) where
   count : a .clauses ≡ length (stateLeft (R .file) (lengthsOf (R .before)) .clauses)
   count = clauses-given (R .day) (R .file) (lengthsOf (R .before)) a (R .checked .checked .answer)
 
@@ -57,17 +59,17 @@ module _ {C B N O A : List ℕ} {a : Answer} (R : AfterCheck C B N O A a) where
   read-to : (n : ℕ) → n < a .clauses → ReadTo (R .file) (R .before) (stateOf (ending (R .file))) (tablesWith (R .symbols) (R .rows) C B) N O A
   read-to n l = let w = was-read n l in R .checked .read (w .fit) (w .long)
 
-  pub line-ready : (n : ℕ) → n < a .clauses → (T : List ℕ) → length T ≡ 131072 → LineReady C B N O A T n
-  line-ready n l T room =
+  pub line-ready : (n : ℕ) → n < a .clauses → (T K L : List ℕ) → length T ≡ 131072 → NumberRoom naming K L → LineReady naming C B N O A T K L n
+  line-ready n l T K L room numbers =
       let w = was-read n l in
       let z = ap (λ (S : State). length (S .clauses)) (w .state) in
-      record { file = R .file; tablesBefore = R .before; state = stateOf (ending (R .file)); symbols = R .symbols; rows = R .rows; read = read-to n l; inside = omega (arith, count, l, z); text = room }
+      record { file = R .file; tablesBefore = R .before; state = stateOf (ending (R .file)); symbols = R .symbols; rows = R .rows; read = read-to n l; inside = omega (arith, count, l, z); text = room; numbers = numbers }
 
   -- The line of clause n, as the units have it.
-  line-text : (n : ℕ) → n < a .clauses → {A′ T T′ : List ℕ} {at end : ℕ} → LineWritten C B N O A A′ T T′ at n end → (c : ClauseThere (stateLeft (R .file) (lengthsOf (R .before))) n) → Wrote T T′ at end (clauseLine (stateLeft (R .file) (lengthsOf (R .before))) n (c .clause))
-  line-text n l {A′} {T} {T′} {at} {end} W c =
+  line-text : (n : ℕ) → n < a .clauses → {A′ T T′ K′ L′ : List ℕ} {at end : ℕ} → LineWritten naming C B N O A A′ T T′ K′ L′ at n end → (c : ClauseThere (stateLeft (R .file) (lengthsOf (R .before))) n) → Wrote T T′ at end (lineOf naming (stateLeft (R .file) (lengthsOf (R .before))) n (c .clause))
+  line-text n l {A′} {T} {T′} {at = at} {end} W c =
       let w = was-read n l in
-      subst (λ (S : State). Wrote T T′ at end (clauseLine S n (c .clause))) (sym (w .state))
+      subst (λ (S : State). Wrote T T′ at end (lineOf naming S n (c .clause))) (sym (w .state))
       (W .wrote (R .file) (R .before) (stateOf (ending (R .file))) (R .symbols) (R .rows) (read-to n l) (c .clause) (subst (λ (S : State). clauseOf S n ≡ some (c .clause)) (w .state) (c .isClause)))
 
   there : (n : ℕ) → n < a .clauses → ClauseThere (stateLeft (R .file) (lengthsOf (R .before))) n
@@ -94,7 +96,7 @@ after-again {C} {B} {N} {O} {A} {A′} {a} R v = record {
   };
 }
 
-module _ {C B N O A T : List ℕ} {a : Answer} {n : ℕ} (U : UnitReady C B N O A T a n) where
+module _ {naming : Naming} {C B N O A T K L : List ℕ} {a : Answer} {n : ℕ} (U : UnitReady naming C B N O A T K L a n) where
   -- A unit that is not the first is a line.
   pub other-inside : (n ≡ 0 → ⊥) → n < a .clauses
   other-inside h = try (eqb (a .clauses) 0) refl
@@ -115,37 +117,41 @@ module _ {C B N O A T : List ℕ} {a : Answer} {n : ℕ} (U : UnitReady C B N O 
       try (suc m) k = omega arith
 
 -- As much of a unit as fits into the buffer was written at its start.
-pub record UnitWrote (C B N O A A′ T T′ : List ℕ) (a : Answer) (n end : ℕ) : Type 0 where
-  pub wrote : (R : AfterCheck C B N O A a) → Wrote T T′ 0 end (unitAt (R .day) (R .file) (lengthsOf (R .before)) n)
+pub record UnitWrote (naming : Naming) (C B N O A A′ T T′ K′ L′ : List ℕ) (a : Answer) (n end : ℕ) : Type 0 where
+  pub wrote : (R : AfterCheck C B N O A a) → Wrote T T′ 0 end (unitAt (lineOf naming) (R .day) (R .file) (lengthsOf (R .before)) n)
   pub sized : Sized N A′ T′
+  pub numbers : NumberRoom naming K′ L′
 
-module _ {C B N O A A′ T T′ : List ℕ} {a : Answer} {end : ℕ} where
-  pub unit-line : {n : ℕ} → (n ≡ 0 → ⊥) → n < a .clauses → LineWritten C B N O A A′ T T′ 0 n end → UnitWrote C B N O A A′ T T′ a n end
+module _ {naming : Naming} {C B N O A A′ T T′ K′ L′ : List ℕ} {a : Answer} {end : ℕ} where
+  pub unit-line : {n : ℕ} → (n ≡ 0 → ⊥) → n < a .clauses → LineWritten naming C B N O A A′ T T′ K′ L′ 0 n end → UnitWrote naming C B N O A A′ T T′ K′ L′ a n end
   unit-line {n} h l W = record {
-    wrote = λ R. subst (Wrote T T′ 0 end) (sym (unit-other (R .day) (R .file) (lengthsOf (R .before)) n (there R n l .clause) h (there R n l .isClause))) (line-text R n l W (there R n l));
+    wrote = λ R. subst (Wrote T T′ 0 end) (sym (unit-other (lineOf naming) (R .day) (R .file) (lengthsOf (R .before)) n (there naming R n l .clause) h (there naming R n l .isClause))) (line-text naming R n l W (there naming R n l));
     sized = W .sized;
+    numbers = W .numbers;
   }
 
-  pub unit-both : {n : ℕ} → n ≡ 0 → n < a .clauses → (T₁ : List ℕ) (middle : ℕ) → VerdictWritten (a .verdict) T T₁ 0 middle → LineWritten C B N O A A′ T₁ T′ middle n end → UnitWrote C B N O A A′ T T′ a n end
+  pub unit-both : {n : ℕ} → n ≡ 0 → n < a .clauses → (T₁ : List ℕ) (middle : ℕ) → VerdictWritten (a .verdict) T T₁ 0 middle → LineWritten naming C B N O A A′ T₁ T′ K′ L′ middle n end → UnitWrote naming C B N O A A′ T T′ K′ L′ a n end
   unit-both {n} z l T₁ middle G W = record {
     wrote = λ R.
-        let c = there R n l in
+        let c = there naming R n l in
         let S = stateLeft (R .file) (lengthsOf (R .before)) in
         let v = check (R .day) (R .file) (lengthsOf (R .before)) .verdict in
         subst (Wrote T T′ 0 end)
-        (sym (ap (unitAt (R .day) (R .file) (lengthsOf (R .before))) z ∙ unit-first (R .day) (R .file) (lengthsOf (R .before)) (c .clause) (subst (λ (k : ℕ). clauseOf S k ≡ some (c .clause)) z (c .isClause))))
-        (subst (λ (k : ℕ). Wrote T T′ 0 end (verdictLine v ++ clauseLine S k (c .clause))) z
-        (wrote-then T T₁ T′ 0 middle end (verdictLine v) (clauseLine S n (c .clause))
+        (sym (ap (unitAt (lineOf naming) (R .day) (R .file) (lengthsOf (R .before))) z ∙ unit-first (lineOf naming) (R .day) (R .file) (lengthsOf (R .before)) (c .clause) (subst (λ (k : ℕ). clauseOf S k ≡ some (c .clause)) z (c .isClause))))
+        (subst (λ (k : ℕ). Wrote T T′ 0 end (verdictLine v ++ lineOf naming S k (c .clause))) z
+        (wrote-then T T₁ T′ 0 middle end (verdictLine v) (lineOf naming S n (c .clause))
         (verdict-line v (verdict-given (R .day) (R .file) (lengthsOf (R .before)) a (R .checked .checked .answer)) G)
-        (line-text R n l W c)));
+        (line-text naming R n l W c)));
     sized = W .sized;
+    numbers = W .numbers;
   }
 
-module _ {C B N O A T T′ : List ℕ} {a : Answer} {end : ℕ} where
-  pub unit-heading : {n : ℕ} → n ≡ 0 → a .clauses ≡ 0 → VerdictWritten (a .verdict) T T′ 0 end → Sized N A T′ → UnitWrote C B N O A A T T′ a n end
-  unit-heading {n} z none W sized = record {
+module _ {naming : Naming} {C B N O A T T′ K L : List ℕ} {a : Answer} {end : ℕ} where
+  pub unit-heading : {n : ℕ} → n ≡ 0 → a .clauses ≡ 0 → VerdictWritten (a .verdict) T T′ 0 end → Sized N A T′ → NumberRoom naming K L → UnitWrote naming C B N O A A T T′ K L a n end
+  unit-heading {n} z none W sized numbers = record {
     wrote = λ R. subst (Wrote T T′ 0 end)
-        (sym (ap (unitAt (R .day) (R .file) (lengthsOf (R .before))) z ∙ unit-alone (R .day) (R .file) (lengthsOf (R .before)) (sym (count R) ∙ none)))
+        (sym (ap (unitAt (lineOf naming) (R .day) (R .file) (lengthsOf (R .before))) z ∙ unit-alone (lineOf naming) (R .day) (R .file) (lengthsOf (R .before)) (sym (count naming R) ∙ none)))
         (verdict-line (check (R .day) (R .file) (lengthsOf (R .before)) .verdict) (verdict-given (R .day) (R .file) (lengthsOf (R .before)) a (R .checked .checked .answer)) W);
     sized = sized;
+    numbers = numbers;
   }

@@ -6,7 +6,7 @@ use lib.Dec.{eqb, leb}
 use lib.ListN.{length, drop}
 use Rattle.record.specs.Record.{pick}
 use Rattle.verdict.specs.Verdict.{check, Lengths}
-use Rattle.verdict.specs.Readout.{readoutLines, joinedLines, readout}
+use Rattle.verdict.specs.Readout.{LineWriter, readoutLines, joinedLines, readoutBy}
 
 -- A piece is made of whole lines. The first line goes with that of clause 0, so that every piece begins with a clause; without clauses it
 -- stands alone.
@@ -33,9 +33,9 @@ abbrev pub afterPiece : List (List ℕ) → ℕ → ℕ → Progress
 afterPiece [] n taken = complete
 afterPiece (u ∷ us) n taken = pick (eqb taken 0) (tooShortFor n) (goOnWith (n + taken))
 
-module _ (day : ℕ) (file : List ℕ) (lengths : Lengths) where
+module _ (line : LineWriter) (day : ℕ) (file : List ℕ) (lengths : Lengths) where
   unfoldable pub unitsFrom : ℕ → List (List ℕ)
-  unitsFrom n = drop n (units (readoutLines day file lengths))
+  unitsFrom n = drop n (units (readoutLines line day file lengths))
 
   abbrev pub pieceLines : ℕ → ℕ → List (List ℕ)
   pieceLines n room = fitting room (unitsFrom n)
@@ -55,11 +55,11 @@ module _ (day : ℕ) (file : List ℕ) (lengths : Lengths) where
 -- What holds of the pieces of every file: put together they are the readout; each moves on, or its room is too short for the next line and
 -- nothing is written; and room for the longest line is never too short. Line by line too: there are as many units as the answer's number of clauses says,
 -- and one after another they are the readout.
-pub record PiecesHold (day : ℕ) (file : List ℕ) (lengths : Lengths) : Type 0 where
-  pub count : length (units (readoutLines day file lengths)) ≡ unitsWithin (check day file lengths .clauses)
-  pub lines : joinedLines (units (readoutLines day file lengths)) ≡ readout day file lengths
-  pub together : (text : List ℕ) → Pieces day file lengths 0 text → text ≡ readout day file lengths
-  pub whole : Pieces day file lengths 0 (readout day file lengths)
-  pub moves : (n room m : ℕ) → progress day file lengths n room ≡ goOnWith m → n < m
-  pub short : (n room m : ℕ) → progress day file lengths n room ≡ tooShortFor m → (m ≡ n) × (pieceBytes day file lengths n room ≡ [])
-  pub enough : (n room m : ℕ) → 131072 ≤ room → ¬ (progress day file lengths n room ≡ tooShortFor m)
+pub record PiecesHold (line : LineWriter) (day : ℕ) (file : List ℕ) (lengths : Lengths) : Type 0 where
+  pub count : length (units (readoutLines line day file lengths)) ≡ unitsWithin (check day file lengths .clauses)
+  pub lines : joinedLines (units (readoutLines line day file lengths)) ≡ readoutBy line day file lengths
+  pub together : (text : List ℕ) → Pieces line day file lengths 0 text → text ≡ readoutBy line day file lengths
+  pub whole : Pieces line day file lengths 0 (readoutBy line day file lengths)
+  pub moves : (n room m : ℕ) → progress line day file lengths n room ≡ goOnWith m → n < m
+  pub short : (n room m : ℕ) → progress line day file lengths n room ≡ tooShortFor m → (m ≡ n) × (pieceBytes line day file lengths n room ≡ [])
+  pub enough : (n room m : ℕ) → 131072 ≤ room → ¬ (progress line day file lengths n room ≡ tooShortFor m)

@@ -9,13 +9,15 @@ use Rattle.verdict.specs.Verdict.{Lengths}
 use Rattle.checker.specs.Contract.{Workspace, workspaceWith, CheckedWith}
 use Rattle.entry.specs.Progress.{tablesWith}
 use Rattle.answer.specs.declared.Answer.{Answer}
-use Rattle.verdict.specs.Readout.{readoutLines}
+use Rattle.verdict.specs.Readout.{LineWriter, readoutLines}
 use Rattle.units.specs.Pieces.{units, unitsWithin}
+use Rattle.numbering.specs.Numbering.{lineOf, NumberRoom}
+use Rattle.numbering.specs.declared.Naming.{Naming}
 use Rattle.terms.specs.Writing.{Sized}
 
 -- Unit n of a file.
-unfoldable pub unitAt : ℕ → List ℕ → Lengths → ℕ → List ℕ
-unitAt day file lengths n = getD (units (readoutLines day file lengths)) n []
+unfoldable pub unitAt : LineWriter → ℕ → List ℕ → Lengths → ℕ → List ℕ
+unitAt line day file lengths n = getD (units (readoutLines line day file lengths)) n []
 
 -- What is there after a check of some file: its answer, for some tables before it, with the workspace that it left.
 pub record AfterCheck (C B N O A : List ℕ) (a : Answer) : Type 0 where
@@ -28,14 +30,16 @@ pub record AfterCheck (C B N O A : List ℕ) (a : Answer) : Type 0 where
   pub checked : CheckedWith day file before lent a (tablesWith symbols rows C B) (workspaceWith N O A)
 
 -- What writing unit n at the start of the buffer asks.
-pub record UnitReady (C B N O A T : List ℕ) (a : Answer) (n : ℕ) : Type 0 where
+pub record UnitReady (naming : Naming) (C B N O A T K L : List ℕ) (a : Answer) (n : ℕ) : Type 0 where
   pub after : AfterCheck C B N O A a
   pub inside : n < unitsWithin (a .clauses)
   pub text : length T ≡ 131072
+  pub numbers : NumberRoom naming K L
 
 -- What it says, whichever file was checked and whichever tables there were before: the unit stands whole at the start of the buffer, and `end` is its length.
 -- Nothing is said of the bytes from `end` on.
-pub record UnitWritten (C B N O A A′ T′ : List ℕ) (a : Answer) (n end : ℕ) : Type 0 where
-  pub size : (R : AfterCheck C B N O A a) → end ≡ length (unitAt (R .day) (R .file) (lengthsOf (R .before)) n)
-  pub whole : (R : AfterCheck C B N O A a) → take end T′ ≡ unitAt (R .day) (R .file) (lengthsOf (R .before)) n
+pub record UnitWritten (naming : Naming) (C B N O A A′ T′ K′ L′ : List ℕ) (a : Answer) (n end : ℕ) : Type 0 where
+  pub size : (R : AfterCheck C B N O A a) → end ≡ length (unitAt (lineOf naming) (R .day) (R .file) (lengthsOf (R .before)) n)
+  pub whole : (R : AfterCheck C B N O A a) → take end T′ ≡ unitAt (lineOf naming) (R .day) (R .file) (lengthsOf (R .before)) n
   pub sized : Sized N A′ T′
+  pub numbers : NumberRoom naming K′ L′

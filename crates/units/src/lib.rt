@@ -1,4 +1,4 @@
-// What a piece of the readout is made of: the line of a clause, with the first line before it for clause 0. Without clauses the first
+// What a piece of a readout is made of: the line of a clause, with the first line before it for clause 0. Without clauses the first
 // line stands alone.
 use answer::Answer;
 use following::nodes::Nodes;
@@ -6,6 +6,7 @@ use following::nodes::Origins;
 use following::values::ValueCells;
 use heading::write_verdict;
 use lines::line::write_line;
+use numbering::Naming;
 use text::TextBuffer;
 ghost use mathlib.Core.Path.{_≡_};
 ghost use Rattle.units.specs.Pieces.{unitsWithin};
@@ -26,19 +27,26 @@ pub fn write_unit(
     origins: &Origins,
     values: &mut ValueCells,
     text: &mut TextBuffer,
+    naming: Naming,
+    cells: &mut [u16],
+    order: &mut [u32],
     a: Answer,
     n: u16,
 ) -> usize
-    requires { ⌜ UnitReady (now clauses) (now bindings) (now nodes) (now origins) (now values) (now text) a n ⌝ }
-    ensures { λ end. ⌜ UnitWritten (now (clauses .entry)) (now (bindings .entry)) (now (nodes .entry)) (now (origins .entry)) (now (values .entry)) (now (values .exit)) (now (text .exit)) a n end ⌝ }
+    requires { ⌜ UnitReady naming (now clauses) (now bindings) (now nodes) (now origins) (now values) (now text) (now cells) (now order) a n ⌝ }
+    ensures { λ end. ⌜ UnitWritten naming (now (clauses .entry)) (now (bindings .entry)) (now (nodes .entry)) (now (origins .entry)) (now (values .entry)) (now (values .exit)) (now (text .exit)) (now (cells .exit)) (now (order .exit)) a n end ⌝ }
 {
     if n != 0 {
-        return write_line(origins, clauses, bindings, nodes, values, text, 0, n);
+        return write_line(
+            origins, clauses, bindings, nodes, values, text, 0, naming, cells, order, n,
+        );
     }
     let verdict = a.verdict;
     let first = write_verdict(verdict, text, 0);
     if a.clauses == 0 {
         return first;
     }
-    write_line(origins, clauses, bindings, nodes, values, text, first, n)
+    write_line(
+        origins, clauses, bindings, nodes, values, text, first, naming, cells, order, n,
+    )
 }
