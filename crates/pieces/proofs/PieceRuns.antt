@@ -12,7 +12,7 @@ use borrow.Author.Tests.{le-leb, lt-leb, eq-eqb, ne-eqb}
 use Rattle.record.specs.Record.{pick}
 use Rattle.verdict.specs.Verdict.{Lengths}
 use Rattle.units.specs.Pieces.{units, fitting, goOnWith, tooShortFor, afterPiece, unitsFrom, pieceLines}
-use Rattle.verdict.specs.Readout.{readoutLines, joinedLines}
+use Rattle.verdict.specs.Readout.{LineWriter, readoutLines, joinedLines}
 use Rattle.units.specs.Units.{unitAt}
 use Rattle.pieces.specs.Placed.{restGiven, stoppedAt, PieceAt}
 use Rattle.pieces.specs.declared.Piece.{Piece}

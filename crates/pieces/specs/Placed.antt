@@ -8,6 +8,9 @@ use lib.ListN.{length, drop}
 use Rattle.record.specs.Record.{pick}
 use Rattle.verdict.specs.Tables.{lengthsOf}
 use Rattle.verdict.specs.Verdict.{Lengths}
+use Rattle.verdict.specs.Readout.{LineWriter}
+use Rattle.numbering.specs.Numbering.{lineOf, NumberRoom}
+use Rattle.numbering.specs.declared.Naming.{Naming}
 use Rattle.answer.specs.declared.Answer.{Answer}
 use Rattle.units.specs.Pieces.{Progress, complete, goOnWith, tooShortFor, pieceBytes, progress}
 use Rattle.pieces.specs.declared.Piece.{Piece}
@@ -30,7 +33,13 @@ pub record PieceAt (line : LineWriter) (day : ℕ) (file : List ℕ) (lengths : 
   pub rest : restGiven (p .rest) ≡ progress line day file lengths begin (length output)
   pub bytes : output′ ≡ pieceBytes line day file lengths begin (length output) ++ drop (length (pieceBytes line day file lengths begin (length output))) output
 
--- What writing a piece says, whichever tables there were before the check. The array keeps its length, so that the next piece can be written.
-pub record PieceOf (C B N O A A′ : List ℕ) (a : Answer) (begin : ℕ) (output output′ : List ℕ) (p : Piece) : Type 0 where
-  pub piece : (R : AfterCheck C B N O A a) → PieceAt line (R .day) (R .file) (lengthsOf (R .before)) begin output output′ p
+-- What writing a piece asks: what a check left, and room for numbers where variables are numbered.
+pub record PieceReady (naming : Naming) (C B N O A K L : List ℕ) (a : Answer) : Type 0 where
+  pub after : AfterCheck C B N O A a
+  pub numbers : NumberRoom naming K L
+
+-- What it says, whichever tables there were before the check. The array keeps its length, and so do the cells of numbers, so that the next piece can be written.
+pub record PieceOf (naming : Naming) (C B N O A A′ K′ L′ : List ℕ) (a : Answer) (begin : ℕ) (output output′ : List ℕ) (p : Piece) : Type 0 where
+  pub piece : (R : AfterCheck C B N O A a) → PieceAt (lineOf naming) (R .day) (R .file) (lengthsOf (R .before)) begin output output′ p
   pub values : length A′ ≡ 524416
+  pub numbers : NumberRoom naming K′ L′

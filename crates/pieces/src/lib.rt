@@ -1,8 +1,9 @@
-// A piece of the readout: as many whole units as fit into an output.
+// A piece of a readout: as many whole units as fit into an output.
 use answer::Answer;
 use following::nodes::Nodes;
 use following::nodes::Origins;
 use following::values::ValueCells;
+use numbering::Naming;
 use text::TextBuffer;
 use units::unit_count;
 use units::write_unit;
@@ -10,8 +11,7 @@ ghost use mathlib.Core.Path.{_≡_};
 ghost use Prim.Native.Nat.{_+_, _≤_};
 ghost use lib.ListN.{length};
 ghost use lib.Seq.{paste};
-ghost use Rattle.units.specs.Units.{AfterCheck};
-ghost use Rattle.pieces.specs.Placed.{PieceOf, restGiven, stoppedAt};
+ghost use Rattle.pieces.specs.Placed.{PieceReady, PieceOf, restGiven, stoppedAt};
 
 // What comes after a piece: nothing, all is written; the clause that the next piece begins with; or there was no room for the line of
 // this clause, with which the piece was to begin.
@@ -58,19 +58,24 @@ pub fn write_piece(
     nodes: &Nodes,
     origins: &Origins,
     values: &mut ValueCells,
+    naming: Naming,
+    cells: &mut [u16],
+    order: &mut [u32],
     a: Answer,
     begin: u16,
     output: &mut [u8],
 ) -> Piece
-    requires { ⌜ AfterCheck (now clauses) (now bindings) (now nodes) (now origins) (now values) a ⌝ }
-    ensures { λ p. ⌜ PieceOf (now (clauses .entry)) (now (bindings .entry)) (now (nodes .entry)) (now (origins .entry)) (now (values .entry)) (now (values .exit)) a begin (now (output .entry)) (now (output .exit)) p ⌝ }
+    requires { ⌜ PieceReady naming (now clauses) (now bindings) (now nodes) (now origins) (now values) (now cells) (now order) a ⌝ }
+    ensures { λ p. ⌜ PieceOf naming (now (clauses .entry)) (now (bindings .entry)) (now (nodes .entry)) (now (origins .entry)) (now (values .entry)) (now (values .exit)) (now (cells .exit)) (now (order .exit)) a begin (now (output .entry)) (now (output .exit)) p ⌝ }
 {
     let mut text = [0u8; 131072];
     let count = unit_count(a.clauses);
     let mut n = begin;
     let mut written: usize = 0;
     while n < count {
-        let end = write_unit(clauses, bindings, nodes, origins, values, &mut text, a, n);
+        let end = write_unit(
+            clauses, bindings, nodes, origins, values, &mut text, naming, cells, order, a, n,
+        );
         if output.len() - written < end {
             return Piece {
                 written,
