@@ -24,14 +24,6 @@ use Rattle.appearance.specs.Growing.{Longer}
 abbrev pub Among : List Variable → Variable → Type 0
 Among seen x = position seen x < length seen
 
-pub position-bound : (seen : List Variable) (x : Variable) → position seen x ≤ length seen
-position-bound [] x = omega arith
-position-bound (y ∷ seen) x = try (same y x) (position-bound seen x)
-  where
-    try : (b : Bool) → position seen x ≤ length seen → pick b 0 (suc (position seen x)) ≤ suc (length seen)
-    try true ih = omega arith
-    try false ih = omega arith
-
 -- The variable stands at its position.
 pub position-found : (d : Variable) (seen : List Variable) (x : Variable) → Among seen x → getD seen (position seen x) d ≡ x
 position-found d [] x h = absurd (omega arith)
@@ -40,6 +32,14 @@ position-found d (y ∷ seen) x h = try (same y x) refl h (λ k. position-found 
     try : (b : Bool) → same y x ≡ b → pick b 0 (suc (position seen x)) < suc (length seen) → (position seen x < length seen → getD seen (position seen x) d ≡ x) → getD (y ∷ seen) (pick b 0 (suc (position seen x))) d ≡ x
     try true q k ih = same-eq y x q
     try false q k ih = ih (omega arith)
+
+pub position-bound : (seen : List Variable) (x : Variable) → position seen x ≤ length seen
+position-bound [] x = omega arith
+position-bound (y ∷ seen) x = try (same y x) (position-bound seen x)
+  where
+    try : (b : Bool) → position seen x ≤ length seen → pick b 0 (suc (position seen x)) ≤ suc (length seen)
+    try true ih = omega arith
+    try false ih = omega arith
 
 -- A longer list has it at the same position.
 pub position-append : (seen more : List Variable) (x : Variable) → Among seen x → position (seen ++ more) x ≡ position seen x
@@ -133,6 +133,10 @@ mutual
     variables-more (Among (appearing seen t)) (Among (allAppearing (appearing seen t) ts)) (among-kept (appearing seen t) (allAppearing (appearing seen t) ts) (all-appearing-longer (appearing seen t) ts)) t (appearing-among seen t),
     all-appearing-among (appearing seen t) ts,
   )
+
+-- What is printed as `~` takes no number.
+pub shown-hidden : (seen : List Variable) (l : Bool × Term Variable) → leb (occurrences (l .1)) 64 ≡ false → shown seen l ≡ seen
+shown-hidden seen l q = ap (λ (b : Bool). pick b (appearing seen (l .1)) seen) q
 
 pub shown-longer : (seen : List Variable) (l : Bool × Term Variable) → Longer seen (shown seen l)
 shown-longer seen l = try (leb (occurrences (l .1)) 64)
@@ -258,3 +262,49 @@ shown-length seen l = try (leb (occurrences (l .1)) 64) refl
 pub all-shown-length : (seen : List Variable) (ls : Clause) → length (allShown seen ls) ≤ length seen + 64 * length ls
 all-shown-length seen [] = omega arith
 all-shown-length seen (l ∷ ls) = omega (arith, shown-length seen l, all-shown-length (shown seen l) ls)
+
+-- ── Variables noted one after the other ──
+
+abbrev pub notedAll : List Variable → List Variable → List Variable
+notedAll seen [] = seen
+notedAll seen (x ∷ xs) = notedAll (noted seen x) xs
+
+pub noted-all-append : (seen xs ys : List Variable) → notedAll seen (xs ++ ys) ≡ notedAll (notedAll seen xs) ys
+noted-all-append seen [] ys = refl
+noted-all-append seen (x ∷ xs) ys = noted-all-append (noted seen x) xs ys
+
+pub noted-all-longer : (seen xs : List Variable) → Longer seen (notedAll seen xs)
+noted-all-longer seen [] = longer-same seen
+noted-all-longer seen (x ∷ xs) = longer-then (noted-longer seen x) (noted-all-longer (noted seen x) xs)
+
+pub noted-all-among : (seen xs : List Variable) → Each (Among (notedAll seen xs)) xs
+noted-all-among seen [] = tt
+noted-all-among seen (x ∷ xs) = (
+  among-kept (noted seen x) (notedAll (noted seen x) xs) (noted-all-longer (noted seen x) xs) x (noted-among seen x),
+  noted-all-among (noted seen x) xs,
+)
+
+pub noted-all-each : (P : Variable → Type 0) (seen xs : List Variable) → Each P seen → Each P xs → Each P (notedAll seen xs)
+noted-all-each P seen [] h k = h
+noted-all-each P seen (x ∷ xs) h k = noted-all-each P (noted seen x) xs (noted-each P seen x h (k .0)) (k .1)
+
+pub noted-all-once : (seen xs : List Variable) → Once seen → Once (notedAll seen xs)
+noted-all-once seen [] k = k
+noted-all-once seen (x ∷ xs) k = noted-all-once (noted seen x) xs (noted-once seen x k)
+
+-- Two variables of the list at the same position are the same.
+pub position-once : (seen : List Variable) (x y : Variable) → Among seen x → Among seen y → position seen x ≡ position seen y → x ≡ y
+position-once seen x y h k e = sym (position-found (0, 0) seen x h) ∙ ap (λ (n : ℕ). getD seen n (0, 0)) e ∙ position-found (0, 0) seen y k
+
+-- A variable that is noted after others and not at position 0 has one of those others at the position below.
+pub position-below : (front back : List Variable) (x : Variable) (n : ℕ) → position (notedAll [] (front ++ (x ∷ back))) x ≡ suc n
+    → (n < length (notedAll [] front)) × (position (notedAll [] (front ++ (x ∷ back))) (getD (notedAll [] front) n (0, 0)) ≡ n)
+position-below front back x n e =
+    let seen = notedAll [] front in
+    let all = notedAll [] (front ++ (x ∷ back)) in
+    let q : all ≡ notedAll (noted seen x) back = noted-all-append [] front (x ∷ back) in
+    let L : Longer (noted seen x) all = subst (Longer (noted seen x)) (sym q) (noted-all-longer (noted seen x) back) in
+    let p : position seen x ≡ suc n = sym (noted-position seen all x L) ∙ e in
+    let h : n < length seen = omega (arith, position-bound seen x) in
+    let o : position seen (getD seen n (0, 0)) ≡ n = noted-all-once [] front (λ d m k. absurd (omega arith)) (0, 0) n h in
+    (h, position-kept seen all (longer-then (noted-longer seen x) L) (getD seen n (0, 0)) (omega arith) ∙ o)

@@ -3,6 +3,7 @@ pub mod Reading
 pub mod Relabelling
 pub mod Renaming
 pub mod Related
+pub mod ByAppearance
 pub mod Symbols
 pub mod WrittenVariables
 pub mod ShownOfFiles

@@ -85,14 +85,6 @@ mutual
 abbrev pub Printed : {X : Type 0} → Bool × Term X → Type 0
 Printed l = leb (occurrences (l .1)) 64 ≡ true
 
-contains-parts : (b : ℕ) (x y : List ℕ) → contains b (x ++ y) ≡ false → (contains b x ≡ false) × (contains b y ≡ false)
-contains-parts b [] y h = (refl, h)
-contains-parts b (c ∷ x) y h = try (eqb c b) h (λ k. contains-parts b x y k)
-  where
-    try : (t : Bool) → pick t true (contains b (x ++ y)) ≡ false → (contains b (x ++ y) ≡ false → (contains b x ≡ false) × (contains b y ≡ false)) → (pick t true (contains b x) ≡ false) × (contains b y ≡ false)
-    try true k ih = absurd (true-not-false refl k)
-    try false k ih = ih k
-
 literal-printed : {X : Type 0} (name : X → List ℕ) (l : Bool × Term X) → contains 126 (literalText name l) ≡ false → Printed l
 literal-printed name l h = sign (l .0) h
   where
@@ -103,6 +95,14 @@ literal-printed name l h = sign (l .0) h
     sign : (s : Bool) → contains 126 (signText s ∷ pick (leb (occurrences (l .1)) 64) (termText name (l .1)) (126 ∷ [])) ≡ false → Printed l
     sign true k = atom (leb (occurrences (l .1)) 64) k
     sign false k = atom (leb (occurrences (l .1)) 64) k
+
+contains-parts : (b : ℕ) (x y : List ℕ) → contains b (x ++ y) ≡ false → (contains b x ≡ false) × (contains b y ≡ false)
+contains-parts b [] y h = (refl, h)
+contains-parts b (c ∷ x) y h = try (eqb c b) h (λ k. contains-parts b x y k)
+  where
+    try : (t : Bool) → pick t true (contains b (x ++ y)) ≡ false → (contains b (x ++ y) ≡ false → (contains b x ≡ false) × (contains b y ≡ false)) → (pick t true (contains b x) ≡ false) × (contains b y ≡ false)
+    try true k ih = absurd (true-not-false refl k)
+    try false k ih = ih k
 
 pub all-printed : {X : Type 0} (name : X → List ℕ) (ls : List (Bool × Term X)) → contains 126 (literalsText name ls) ≡ false → Each Printed ls
 all-printed name [] h = tt

@@ -2,39 +2,26 @@
 use mathlib.Core.Path.{_≡_, refl, sym, ap, ap₂, _∙_}
 use mathlib.Core.Bool.{Bool, true, false}
 use mathlib.Core.List.{List, [], _∷_, _++_, map}
-use Prim.Native.Nat.{ℕ, suc}
+use Prim.Native.Nat.{ℕ}
 use lib.Dec.{leb, ltb}
 use lib.ListN.{length, length-map}
 use Rattle.record.specs.Record.{pick}
-use Rattle.unification.specs.Row.{Variable, same}
+use Rattle.unification.specs.Row.{Variable}
 use Rattle.unification.specs.Term.{Term, Terms, var, app, nil, cons, apply, applyAll, occurrences, Variables, AllVariables}
 use Rattle.unification.proofs.Lists.{Each, map-append}
-use Rattle.unification.proofs.Tests.{same-eq, same-refl, true-not-false}
 use Rattle.derivation.specs.Written.{Clause}
-use Rattle.verdict.specs.Text.{decimal, literalsText}
+use Rattle.verdict.specs.Text.{literalsText}
 use Rattle.appearance.specs.Appearance.{position, noted, appearing, allAppearing, shown, allShown, numberIn, canonicalText}
 use Rattle.canonical.specs.SameClause.{OccursInClause, renamedLiteral, SameUpToRenaming}
 use Rattle.appearance.proofs.Positions.{appearing-each, shown-each, all-shown-each}
+use Rattle.appearance.proofs.VariableNames.{position-renamed, number-renamed}
 use Rattle.canonical.proofs.Relabelling.{AllOf, all-of-more, relabelled-occurrences, relabelled-text, same-text, clause-variables-of}
 
 -- A renaming f that is one-to-one where P holds.
 module _ (P : Variable → Type 0) (f : Variable → Variable) (once : (x y : Variable) → P x → P y → f x ≡ f y → x ≡ y) where
-  same-renamed : (x y : Variable) → P x → P y → same (f x) (f y) ≡ same x y
-  same-renamed x y h k = try (same x y) refl (same (f x) (f y)) refl
-    where
-      try : (b : Bool) → same x y ≡ b → (c : Bool) → same (f x) (f y) ≡ c → c ≡ b
-      try true p true q = refl
-      try true p false q = absurd (true-not-false (ap (λ (z : Variable). same (f x) (f z)) (sym (same-eq x y p)) ∙ same-refl (f x)) q)
-      try false p true q = absurd (true-not-false (ap (same x) (sym (once x y h k (same-eq (f x) (f y) q))) ∙ same-refl x) p)
-      try false p false q = refl
-
-  position-renamed : (seen : List Variable) (x : Variable) → Each P seen → P x → position (map f seen) (f x) ≡ position seen x
-  position-renamed [] x h k = refl
-  position-renamed (y ∷ seen) x h k = ap₂ (λ (b : Bool) (n : ℕ). pick b 0 (suc n)) (same-renamed y x (h .0) k) (position-renamed seen x (h .1) k)
-
   noted-renamed : (seen : List Variable) (x : Variable) → Each P seen → P x → noted (map f seen) (f x) ≡ map f (noted seen x)
   noted-renamed seen x h k =
-      ap₂ (λ (n m : ℕ). pick (ltb n m) (map f seen) (map f seen ++ (f x ∷ []))) (position-renamed seen x h k) (length-map seen f) ∙ try (ltb (position seen x) (length seen))
+      ap₂ (λ (n m : ℕ). pick (ltb n m) (map f seen) (map f seen ++ (f x ∷ []))) (position-renamed P f once seen x h k) (length-map seen f) ∙ try (ltb (position seen x) (length seen))
     where
       try : (b : Bool) → pick b (map f seen) (map f seen ++ (f x ∷ [])) ≡ map f (pick b seen (seen ++ (x ∷ [])))
       try true = refl
@@ -71,7 +58,7 @@ module _ (P : Variable → Type 0) (f : Variable → Variable) (once : (x y : Va
       relabelled-text f (numberIn (allShown [] (map (renamedLiteral f) ls))) ls
       ∙ ap (λ (u : List Variable). literalsText (λ x. numberIn u (f x)) ls) (all-shown-renamed [] ls tt h)
       ∙ same-text (λ x. numberIn (map f seen) (f x)) (numberIn seen) ls
-      (all-of-more P (λ x. numberIn (map f seen) (f x) ≡ numberIn seen x) (λ x p. ap decimal (position-renamed seen x (all-shown-each P [] ls tt h) p)) ls h)
+      (all-of-more P (λ x. numberIn (map f seen) (f x) ≡ numberIn seen x) (λ x p. number-renamed P f once seen x (all-shown-each P [] ls tt h) p) ls h)
 
 pub same-text-renamed : (ls ms : Clause) → SameUpToRenaming ls ms → canonicalText ls ≡ canonicalText ms
 same-text-renamed ls ms R =

@@ -4,18 +4,19 @@ use mathlib.Core.Path.{_≡_}
 use mathlib.Core.Bool.{Bool, true, false}
 use mathlib.Core.Option.{some}
 use mathlib.Core.Logic.{_⊎_}
-use mathlib.Core.List.{List, [], _∷_, map}
-use Prim.Native.Nat.{ℕ, _<_}
-use lib.Dec.{eqb}
+use mathlib.Core.List.{List, [], _∷_, _++_, map}
+use Prim.Native.Nat.{ℕ, suc, _<_}
+use lib.Dec.{eqb, leb}
 use Rattle.record.specs.Record.{pick}
 use Rattle.unification.specs.Row.{Variable}
-use Rattle.unification.specs.Term.{Term, Terms, var, app, nil, cons, apply}
+use Rattle.unification.specs.Term.{Term, Terms, var, app, nil, cons, apply, occurrences}
 use Rattle.derivation.specs.Derivation.{Derivation}
 use Rattle.derivation.specs.Written.{Clause, written}
 use Rattle.verdict.specs.State.{clauseOf, rowOf, termOf}
 use Rattle.verdict.specs.Text.{decimal, numberAndIndex, termText, literalsText}
 use Rattle.verdict.specs.Verdict.{Lengths, reading, stateGiven}
-use Rattle.appearance.specs.Appearance.{canonicalText}
+use Rattle.appearance.specs.Appearance.{allShown, numberIn, canonicalText}
+use Rattle.demands.specs.Conditions.{OneOf}
 
 -- ── Renaming, on terms written out ──
 
@@ -70,6 +71,30 @@ pub record ReadInOneWay : Type 0 where
   pub clause : (ls ms : List (Bool × Term ℕ)) → FiveDigitLiterals ls → FiveDigitLiterals ms → literalsText decimal ls ≡ literalsText decimal ms
       → contains 126 (literalsText decimal ls) ≡ false → ls ≡ ms
 
+-- ── Numbers by first printed appearance ──
+
+-- The variables of a term as they are printed, from left to right; and those of a clause, without what `~` hides.
+abbrev mutual
+  pub printedOf : Term Variable → List Variable
+  printedOf (var x) = x ∷ []
+  printedOf (app s ts) = allPrintedOf ts
+
+  pub allPrintedOf : Terms Variable → List Variable
+  allPrintedOf nil = []
+  allPrintedOf (cons t ts) = printedOf t ++ allPrintedOf ts
+
+abbrev pub printedVariables : Clause → List Variable
+printedVariables [] = []
+printedVariables (l ∷ ls) = pick (leb (occurrences (l .1)) 64) (printedOf (l .1)) [] ++ printedVariables ls
+
+-- Every variable that is printed is printed by a number. Different variables have different numbers, and before a number's first appearance stands the number below it:
+-- so they are numbered from 0 on, as they appear, and no number is taken by what is not printed.
+pub record NumberedByAppearance (ls : Clause) : Type 0 where
+  pub number : Variable → ℕ
+  pub printed : (x : Variable) → OneOf x (printedVariables ls) → numberIn (allShown [] ls) x ≡ decimal (number x)
+  pub different : (x y : Variable) → OneOf x (printedVariables ls) → OneOf y (printedVariables ls) → number x ≡ number y → x ≡ y
+  pub inOrder : (front back : List Variable) (x : Variable) (n : ℕ) → printedVariables ls ≡ front ++ (x ∷ back) → number x ≡ suc n → (y : Variable) × OneOf y front × (number y ≡ n)
+
 -- ── What is shown ──
 
 -- Clause c is one that a readout of the file lists, and ls are its literals.
@@ -85,6 +110,7 @@ pub record SameClauseSameLine : Type 0 where
   pub related : (file other : List ℕ) (lengths otherLengths : Lengths) (ls ms : Clause) → Listed file lengths ls → Listed other otherLengths ms
       → canonicalText ls ≡ canonicalText ms → contains 126 (canonicalText ls) ≡ false → SameUpToRenaming ls ms
   pub readInOneWay : ReadInOneWay
+  pub numbered : (ls : Clause) → NumberedByAppearance ls
   -- Variables of a clause are told apart as the first readout tells them apart, by number and index: no variable of a clause gets two numbers because two rows declare it.
   pub oneVariable : (file : List ℕ) (lengths : Lengths) (ls : Clause) → Listed file lengths ls → (x y : Variable) → OccursInClause x ls → OccursInClause y ls
       → numberAndIndex (rowOf (stateGiven (reading file lengths))) x ≡ numberAndIndex (rowOf (stateGiven (reading file lengths))) y → x ≡ y
