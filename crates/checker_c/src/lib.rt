@@ -1,6 +1,6 @@
-// The check of a proof file, its readout, which clause covers which, the merge of two files and the board of a file, for C. In the crate exported, `Exported`
+// The check of a proof file, its two readouts, which clause covers which, the merge of two files and the board of a file, for C. In the crate exported, `Exported`
 // says what `checker_check` promises and `ExportedWith` what `checker_check_with` does; in exported_readout, exported_covers and exported_merge,
-// `ExportedReadout`, `ExportedCovers` and `ExportedMerge` say it of `checker_readout`, `checker_covers` and `checker_merge`; and in board_c, `ExportedBoard` of the three
+// `ExportedReadout`, `ExportedCanonical`, `ExportedCovers` and `ExportedMerge` say it of `checker_readout`, `checker_canonical_readout`, `checker_covers` and `checker_merge`; and in board_c, `ExportedBoard` of the three
 // functions of the board. checker.h has their declarations.
 use board_c::open_to_cells;
 use board_c::return_to_cells;
@@ -12,13 +12,15 @@ use following::nodes::Nodes;
 use following::nodes::Origins;
 use following::values::ValueCells;
 use merge_c::merge_to_cells;
+use readout_c::canonical_to_cells;
 use readout_c::readout_to_cells;
 ghost use mathlib.Core.Bool.{true, false};
 ghost use Rattle.entry.specs.Progress.{tablesWith};
 ghost use Rattle.checker.specs.Contract.{workspaceWith};
 ghost use Rattle.exported.specs.Exported.{Exported};
 ghost use Rattle.exported.specs.ExportedWith.{ExportedWith};
-ghost use Rattle.exported_readout.specs.ExportedReadout.{ExportedReadout};
+ghost use Rattle.verdict.specs.Readout.{clauseLine};
+ghost use Rattle.exported_readout.specs.ExportedReadout.{ExportedReadout, ExportedCanonical};
 ghost use Rattle.exported_covers.specs.ExportedCovers.{ExportedCovers};
 ghost use Rattle.exported_merge.specs.ExportedMerge.{ExportedMerge};
 ghost use Rattle.board_c.specs.ExportedBoard.{ExportedOpening, ExportedCall};
@@ -99,9 +101,37 @@ pub extern "C" fn checker_readout(
     output: &mut [u8],
     progress: &mut [u64],
 )
-    ensures { λ _. ⌜ ExportedReadout day (now (file .entry)) (tablesWith (now (symbols .entry)) (now (rows .entry)) (now (clauses .entry)) (now (bindings .entry))) clause (now (output .entry)) (now (progress .entry)) (tablesWith (now (symbols .exit)) (now (rows .exit)) (now (clauses .exit)) (now (bindings .exit))) (now (output .exit)) (now (progress .exit)) ⌝ }
+    ensures { λ _. ⌜ ExportedReadout clauseLine day (now (file .entry)) (tablesWith (now (symbols .entry)) (now (rows .entry)) (now (clauses .entry)) (now (bindings .entry))) clause (now (output .entry)) (now (progress .entry)) (tablesWith (now (symbols .exit)) (now (rows .exit)) (now (clauses .exit)) (now (bindings .exit))) (now (output .exit)) (now (progress .exit)) ⌝ }
 {
     readout_to_cells(
+        day,
+        file,
+        symbols,
+        rows,
+        clauses,
+        bindings,
+        clause,
+        output,
+        progress,
+    );
+}
+
+// The same for the second readout, whose variables are numbered in each line by their first printed appearance.
+#[no_mangle]
+pub extern "C" fn checker_canonical_readout(
+    day: u16,
+    file: &[u8],
+    symbols: &mut [u16],
+    rows: &mut [u16],
+    clauses: &mut [u16],
+    bindings: &mut [u16],
+    clause: u16,
+    output: &mut [u8],
+    progress: &mut [u64],
+)
+    ensures { λ _. ⌜ ExportedCanonical day (now (file .entry)) (tablesWith (now (symbols .entry)) (now (rows .entry)) (now (clauses .entry)) (now (bindings .entry))) clause (now (output .entry)) (now (progress .entry)) (tablesWith (now (symbols .exit)) (now (rows .exit)) (now (clauses .exit)) (now (bindings .exit))) (now (output .exit)) (now (progress .exit)) ⌝ }
+{
+    canonical_to_cells(
         day,
         file,
         symbols,

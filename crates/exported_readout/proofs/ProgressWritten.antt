@@ -6,20 +6,21 @@ use native.Mathlib.Omega.{arith}
 use lib.ListN.{length, drop}
 use Rattle.verdict.specs.Tables.{Tables, lengthsOf}
 use Rattle.readout.specs.Contract.{PieceWritten}
+use Rattle.verdict.specs.Readout.{LineWriter}
 use Rattle.units.specs.Pieces.{Progress, progress}
 use Rattle.pieces.specs.Placed.{restGiven}
 use Rattle.pieces.specs.declared.Piece.{Piece}
 use Rattle.exported_readout.specs.ExportedReadout.{progressNumbers, pieceNumbers, ExportedReadout}
 
 -- The numbers of an answered piece are those of its definition.
-numbered : (day : ℕ) (F : List ℕ) (t : Tables) (clause : ℕ) (O : List ℕ) (p : Piece) (here : Tables) (O′ : List ℕ) → PieceWritten day F t clause O p here O′ → progressNumbers (restGiven (p .rest)) (p .written) ≡ pieceNumbers day F t clause (length O)
-numbered day F t clause O p here O′ W =
+numbered : (line : LineWriter) (day : ℕ) (F : List ℕ) (t : Tables) (clause : ℕ) (O : List ℕ) (p : Piece) (here : Tables) (O′ : List ℕ) → PieceWritten line day F t clause O p here O′ → progressNumbers (restGiven (p .rest)) (p .written) ≡ pieceNumbers line day F t clause (length O)
+numbered line day F t clause O p here O′ W =
     ap (λ (r : Progress). progressNumbers r (p .written)) (W .piece .rest)
-    ∙ ap (progressNumbers (progress day F (lengthsOf t) clause (length O))) (W .piece .written)
+    ∙ ap (progressNumbers (progress line day F (lengthsOf t) clause (length O))) (W .piece .written)
 
 -- The two ways that the exported readout can go.
-pub left-alone : (day : ℕ) (F : List ℕ) (t : Tables) (clause : ℕ) (O P : List ℕ) → length P < 3 → ExportedReadout day F t clause O P t O P
-left-alone day F t clause O P l = record {
+pub left-alone : (line : LineWriter) (day : ℕ) (F : List ℕ) (t : Tables) (clause : ℕ) (O P : List ℕ) → length P < 3 → ExportedReadout line day F t clause O P t O P
+left-alone line day F t clause O P l = record {
   progressLeft = λ m. refl;
   outputLeft = λ m. refl;
   symbolsLeft = λ m. refl;
@@ -35,15 +36,15 @@ left-alone day F t clause O P l = record {
   pieces = λ m. absurd (omega arith);
 }
 
-pub piece-exported : (day : ℕ) (F : List ℕ) (t : Tables) (clause : ℕ) (O P : List ℕ) (p : Piece) (here : Tables) (O′ P′ : List ℕ) → 3 ≤ length P → PieceWritten day F t clause O p here O′ → P′ ≡ progressNumbers (restGiven (p .rest)) (p .written) ++ drop 3 P → ExportedReadout day F t clause O P here O′ P′
-piece-exported day F t clause O P p here O′ P′ l W q = record {
+pub piece-exported : (line : LineWriter) (day : ℕ) (F : List ℕ) (t : Tables) (clause : ℕ) (O P : List ℕ) (p : Piece) (here : Tables) (O′ P′ : List ℕ) → 3 ≤ length P → PieceWritten line day F t clause O p here O′ → P′ ≡ progressNumbers (restGiven (p .rest)) (p .written) ++ drop 3 P → ExportedReadout line day F t clause O P here O′ P′
+piece-exported line day F t clause O P p here O′ P′ l W q = record {
   progressLeft = λ m. absurd (omega arith);
   outputLeft = λ m. absurd (omega arith);
   symbolsLeft = λ m. absurd (omega arith);
   rowsLeft = λ m. absurd (omega arith);
   clausesLeft = λ m. absurd (omega arith);
   bindingsLeft = λ m. absurd (omega arith);
-  numbers = λ m. q ∙ ap (λ (v : List ℕ). v ++ drop 3 P) (numbered day F t clause O p here O′ W);
+  numbers = λ m. q ∙ ap (λ (v : List ℕ). v ++ drop 3 P) (numbered line day F t clause O p here O′ W);
   output = λ m. W .piece .bytes;
   symbols = λ m. W .symbols;
   rows = λ m. W .rows;

@@ -9,7 +9,7 @@ use Rattle.readout.proofs.readout_piece.Reads as readout-piece-reads
 
 returns : tie.Need-returns
 returns c =
-    left-alone _ _ _ _ _ _ (c .if1 .taken)
+    left-alone _ _ _ _ _ _ _ (c .if1 .taken)
 
 readout-piece-requires : tie.Need-readout-piece-requires
 readout-piece-requires c κs = search needs
@@ -37,7 +37,7 @@ same-length-6 c = search needs
 
 returns-2 : tie.Need-returns-2
 returns-2 c =
-    piece-exported _ _ _ _ _ _ _ _ _ _ (c .before .before .before .before .before .before .before .before .before .before .before .before .before .before .before .before .before .before .before .before .if1 .left) (c .before .before .before .before .before .before .before .before .before .before .before .before .before .before .readout-piece .ensures) (c .before .before .put-progress .ensures)
+    piece-exported _ _ _ _ _ _ _ _ _ _ _ (c .before .before .before .before .before .before .before .before .before .before .before .before .before .before .before .before .before .before .before .before .if1 .left) (c .before .before .before .before .before .before .before .before .before .before .before .before .before .before .readout-piece .ensures) (c .before .before .put-progress .ensures)
 
 pub readout-to-cells-spec : {M : Type 1} → statement M
 readout-to-cells-spec =
