@@ -1,14 +1,14 @@
 -- The bytes of the input lie at the start of the space.
 use native.Mathlib.Omega.{arith}
-use Rattle.proofread.proofs.Answers.{inside}
+use Rattle.printing.proofs.Answers.{inside}
 use borrow.Author.Needs.{needs}
-use Rattle.proofread.proofs.run.Statement.{statement}
-use Rattle.proofread.proofs.run.Tie as tie
-use Rattle.proofread.proofs.run.Reads as reads
-use Rattle.proofread.proofs.run.Lts as lts
-use Rattle.proofread.proofs.input.read_input.Reads as read-input-reads
-use Rattle.proofread.proofs.print_readout.Reads as print-readout-reads
-use Rattle.proofread.proofs.report.unread.Reads as unread-reads
+use Rattle.printing.proofs.run.Statement.{statement}
+use Rattle.printing.proofs.run.Tie as tie
+use Rattle.printing.proofs.run.Reads as reads
+use Rattle.printing.proofs.run.Lts as lts
+use Rattle.printing.proofs.input.read_input.Reads as read-input-reads
+use Rattle.printing.proofs.print_readout.Reads as print-readout-reads
+use Rattle.printing.proofs.report.unread.Reads as unread-reads
 
 slice-aggregate-read-input : tie.Need-slice-aggregate-read-input
 slice-aggregate-read-input c = search needs
@@ -33,7 +33,13 @@ slice-aggregate-print-readout c = search needs
 
 print-readout-requires : tie.Need-print-readout-requires
 print-readout-requires c κs =
-    let i = inside (c .before .before .before .before .before .read-input .last .1 .0) (c .before .before .before .before .before .read-input .ensures) (c .before .before .n .given .1) .0 in record { inside = i; room = omega arith }
+    let i = inside (c .before .before .before .before .before .before .before .read-input .last .1 .0) (c .before .before .before .before .before .before .before .read-input .ensures) (c .before .before .before .before .n .given .1) .0 in (record { inside = i; room = omega arith }, c .before .before .before .before .before .before .before .before .before .before .before .pre)
+
+same-length : tie.Need-same-length
+same-length c = search needs
+
+same-length-2 : tie.Need-same-length-2
+same-length-2 c = search needs
 
 returns-2 : tie.Need-returns-2
 returns-2 c = search needs
@@ -50,4 +56,6 @@ run-spec =
     returns
     slice-aggregate-print-readout
     print-readout-requires
+    same-length
+    same-length-2
     returns-2)

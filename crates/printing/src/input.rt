@@ -5,7 +5,7 @@ use read_answer::Turn;
 use read_answer::read_of;
 use read_answer::taken;
 ghost use lib.ListN.{length};
-ghost use Rattle.proofread.specs.Input.{Room, Inside};
+ghost use Rattle.printing.specs.Input.{Room, Inside};
 
 // Reads once, into the start of `space`.
 fn read_once(fd: i32, space: &mut [u8]) -> Read

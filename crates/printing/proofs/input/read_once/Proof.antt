@@ -5,11 +5,11 @@ use mir.Syntax.{w64}
 use mir.ValLaws.{toZ-ofZ}
 use borrow.Author.Needs.{needs}
 use Rattle.read_answer.specs.Reading.{readOf}
-use Rattle.proofread.specs.Input.{Room}
+use Rattle.printing.specs.Input.{Room}
 use Rattle.read_answer.specs.declared.Read.{Read}
-use Rattle.proofread.proofs.Answers.{room}
-use Rattle.proofread.proofs.input.read_once.Statement.{statement}
-use Rattle.proofread.proofs.input.read_once.Tie as tie
+use Rattle.printing.proofs.Answers.{room}
+use Rattle.printing.proofs.input.read_once.Statement.{statement}
+use Rattle.printing.proofs.input.read_once.Tie as tie
 
 read-requires : tie.Need-read-requires
 read-requires c κs = search needs

@@ -9,7 +9,7 @@ use Rattle.io.specs.Counts.{Counts}
 use Rattle.io.proofs.Counting.{counts}
 use Rattle.libc.specs.Io.{Moved}
 use Rattle.read_answer.specs.Reading.{readOf, takenOf}
-use Rattle.proofread.specs.Input.{Room, Inside}
+use Rattle.printing.specs.Input.{Room, Inside}
 use Rattle.read_answer.specs.declared.Input.{Input}
 use Rattle.read_answer.specs.declared.Input.the-variants.{Whole, Broken}
 use Rattle.read_answer.specs.declared.Turn.{Turn}

@@ -3,13 +3,13 @@ use Prim.Native.Nat.{_-_, _≤_}
 use native.Mathlib.Omega.{arith}
 use lib.ListN.{length}
 use Rattle.io.proofs.Counting.{counts}
-use Rattle.proofread.proofs.Answers.{grown, ended-inside}
+use Rattle.printing.proofs.Answers.{grown, ended-inside}
 use borrow.Author.Needs.{needs}
-use Rattle.proofread.proofs.input.read_input.Statement.{statement}
-use Rattle.proofread.proofs.input.read_input.Tie as tie
-use Rattle.proofread.proofs.input.read_input.Reads as reads
-use Rattle.proofread.proofs.input.read_input.Lts as lts
-use Rattle.proofread.proofs.input.read_once.Reads as read-once-reads
+use Rattle.printing.proofs.input.read_input.Statement.{statement}
+use Rattle.printing.proofs.input.read_input.Tie as tie
+use Rattle.printing.proofs.input.read_input.Reads as reads
+use Rattle.printing.proofs.input.read_input.Lts as lts
+use Rattle.printing.proofs.input.read_once.Reads as read-once-reads
 use Rattle.read_answer.proofs.taken.Reads as taken-reads
 
 abbrev Inv-loop : tie.InvT-loop

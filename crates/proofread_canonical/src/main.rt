@@ -1,0 +1,15 @@
+// Prints the second readout of a proof file, whose variables are numbered in each line by their first printed appearance: see the crate printing. It takes
+// no arguments.
+use numbering::Naming;
+use printing::report::usage;
+use printing::run;
+
+fn main() {
+    if 1 < os::arg_count() {
+        usage(Naming::ByAppearance);
+        return;
+    }
+    let mut cells = [0u16; 262208];
+    let mut order = [0u32; 8192];
+    run(Naming::ByAppearance, &mut cells, &mut order);
+}
