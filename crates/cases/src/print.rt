@@ -42,7 +42,7 @@ fn digest(d: Digest) {
     hash(d.hash);
 }
 
-// The line of a file: its place in the pack, the seven numbers of the answer, the hashes, and the length and the hash of the readout.
+// The line of a file: its place in the pack, the seven numbers of the answer, the hashes, and the length and the hash of each readout.
 pub fn line(place: usize, o: Outcome) {
     let a = o.answer;
     let v = a.verdict;
@@ -59,5 +59,7 @@ pub fn line(place: usize, o: Outcome) {
     hashes(h);
     let d = o.readout;
     digest(d);
+    let e = o.canonical;
+    digest(e);
     text(b"\n");
 }

@@ -1,12 +1,13 @@
-// The length and the hash of a file's readout.
+// The length and the hash of a file's readout, of either kind.
 use answer::Answer;
 use following::nodes::Nodes;
 use following::nodes::Origins;
 use following::values::ValueCells;
 use hash::with_bytes;
+use numbering::Naming;
 use pieces::Rest;
 use pieces::write_piece;
-ghost use Rattle.units.specs.Units.{AfterCheck};
+ghost use Rattle.pieces.specs.Placed.{PieceReady};
 ghost use Rattle.outcomes.specs.Digest.{DigestAfter};
 
 // How many bytes there are, and their hash.
@@ -23,10 +24,13 @@ pub(crate) fn digest_of(
     nodes: &Nodes,
     origins: &Origins,
     values: &mut ValueCells,
+    naming: Naming,
+    cells: &mut [u16],
+    order: &mut [u32],
     a: Answer,
 ) -> Digest
-    requires { ⌜ AfterCheck (now clauses) (now bindings) (now nodes) (now origins) (now values) a ⌝ }
-    ensures { λ d. ⌜ DigestAfter (now (clauses .entry)) (now (bindings .entry)) (now (nodes .entry)) (now (origins .entry)) (now (values .entry)) a d ⌝ }
+    requires { ⌜ PieceReady naming (now clauses) (now bindings) (now nodes) (now origins) (now values) (now cells) (now order) a ⌝ }
+    ensures { λ d. ⌜ DigestAfter naming (now (clauses .entry)) (now (bindings .entry)) (now (nodes .entry)) (now (origins .entry)) (now (values .entry)) (now (values .exit)) a d ⌝ }
 {
     let mut output = [0u8; 131072];
     let mut total: usize = 0;
@@ -39,6 +43,9 @@ pub(crate) fn digest_of(
             nodes,
             origins,
             values,
+            naming,
+            cells,
+            order,
             a,
             clause,
             &mut output,

@@ -1,4 +1,4 @@
-// What the check and the readout give for one file: the answer in numbers, a hash of each table, and the readout's length and hash.
+// What the check and the readouts give for one file: the answer in numbers, a hash of each table, and each readout's length and hash.
 use super::digest::Digest;
 use super::digest::digest_of;
 use answer::Answer;
@@ -7,7 +7,10 @@ use following::nodes::Nodes;
 use following::nodes::Origins;
 use following::values::ValueCells;
 use hash::hash_of;
+use numbering::Naming;
 ghost use Rattle.entry.specs.Progress.{tablesWith};
+ghost use Rattle.numbering.specs.Numbering.{NumberRoom};
+ghost use Rattle.numbering.specs.declared.Naming.the-variants.{ByAppearance};
 ghost use Rattle.outcomes.specs.Outcome.{OutcomeOf, zeroTables};
 
 // The hashes of the four tables.
@@ -18,11 +21,12 @@ pub struct Hashes {
     pub bindings: u64,
 }
 
-// The answer to a file, the hashes of the tables as the check leaves them, and the length and the hash of the readout.
+// The answer to a file, the hashes of the tables as the check leaves them, and the length and the hash of both readouts.
 pub struct Outcome {
     pub answer: Answer,
     pub hashes: Hashes,
     pub readout: Digest,
+    pub canonical: Digest,
 }
 
 // Checks a file on a day with the caller's tables, and goes on to the readout by what the check left.
@@ -36,7 +40,10 @@ fn outcome_with(
     nodes: &mut Nodes,
     origins: &mut Origins,
     values: &mut ValueCells,
+    cells: &mut [u16],
+    order: &mut [u32],
 ) -> Outcome
+    requires { ⌜ NumberRoom ByAppearance (now cells) (now order) ⌝ }
     ensures { λ o. ⌜ OutcomeOf day (now (file .entry)) (tablesWith (now (symbols .entry)) (now (rows .entry)) (now (clauses .entry)) (now (bindings .entry))) o ⌝ }
 {
     let answer = check_with(
@@ -56,11 +63,33 @@ fn outcome_with(
         clauses: hash_of(clauses),
         bindings: hash_of(bindings),
     };
-    let readout = digest_of(clauses, bindings, nodes, origins, values, answer);
+    let readout = digest_of(
+        clauses,
+        bindings,
+        nodes,
+        origins,
+        values,
+        Naming::AsWritten,
+        cells,
+        order,
+        answer,
+    );
+    let canonical = digest_of(
+        clauses,
+        bindings,
+        nodes,
+        origins,
+        values,
+        Naming::ByAppearance,
+        cells,
+        order,
+        answer,
+    );
     Outcome {
         answer,
         hashes,
         readout,
+        canonical,
     }
 }
 
@@ -75,6 +104,8 @@ pub fn outcome_of(day: u16, file: &[u8]) -> Outcome
     let mut nodes = [0u16; 32768];
     let mut origins = [0u16; 32768];
     let mut values = [0u16; 524416];
+    let mut cells = [0u16; 262208];
+    let mut order = [0u32; 8192];
     outcome_with(
         day,
         file,
@@ -85,5 +116,7 @@ pub fn outcome_of(day: u16, file: &[u8]) -> Outcome
         &mut nodes,
         &mut origins,
         &mut values,
+        &mut cells,
+        &mut order,
     )
 }

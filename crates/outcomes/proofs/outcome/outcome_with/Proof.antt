@@ -1,4 +1,6 @@
--- What the check leaves is what the readout asks for, and the hashes are of the tables that it left.
+-- What the check leaves is what the readouts ask for, and the hashes are of the tables that it left.
+use mathlib.Core.Path.{_∙_}
+use Rattle.units.proofs.UnitWriting.{after-again}
 use Rattle.outcomes.proofs.OutcomeLaws.{outcome-given}
 use borrow.Author.Needs.{needs}
 use Rattle.outcomes.proofs.outcome.outcome_with.Statement.{statement}
@@ -26,23 +28,37 @@ hash-of-requires-4 c κs = search needs
 
 digest-of-requires : tie.Need-digest-of-requires
 digest-of-requires c κs =
-    record { day = _; file = _; before = _; lent = _; symbols = _; rows = _; checked = c .before .before .before .before .before .before .before .before .before .before .before .before .before .before .before .before .before .before .before .before .before .check-with .ensures }
+    record { after = record { day = _; file = _; before = _; lent = _; symbols = _; rows = _; checked = c .before .before .before .before .before .before .before .before .before .before .before .before .before .before .before .before .before .before .before .before .before .before .before .check-with .ensures }; numbers = tt }
+
+digest-of-requires-2 : tie.Need-digest-of-requires-2
+digest-of-requires-2 c κs =
+    record { after = after-again (record { day = _; file = _; before = _; lent = _; symbols = _; rows = _; checked = c .before .before .before .before .before .before .before .before .before .before .before .before .before .before .before .before .before .before .before .before .before .before .before .before .before .before .before .before .before .before .before .before .before .before .before .check-with .ensures }) (c .before .before .before .before .before .before .before .before .before .before .before .digest-of .ensures .values); numbers = (c .before .before .before .before .before .before .before .before .before .before .cells .given ∙ c .before .before .before .before .before .before .before .before .before .before .before .before .before .before .before .before .before .before .before .before .before .before .before .before .before .before .before .before .before .before .before .before .before .before .before .before .before .before .before .before .before .before .before .before .before .before .before .before .before .before .pre .0, c .before .before .before .before .before .before .before .before .order .given ∙ c .before .before .before .before .before .before .before .before .before .before .before .before .before .before .before .before .before .before .before .before .before .before .before .before .before .before .before .before .before .before .before .before .before .before .before .before .before .before .before .before .before .before .before .before .before .before .before .before .before .before .pre .1) }
 
 same-length : tie.Need-same-length
-same-length c = search needs
+same-length c =
+    c .before .before .before .before .before .before .before .before .before .before .before .before .before .before .before .before .before .before .before .before .before .before .before .before .before .before .before .before .before .before .before .before .before .before .before .before .before .before .before .symbols .given
 
 same-length-2 : tie.Need-same-length-2
-same-length-2 c = search needs
+same-length-2 c =
+    c .before .before .before .before .before .before .before .before .before .before .before .before .before .before .before .before .before .before .before .before .before .before .before .before .before .before .before .before .before .before .before .before .before .before .before .before .before .rows .given
 
 same-length-3 : tie.Need-same-length-3
-same-length-3 c = search needs
+same-length-3 c =
+    c .before .before .before .before .before .before .before .before .before .before .before .before .before .before .before .before .before .before .before .before .before .before .before .before .before .before .before .before .before .before .before .before .before .before .before .clauses .given
 
 same-length-4 : tie.Need-same-length-4
-same-length-4 c = search needs
+same-length-4 c =
+    c .before .before .before .before .before .before .before .before .before .before .before .before .before .before .before .before .before .before .before .before .before .before .before .before .before .before .before .before .before .before .before .before .before .bindings .given
+
+same-length-5 : tie.Need-same-length-5
+same-length-5 c = search needs
+
+same-length-6 : tie.Need-same-length-6
+same-length-6 c = search needs
 
 returns : tie.Need-returns
 returns c =
-    outcome-given _ _ _ _ _ _ _ _ _ _ _ _ _ _ _ _ _ (c .before .before .before .before .before .before .before .before .before .before .before .before .before .before .before .before .before .before .before .before .before .before .check-with .ensures) (c .before .before .before .before .before .before .before .before .before .before .before .before .hash-of .ensures) (c .before .before .before .before .before .before .before .before .before .before .hash-of2 .ensures) (c .before .before .before .before .before .before .before .before .hash-of3 .ensures) (c .before .before .before .before .before .before .hash-of4 .ensures) (c .digest-of .ensures)
+    outcome-given _ _ _ _ _ _ _ _ _ _ _ _ _ _ _ _ _ _ _ _ (c .before .before .before .before .before .before .before .before .before .before .before .before .before .before .before .before .before .before .before .before .before .before .before .before .before .before .before .before .before .before .before .before .before .before .before .before .before .before .before .before .check-with .ensures) (c .before .before .before .before .before .before .before .before .before .before .before .before .before .before .before .before .before .before .before .before .before .before .before .before .before .before .before .before .before .before .hash-of .ensures) (c .before .before .before .before .before .before .before .before .before .before .before .before .before .before .before .before .before .before .before .before .before .before .before .before .before .before .before .before .hash-of2 .ensures) (c .before .before .before .before .before .before .before .before .before .before .before .before .before .before .before .before .before .before .before .before .before .before .before .before .before .before .hash-of3 .ensures) (c .before .before .before .before .before .before .before .before .before .before .before .before .before .before .before .before .before .before .before .before .before .before .before .before .hash-of4 .ensures) (c .before .before .before .before .before .before .before .before .before .before .before .before .before .before .before .before .digest-of .ensures) (c .before .before .before .before .digest-of2 .ensures)
 
 pub outcome-with-spec : {M : Type 1} → statement M
 outcome-with-spec =
@@ -54,8 +70,11 @@ outcome-with-spec =
     hash-of-requires-3
     hash-of-requires-4
     digest-of-requires
+    digest-of-requires-2
     same-length
     same-length-2
     same-length-3
     same-length-4
+    same-length-5
+    same-length-6
     returns)
