@@ -9,7 +9,9 @@ use yestrwyn_vectors::dated::with_windows;
 use yestrwyn_vectors::random::SplitMix64;
 use yestrwyn_vectors::repeating::rows_at_random;
 use yestrwyn_vectors::{clashing_file, clashing_several_file, covering_file, damage, dated_file};
-use yestrwyn_vectors::{random_file, random_file_of, repeating_file, several_file, several_file_of};
+use yestrwyn_vectors::{
+    hiding_file, random_file, random_file_of, repeating_file, several_file, several_file_of,
+};
 
 use crate::services::Services;
 
@@ -158,7 +160,8 @@ pub fn day_and_file_of(seed: u64) -> (u16, Vec<u8>) {
 }
 
 /// The file of a number within a run: random files, damaged ones, longer ones, clashing ones, ones with repeated
-/// rows, any bytes, the same with steps on several right literals, and files of clauses that cover one another.
+/// rows, any bytes, the same with steps on several right literals, files of clauses that cover one another, and files of
+/// which some literals are hidden.
 fn file_of(seed: u64) -> Vec<u8> {
     let mut random = SplitMix64::new(seed);
     let own = random.next_u64();
@@ -179,7 +182,8 @@ fn file_of(seed: u64) -> Vec<u8> {
         25 => rows_at_random(&several_file(own), random.next_u64()).file,
         26 => clashing_several_file(own),
         27 => damage(&clashing_several_file(own), random.next_u64()),
-        28..=30 => covering_file(own),
+        28 | 29 => covering_file(own),
+        30 => hiding_file(own),
         _ => damage(&covering_file(own), random.next_u64()),
     }
 }

@@ -1,4 +1,4 @@
-//! The proved check, plain and for services, the proved readout, which clause covers which, the proved merge and boards,
+//! The proved check, plain and for services, the two proved readouts, which clause covers which, the proved merge and boards,
 //! compared with the second implementation: every answer, every cell and every byte; and the time that they take.
 
 pub mod boards;

@@ -1,7 +1,7 @@
-//! Pieces of the proved readout beside the second implementation's: every byte, every number and
+//! Pieces of the two proved readouts beside the second implementation's: every byte, every number and
 //! every cell.
 
-use yestrwyn::exported::{readout_numbers, PROGRESS_CELLS};
+use yestrwyn::exported::{canonical_readout_numbers, readout_numbers, ReadoutNumbers, PROGRESS_CELLS};
 use yestrwyn::ENOUGH;
 use yestrwyn_types::Tables;
 use yestrwyn_vectors::random::SplitMix64;
@@ -14,6 +14,24 @@ const PROGRESS_MARK: u64 = 7;
 
 /// Pieces that a walk through a readout takes at most.
 const TURNS: usize = 40;
+
+/// One of the two readouts: the proved one as it is exported, and the second implementation's.
+#[derive(Clone, Copy)]
+pub struct Readout {
+    pub name: &'static str,
+    pub proved: ReadoutNumbers,
+    pub second: fn(u16, &[u8], &mut Tables<'_>) -> Vec<u8>,
+}
+
+/// Both of them.
+pub const READOUTS: [Readout; 2] = [
+    Readout { name: "readout", proved: readout_numbers, second: yestrwyn_second::readout_into },
+    Readout {
+        name: "second readout",
+        proved: canonical_readout_numbers,
+        second: yestrwyn_second::canonical_readout_into,
+    },
+];
 
 /// What a call is asked for: the clause to begin with, bytes of output and cells for the progress.
 #[derive(Clone, Copy, PartialEq, Eq, Debug)]
@@ -54,6 +72,7 @@ pub fn expected(units: &[&[u8]], clause: u16, room: usize) -> (Vec<u8>, [u64; PR
 
 /// A file with its day and the tables that it is checked with, and what the second implementation makes of it.
 pub struct Second<'a> {
+    readout: Readout,
     day: u16,
     file: &'a [u8],
     lengths: Lengths,
@@ -64,11 +83,11 @@ pub struct Second<'a> {
 
 impl<'a> Second<'a> {
     /// Runs the second implementation.
-    pub fn new(day: u16, file: &'a [u8], lengths: Lengths, mark: u16) -> Second<'a> {
+    pub fn new(readout: Readout, day: u16, file: &'a [u8], lengths: Lengths, mark: u16) -> Second<'a> {
         let mut tables = lengths.tables.map(|length| marked(length, mark));
         let [symbols, rows, clauses, bindings] = &mut tables;
-        let text = yestrwyn_second::readout_into(day, file, &mut Tables { symbols, rows, clauses, bindings });
-        Second { day, file, lengths, mark, text, tables }
+        let text = (readout.second)(day, file, &mut Tables { symbols, rows, clauses, bindings });
+        Second { readout, day, file, lengths, mark, text, tables }
     }
 
     /// Goes through the readout in pieces of any room, and begins once anywhere; says where the two
@@ -85,6 +104,17 @@ impl<'a> Second<'a> {
             };
         }
         self.anywhere(&units, random)
+    }
+
+    /// Pieces of every length: from every clause on with all rooms up to that of the whole and a byte more.
+    pub fn every(&self) -> Result<(), String> {
+        let units = units(&self.text);
+        for clause in 0..units.len() as u16 + 2 {
+            for room in 0..self.text.len() + 2 {
+                self.piece(&units, Asked { clause, room, cells: 3 })?;
+            }
+        }
+        Ok(())
     }
 
     /// Two pieces only: the first with room for every line, and one from anywhere.
@@ -109,33 +139,33 @@ impl<'a> Second<'a> {
         let mut tables = Tables { symbols, rows, clauses, bindings };
         let mut output = vec![OUTPUT_MARK; asked.room];
         let mut progress = vec![PROGRESS_MARK; asked.cells];
-        readout_numbers(self.day, self.file, &mut tables, asked.clause, &mut output, &mut progress);
+        (self.readout.proved)(self.day, self.file, &mut tables, asked.clause, &mut output, &mut progress);
         let (mut bytes, numbers) = expected(units, asked.clause, asked.room);
         let mut cells = vec![PROGRESS_MARK; asked.cells];
         match cells.get_mut(..PROGRESS_CELLS) {
             Some(first) => {
                 first.copy_from_slice(&numbers);
-                differ(asked, "table", ours == self.tables)?;
+                self.differ(asked, "table", ours == self.tables)?;
             }
             None => {
                 bytes.clear();
                 let left = ours.iter().all(|table| *table == marked(table.len(), self.mark));
-                differ(asked, "table", left)?;
+                self.differ(asked, "table", left)?;
             }
         }
         bytes.resize(asked.room, OUTPUT_MARK);
-        differ(asked, "progress", progress == cells)?;
-        differ(asked, "output", output == bytes)?;
+        self.differ(asked, "progress", progress == cells)?;
+        self.differ(asked, "output", output == bytes)?;
         Ok(numbers)
     }
-}
 
-/// An error if something is not the same.
-fn differ(asked: Asked, part: &str, same: bool) -> Result<(), String> {
-    if same {
-        return Ok(());
+    /// An error if something is not the same.
+    fn differ(&self, asked: Asked, part: &str, same: bool) -> Result<(), String> {
+        if same {
+            return Ok(());
+        }
+        Err(format!("{}, {asked:?}: {part} differs", self.readout.name))
     }
-    Err(format!("readout, {asked:?}: {part} differs"))
 }
 
 /// Room for some of the next lines: just enough, one byte less, some more, or any.

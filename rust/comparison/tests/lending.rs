@@ -4,18 +4,19 @@ use std::mem::size_of;
 
 use yestrwyn::exported::{board_open_numbers, board_return_numbers, board_withdraw_numbers};
 use yestrwyn::exported::{check_numbers, check_numbers_with, Arrays, Nodes, Origins, Values};
-use yestrwyn::exported::{covers_numbers, merge_numbers, readout_numbers, PROGRESS_CELLS};
+use yestrwyn::exported::{covers_numbers, merge_numbers, PROGRESS_CELLS};
 use yestrwyn::{Tables, LENGTHS};
 use yestrwyn_comparison::boards::script_of;
 use yestrwyn_comparison::compare::day_and_file_of;
 use yestrwyn_comparison::covers::Clauses;
 use yestrwyn_comparison::merges::pair_of;
+use yestrwyn_comparison::pieces::{Readout, READOUTS};
 use yestrwyn_types::limits::{BOARD_CELLS, FILE_BYTES};
 use yestrwyn_types::{Cells, ANSWER_CELLS, BOARD_ANSWER_CELLS, COVERING_CELLS, MERGED_CELLS};
 use yestrwyn_vectors::boards::Lent;
 use yestrwyn_vectors::examples::boards::{self, Call, Script};
 use yestrwyn_vectors::examples::merges::Merge;
-use yestrwyn_vectors::examples::{cases, days, edges, merges, published, refusals};
+use yestrwyn_vectors::examples::{canonical, cases, days, edges, merges, published, refusals};
 use yestrwyn_vectors::random::SplitMix64;
 
 /// Cells before, between and after the parts.
@@ -147,32 +148,40 @@ fn before(cells: &mut Cells) -> &mut Cells {
     cells
 }
 
+/// A piece of a readout with everything lent from the middle of larger buffers.
+fn readout_in_the_middle(readout: Readout, day: u16, file: &[u8], room: usize, text: &[u8]) {
+    let lent = in_the_middle(file);
+    let mut buffer = buffer();
+    let [symbols, rows, clauses, bindings, _] = parts(&mut buffer);
+    let mut tables = Tables { symbols, rows, clauses, bindings };
+    let mut output = vec![0xa5; room + 64];
+    let mut progress = [7; PROGRESS_CELLS + 4];
+    (readout.proved)(
+        day,
+        &lent[64..64 + file.len()],
+        &mut tables,
+        0,
+        &mut output[32..32 + room],
+        &mut progress[2..2 + PROGRESS_CELLS],
+    );
+    let written = progress[3] as usize;
+    assert!(margins_hold(&buffer));
+    assert_eq!((progress[..2].to_vec(), progress[5..].to_vec()), (vec![7; 2], vec![7; 2]));
+    assert!(written <= room && text.starts_with(&output[32..32 + written]));
+    let around = output[..32].iter().chain(&output[32 + written..]);
+    assert!(around.into_iter().all(|&byte| byte == 0xa5));
+}
+
 #[test]
-fn the_readout_stays_inside_what_it_was_lent() {
+fn the_readouts_stay_inside_what_they_were_lent() {
     let read = || {
-        for (day, file) in files() {
-            let lent = in_the_middle(&file);
-            let second = yestrwyn_second::readout(day, &file);
-            for room in [0, 1, second.len().saturating_sub(1), second.len(), second.len() + 9] {
-                let mut buffer = buffer();
-                let [symbols, rows, clauses, bindings, _] = parts(&mut buffer);
-                let mut tables = Tables { symbols, rows, clauses, bindings };
-                let mut output = vec![0xa5; room + 64];
-                let mut progress = [7; PROGRESS_CELLS + 4];
-                readout_numbers(
-                    day,
-                    &lent[64..64 + file.len()],
-                    &mut tables,
-                    0,
-                    &mut output[32..32 + room],
-                    &mut progress[2..2 + PROGRESS_CELLS],
-                );
-                let written = progress[3] as usize;
-                assert!(margins_hold(&buffer));
-                assert_eq!((progress[..2].to_vec(), progress[5..].to_vec()), (vec![7; 2], vec![7; 2]));
-                assert!(written <= room && second.starts_with(&output[32..32 + written]));
-                let around = output[..32].iter().chain(&output[32 + written..]);
-                assert!(around.into_iter().all(|&byte| byte == 0xa5));
+        let named = canonical::examples().into_iter().map(|example| (example.day, example.file));
+        for (day, file) in files().into_iter().chain(named) {
+            for readout in READOUTS {
+                let text = (readout.second)(day, &file, &mut Cells::new().lend());
+                for room in [0, 1, text.len().saturating_sub(1), text.len(), text.len() + 9] {
+                    readout_in_the_middle(readout, day, &file, room, &text);
+                }
             }
         }
     };

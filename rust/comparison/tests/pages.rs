@@ -5,17 +5,17 @@ use std::ffi::c_void;
 use std::mem::size_of;
 use std::slice;
 
+use yestrwyn::exported::PROGRESS_CELLS;
 use yestrwyn::exported::{board_open_numbers, board_return_numbers, board_withdraw_numbers};
 use yestrwyn::exported::{check_numbers_with, Arrays, Nodes, Origins, Values};
-use yestrwyn::{
-    check_here, covers_here, merge_here, readout_piece_here, Cells, Rest, Tables, ENOUGH, LENGTHS,
-};
+use yestrwyn::{check_here, covers_here, merge_here, Cells, Tables, ENOUGH, LENGTHS};
+use yestrwyn_comparison::pieces::{self, READOUTS};
 use yestrwyn_types::limits::{BOARD_CELLS, FILE_BYTES};
 use yestrwyn_types::{ANSWER_CELLS, BOARD_ANSWER_CELLS};
 use yestrwyn_vectors::boards::Lent;
 use yestrwyn_vectors::examples::boards::{self, Call, Script};
 use yestrwyn_vectors::examples::merges::{self, Merge};
-use yestrwyn_vectors::examples::{cases, days, deep, edges, published, Example};
+use yestrwyn_vectors::examples::{canonical, cases, days, deep, edges, published, Example};
 use yestrwyn_vectors::merges::{damaged_pair, random_pair};
 use yestrwyn_vectors::{board_script, covering_file, dated_file, random_file};
 
@@ -88,7 +88,7 @@ fn put<'a>(pages: &'a mut Guarded, file: &[u8], place: Place) -> &'a [u8] {
     lent
 }
 
-/// Checks a file that lies against an unreadable page, reads it out and compares its first clauses, with tables that fill
+/// Checks a file that lies against an unreadable page, reads it out twice and compares its first clauses, with tables that fill
 /// their pages.
 fn same(example: &Example, place: Place) {
     let Example { name, day, file } = example;
@@ -104,10 +104,16 @@ fn same(example: &Example, place: Place) {
     assert_eq!(check_here(day, lent, &mut tables), expected, "{name} {place:?}");
     assert_eq!(for_services(day, lent, &mut tables, place), expected.numbers(), "{name} {place:?}");
     let mut output = Guarded::new(ENOUGH);
-    let piece = readout_piece_here(day, lent, &mut tables, 0, output.bytes());
-    let text = yestrwyn_second::readout(day, file);
-    assert!(text.starts_with(&output.bytes()[..piece.written]), "{name} {place:?}");
-    assert_eq!(piece.rest == Rest::Complete, piece.written == text.len(), "{name} {place:?}");
+    for readout in READOUTS {
+        let (text, mut progress) = ((readout.second)(day, file, &mut second.lend()), [0; PROGRESS_CELLS]);
+        (readout.proved)(day, lent, &mut tables, 0, output.bytes(), &mut progress);
+        let (bytes, numbers) = pieces::expected(&pieces::units(&text), 0, ENOUGH);
+        assert!(
+            output.bytes().starts_with(&bytes) && progress == numbers,
+            "{} of {name} {place:?}",
+            readout.name
+        );
+    }
     for (c, d) in [(0, 0), (0, 1), (1, 0)] {
         let covering = yestrwyn_second::covers(file, c, d);
         assert_eq!(covers_here(lent, c, d, &mut tables), covering, "{c} and {d} of {name} {place:?}");
@@ -145,6 +151,7 @@ fn files_and_tables_beside_unreadable_pages() {
         examples.extend(edges::examples());
         examples.extend(deep::examples());
         examples.extend(days::examples());
+        examples.extend(canonical::examples());
         for example in examples {
             same(&example, Place::Last);
             same(&example, Place::First);

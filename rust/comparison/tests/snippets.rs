@@ -1,5 +1,5 @@
 //! The programs that the guide to the format quotes compile, and print what the stored readouts say; so do the programs
-//! in C that ask which clause covers which, that merge two files and that open a board.
+//! in C that print the second readout, that ask which clause covers which, that merge two files and that open a board.
 
 use std::fs;
 use std::path::{Path, PathBuf};
@@ -71,10 +71,10 @@ fn for_all(line: impl Fn(&str) -> String) -> String {
     EXAMPLES.iter().map(|example| line(&verdict(example))).collect()
 }
 
-/// The programs `check` and `readout`, compiled once.
-fn programs() -> &'static [PathBuf; 2] {
-    static PROGRAMS: OnceLock<[PathBuf; 2]> = OnceLock::new();
-    PROGRAMS.get_or_init(|| ["check", "readout"].map(compiled))
+/// The programs `check`, `readout` and `canonical`, compiled once.
+fn programs() -> &'static [PathBuf; 3] {
+    static PROGRAMS: OnceLock<[PathBuf; 3]> = OnceLock::new();
+    PROGRAMS.get_or_init(|| ["check", "readout", "canonical"].map(compiled))
 }
 
 /// The program `service`, compiled once.
@@ -131,7 +131,7 @@ fn printed_with(program: &Path, words: &[String], example: &str) -> String {
 
 #[test]
 fn the_check_from_c() {
-    let [program, _] = programs();
+    let [program, ..] = programs();
     for example in EXAMPLES {
         assert_eq!(printed(program, DAY, example), verdict(example), "{example}");
     }
@@ -141,12 +141,23 @@ fn the_check_from_c() {
 
 #[test]
 fn the_readout_from_c() {
-    let [_, program] = programs();
+    let [_, program, _] = programs();
     for example in EXAMPLES {
         assert_eq!(printed(program, DAY, example), readout(example), "{example}");
     }
     let (example, day) = SEASON;
     assert_eq!(printed(program, &day.to_string(), example), readout(&format!("{example}-{day}")));
+}
+
+#[test]
+fn the_second_readout_from_c() {
+    let [_, _, program] = programs();
+    let examples = EXAMPLES.iter().map(|&example| (example, 0));
+    for (example, day) in examples.chain([SEASON]) {
+        let file = fs::read(path(&format!("examples/{example}.proof"))).expect("a stored example");
+        let right = String::from_utf8(yestrwyn_second::canonical_readout(day, &file)).expect("text");
+        assert_eq!(printed(program, &day.to_string(), example), right, "{example}");
+    }
 }
 
 /// The line that the program `covers` is to print.
@@ -327,8 +338,8 @@ fn failed_boards() {
 /// Words that are no day, none, and more than one.
 #[test]
 fn words_that_are_no_day() {
-    let [check, readout] = programs();
-    for program in [check.as_path(), readout, service_program()] {
+    let [check, readout, canonical] = programs();
+    for program in [check.as_path(), readout, canonical, service_program()] {
         for words in ["", "x", "1x", "-1", "65536", "99999999999999999999"] {
             let mut program = Command::new(program);
             let output = program.args(words.split_whitespace()).stdin(Stdio::null()).output();

@@ -4,8 +4,11 @@ use std::io;
 use std::thread::Builder;
 
 use yestrwyn::limits::FILE_BYTES;
+use yestrwyn::{
+    canonical_readout, canonical_readout_piece, write_canonical_readout, write_canonical_readout_here,
+};
 use yestrwyn::{check, check_into, covers, covers_into, merge, merge_into, readout, readout_piece};
-use yestrwyn::{write_readout, write_readout_here, Board, Cells, Rest, Workspace, ENOUGH};
+use yestrwyn::{write_readout, write_readout_here, Board, Cells, Rest, Tables, Workspace, ENOUGH};
 use yestrwyn_second::board::Afresh;
 use yestrwyn_vectors::examples::deep;
 
@@ -24,6 +27,7 @@ fn the_deepest_files_on_a_small_thread() {
         let (file, mut cells, mut second) = (&example.file, Cells::new(), Cells::new());
         let expected = yestrwyn_second::check_into(0, file, &mut second.lend());
         let text = yestrwyn_second::readout(0, file);
+        let canonical = yestrwyn_second::canonical_readout(0, file);
         let covering = yestrwyn_second::covers(file, 0, 0);
         let merged = yestrwyn_second::merge(&[], file);
         let mut afresh = Afresh::open(0, file);
@@ -37,6 +41,9 @@ fn the_deepest_files_on_a_small_thread() {
             let mut output = vec![0; ENOUGH.max(text.len())];
             let piece = readout_piece(0, file, &mut cells.lend(), 0, &mut output).expect("a piece");
             assert!(piece.rest == Rest::Complete && output[..piece.written] == text);
+            assert!(canonical_readout(0, file).expect("a readout") == canonical);
+            let piece = canonical_readout_piece(0, file, &mut cells.lend(), 0, &mut output).expect("a piece");
+            assert!(piece.rest == Rest::Complete && output[..piece.written] == canonical);
             assert_eq!(merge(&[], file).expect("an answer"), merged);
             let length = merge_into(&[], file, &mut cells.lend(), &mut vec![0; FILE_BYTES])
                 .expect("an answer")
@@ -70,27 +77,41 @@ impl io::Write for Full {
     }
 }
 
-#[test]
-fn a_readout_that_cannot_be_written_is_an_error() {
-    let file = deep::derivation(100);
-    let length = readout(0, &file).expect("a readout").len();
-    assert!(write_readout(0, &file, &mut Full(length)).is_ok());
-    assert!(write_readout(0, &file, &mut Full(length - 1)).is_err());
+/// A readout is written to what has room for all of it, and is an error where a byte is missing.
+fn room_for_all(file: &[u8], length: usize, write: fn(u16, &[u8], &mut Full) -> io::Result<()>) {
+    assert!(write(0, file, &mut Full(length)).is_ok());
+    assert!(write(0, file, &mut Full(length - 1)).is_err());
 }
 
 #[test]
-fn a_readout_that_is_cut_is_an_error() {
+fn a_readout_that_cannot_be_written_is_an_error() {
     let file = deep::derivation(100);
-    let text = yestrwyn_second::readout(0, &file);
+    room_for_all(&file, readout(0, &file).expect("a readout").len(), write_readout);
+    room_for_all(&file, canonical_readout(0, &file).expect("a readout").len(), write_canonical_readout);
+}
+
+/// A readout written with an output that is lent for its pieces.
+type WrittenHere = fn(u16, &[u8], &mut Tables<'_>, &mut [u8], &mut Vec<u8>) -> io::Result<()>;
+
+/// With every room the readout of a file is written whole or is an error.
+fn whole_or_an_error(file: &[u8], text: &[u8], write: WrittenHere) {
     let longest = text.split_inclusive(|&byte| byte == b'\n').map(<[u8]>::len).max().unwrap_or(0);
     for room in [0, 1, longest - 1, longest, longest + 1, text.len()] {
         let (mut cells, mut output, mut out) = (Cells::new(), vec![0; room], Vec::new());
-        let run = || write_readout_here(0, &file, &mut cells.lend(), &mut output, &mut out);
+        let run = || write(0, file, &mut cells.lend(), &mut output, &mut out);
         let written = yestrwyn::with_stack(run).expect("a thread");
         // The first line is handed on with that of clause 0, and is shorter than the longest here.
         assert_eq!(written.is_ok(), room >= longest, "{room} bytes, {written:?}");
         assert!(text.starts_with(&out) && (written.is_err() || out == text));
     }
+}
+
+#[test]
+fn a_readout_that_is_cut_is_an_error() {
+    let file = deep::derivation(100);
+    whole_or_an_error(&file, &yestrwyn_second::readout(0, &file), write_readout_here);
+    let canonical = yestrwyn_second::canonical_readout(0, &file);
+    whole_or_an_error(&file, &canonical, write_canonical_readout_here);
 }
 
 #[test]

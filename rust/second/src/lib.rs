@@ -2,10 +2,11 @@
 //!
 //! A file holds symbols, rows (shared terms), input clauses, and resolution and factoring steps.
 //! [`check()`] answers whether every record stands and whether some clause is empty that is made of
-//! rules in force on a day, and fills four tables; [`readout()`] writes every clause in plain symbols;
-//! [`covers()`] answers whether one input clause covers another; [`merge()`] makes one file of two; [`board`] says
-//! which empty clause stands while input clauses are withdrawn and returned. Derived clauses are never written out: a
-//! clause is its parents and the bindings that its own unification added.
+//! rules in force on a day, and fills four tables; [`readout()`] writes every clause in plain symbols, and
+//! [`canonical_readout()`] does with the variables of each line numbered by first appearance; [`covers()`] answers
+//! whether one input clause covers another; [`merge()`] makes one file of two; [`board`] says which empty clause stands
+//! while input clauses are withdrawn and returned. Derived clauses are never written out: a clause is its parents and the
+//! bindings that its own unification added.
 
 #![forbid(unsafe_code)]
 
@@ -20,11 +21,14 @@ pub mod environment;
 pub mod expression;
 pub mod filling;
 pub mod merge;
+pub mod naming;
 pub mod outline;
+pub mod program;
 pub mod readout;
 pub mod unify;
 
 pub use check::{check, check_counting, check_into, StepWork};
 pub use cover::{covers, covers_into};
 pub use merge::{merge, merge_into};
+pub use readout::{canonical_readout, canonical_readout_into, write_canonical_readout};
 pub use readout::{readout, readout_into, write_readout};

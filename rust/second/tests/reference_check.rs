@@ -1,8 +1,10 @@
-//! The check and readout against the slow reference, cell for cell.
+//! The check and the readouts against the slow reference, cell for cell.
 
 mod reference;
+mod rewriting;
 
 use reference::Reference;
+use rewriting::rewritten;
 use yestrwyn_vectors::examples::{cases, days, deep, edges, published, refusals, Example};
 use yestrwyn_vectors::outcome::outcome_on;
 use yestrwyn_vectors::random::random_file_of;
@@ -12,7 +14,7 @@ use yestrwyn_vectors::{
 };
 use yestrwyn_vectors::{several_file, several_file_of};
 
-/// Answer, all table cells, works and readout agree on day 0.
+/// Answer, all table cells, works and both readouts agree on day 0.
 fn agree(name: &str, file: &[u8]) {
     agree_on(0, name, file);
 }
@@ -28,7 +30,10 @@ fn agree_on(day: u16, name: &str, file: &[u8]) {
     }
     let works: Vec<(u16, u32)> = ours.works.iter().map(|step| (step.record, step.work)).collect();
     assert_eq!(works, theirs.works, "works of {name}");
-    assert_eq!(String::from_utf8_lossy(&ours.readout), theirs.readout_on(day), "readout of {name}");
+    let readout = theirs.readout_on(day);
+    assert_eq!(String::from_utf8_lossy(&ours.readout), readout, "readout of {name}");
+    let canonical = rewritten(&readout);
+    assert_eq!(String::from_utf8_lossy(&ours.canonical), canonical, "second readout of {name}");
 }
 
 fn agree_all(examples: Vec<Example>) {

@@ -1,6 +1,6 @@
 //! Any bytes at all: an answer, no panic, and nothing written outside what the answer allows.
 
-use yestrwyn_second::{check_into, readout_into};
+use yestrwyn_second::{canonical_readout_into, check_into, readout_into};
 use yestrwyn_types::record::{input_literals, kind, part, Record};
 use yestrwyn_types::{Answer, Reason, Tables, Verdict, LENGTHS};
 use yestrwyn_vectors::examples::{cases, days, edges, published, refusals};
@@ -35,7 +35,9 @@ fn holds_on(day: u16, file: &[u8]) {
         assert!(zero.iter().all(|&cell| cell == if untouched { MARK } else { 0 }), "cells not used");
     }
     verdict_agrees(file, &answer, &tables[2]);
-    readout_agrees(day, file, &tables, untouched);
+    for readout in READOUTS {
+        readout_agrees(readout, day, file, &tables, untouched);
+    }
 }
 
 /// The verdict fits the clauses and the other counts. Windows are in no table, and without any the first empty clause is
@@ -62,12 +64,18 @@ fn verdict_agrees(file: &[u8], answer: &Answer, clauses: &[u16]) {
     }
 }
 
-/// The readout leaves the tables as the check does and has a line for each clause.
-fn readout_agrees(day: u16, file: &[u8], tables: &[Vec<u16>; 4], untouched: bool) {
+/// A readout, which leaves the tables as the check does.
+type Readout = fn(u16, &[u8], &mut Tables<'_>) -> Vec<u8>;
+
+/// Both of them.
+const READOUTS: [Readout; 2] = [readout_into, canonical_readout_into];
+
+/// A readout leaves the tables as the check does and has a line for each clause.
+fn readout_agrees(readout: Readout, day: u16, file: &[u8], tables: &[Vec<u16>; 4], untouched: bool) {
     let [mut symbols, mut rows, mut clauses, mut bindings] = marked(3);
     let mut lent =
         Tables { symbols: &mut symbols, rows: &mut rows, clauses: &mut clauses, bindings: &mut bindings };
-    let text = readout_into(day, file, &mut lent);
+    let text = readout(day, file, &mut lent);
     assert_eq!([&symbols, &rows, &clauses, &bindings], tables.each_ref());
     assert!(text.ends_with(b"\n") && text.is_ascii());
     let lines = text.iter().filter(|&&byte| byte == b'\n').count();
@@ -150,8 +158,9 @@ fn short_tables_give_2_and_stay() {
             let mut lent = Tables { symbols, rows, clauses, bindings };
             let answer = check_into(0, &file, &mut lent);
             assert_eq!(answer.numbers(), [2, 2, 0, 0, 0, 0, 0]);
-            let text = readout_into(0, &file, &mut lent);
-            assert_eq!(text, b"refused 2 at 0\n");
+            for readout in READOUTS {
+                assert_eq!(readout(0, &file, &mut lent), b"refused 2 at 0\n");
+            }
             assert!(tables.iter().flatten().all(|&cell| cell == MARK));
         }
     }

@@ -1,10 +1,12 @@
 //! Steps on several right literals: against kind 5, against the factors that they replace, and at their limits.
 
 mod reference;
+mod rewriting;
 
 use std::collections::BTreeMap;
 
 use reference::Reference;
+use rewriting::rewritten;
 use yestrwyn_types::limits::RECORD_BYTES;
 use yestrwyn_types::record::{kind, Record};
 use yestrwyn_vectors::examples::several::by_kind_7;
@@ -108,24 +110,7 @@ fn in_turn(step: &Record, next: u16) -> Vec<Record> {
 /// Literals of a line of the readout, with variables numbered from 0 as they appear; none where some are not written.
 fn renamed(line: &str) -> Option<String> {
     let literals = line.splitn(3, ' ').nth(2).unwrap_or("");
-    if literals.contains('~') {
-        return None;
-    }
-    let mut seen: Vec<&str> = Vec::new();
-    let mut written = String::new();
-    for part in literals.split_inclusive(['(', ')', ',', ' ', '+', '-']) {
-        let word = part.trim_end_matches(['(', ')', ',', ' ', '+', '-']);
-        if !word.starts_with('v') {
-            written += part;
-            continue;
-        }
-        let place = seen.iter().position(|&other| other == word).unwrap_or(seen.len());
-        if place == seen.len() {
-            seen.push(word);
-        }
-        written += &format!("x{place}{}", &part[word.len()..]);
-    }
-    Some(written)
+    (!literals.contains('~')).then(|| rewritten(literals))
 }
 
 /// Each step of a file that names two or more right literals, against the steps that it replaces; says how many were

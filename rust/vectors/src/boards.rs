@@ -1,22 +1,18 @@
 //! The stored vectors of boards: which scripts there are, and what each call gives, as text. The format is described in
 //! `README.md` beside the results.
 
-use std::fmt::Write;
-
 use yestrwyn_second::board::cells;
-use yestrwyn_types::limits::{BOARD_CELLS, RECORD_BYTES};
+use yestrwyn_types::limits::BOARD_CELLS;
 use yestrwyn_types::{BoardAnswer, Cells};
 
 use crate::boarding::board_script;
 use crate::examples::boards::{self, Call, Script};
-use crate::stored::hash;
+use crate::stored::{file_lines, hash, line};
 
 /// The name of the group, by which its results are stored.
 pub const GROUP: &str = "boards";
 /// Number of random scripts.
 const RANDOM_SCRIPTS: u64 = 50;
-/// Files of at most this many records are written in full.
-const RECORDS_IN_FULL: usize = 24;
 /// The cells of at most this many clauses are written out.
 const CLAUSES_IN_FULL: usize = 40;
 
@@ -66,19 +62,19 @@ impl Lent {
 /// One vector's part of the text.
 fn describe(text: &mut String, script: &Script) {
     let mut lent = Lent::new(script);
-    line(text, &format!("board {}", script.name));
-    line(text, &format!("day {}", script.day));
-    file(text, &script.file);
-    line(text, &format!("lent {}", script.cells));
+    line(text, "board", &script.name);
+    line(text, "day", &script.day);
+    file_lines(text, "file", &script.file);
+    line(text, "lent", &script.cells);
     let opened = lent.open(script);
-    line(text, &format!("open {}", joined(opened)));
-    line(text, &cells_line(&lent.board));
+    line(text, "open", &joined(opened));
+    line(text, "cells", &cells_of(&lent.board));
     for &call in &script.calls {
         let answer = lent.call(&script.file, call);
-        line(text, &format!("{} {} {}", call.word(), call.clause(), joined(answer)));
+        line(text, call.word(), &format!("{} {}", call.clause(), joined(answer)));
         // A refusal alters no cell.
         if answer.result().is_ok() {
-            line(text, &cells_line(&lent.board));
+            line(text, "cells", &cells_of(&lent.board));
         }
     }
 }
@@ -89,28 +85,12 @@ fn joined(answer: BoardAnswer) -> String {
 }
 
 /// The hash of a board's cells, and those that have a clause, if there are few.
-fn cells_line(board: &[u16]) -> String {
+fn cells_of(board: &[u16]) -> String {
     let named = &board[..board.len().min(BOARD_CELLS)];
     let hash = hash(named.iter().flat_map(|cell| cell.to_le_bytes()));
     let clauses: Vec<String> = named.iter().take_while(|&&cell| cell >= 4).map(u16::to_string).collect();
     match clauses.len() {
-        1..=CLAUSES_IN_FULL => format!("cells {hash:016x} {}", clauses.join(" ")),
-        _ => format!("cells {hash:016x}"),
+        1..=CLAUSES_IN_FULL => format!("{hash:016x} {}", clauses.join(" ")),
+        _ => format!("{hash:016x}"),
     }
-}
-
-/// The lines of a file: its length and hash, and its records if there are few.
-fn file(text: &mut String, bytes: &[u8]) {
-    line(text, &format!("file {} {:016x}", bytes.len(), hash(bytes.iter().copied())));
-    if bytes.len() <= RECORDS_IN_FULL * RECORD_BYTES {
-        for record in bytes.chunks(RECORD_BYTES) {
-            let digits: String = record.iter().map(|byte| format!("{byte:02x}")).collect();
-            line(text, &format!("| {digits}"));
-        }
-    }
-}
-
-fn line(text: &mut String, words: &str) {
-    // Writing to a string does not fail.
-    let _ = writeln!(text, "{words}");
 }

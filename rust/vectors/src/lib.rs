@@ -1,20 +1,23 @@
 //! Proof files for tests: the case sheet, examples from the literature, files at the edge of every
-//! limit, deep, heavy and random ones, files with days, pairs of files that are merged, calls of boards; and the vectors that
-//! are stored of them.
+//! limit, deep, heavy and random ones, files with days, pairs of files that are merged, calls of boards, files for the second
+//! readout; and the vectors that are stored of them.
 
 #![forbid(unsafe_code)]
 
 pub mod alone;
 pub mod boarding;
 pub mod boards;
+pub mod canonical;
 pub mod clashing;
 pub mod covering;
 pub mod dated;
 pub mod examples;
+pub mod hiding;
 pub mod merges;
 pub mod merging;
 pub mod outcome;
 pub mod random;
+pub mod renaming;
 pub mod repeating;
 pub mod shapes;
 pub mod sketch;
@@ -24,6 +27,7 @@ pub use boarding::board_script;
 pub use clashing::{clashing_file, clashing_several_file};
 pub use covering::covering_file;
 pub use dated::dated_file;
+pub use hiding::hiding_file;
 pub use merging::merging_files;
 pub use random::{damage, random_file, random_file_of, several_file, several_file_of};
 pub use repeating::repeating_file;

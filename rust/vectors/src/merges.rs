@@ -1,24 +1,20 @@
 //! The stored vectors of merges: which pairs of files there are, and what each gives, as text. The format is described in
 //! `README.md` beside the results.
 
-use std::fmt::Write;
-
 use yestrwyn_second::merge_into;
-use yestrwyn_types::limits::{FILE_BYTES, RECORD_BYTES};
+use yestrwyn_types::limits::FILE_BYTES;
 use yestrwyn_types::Cells;
 
 use crate::examples::merges::{self, Merge};
 use crate::merging::merging_files;
 use crate::random::damage;
-use crate::stored::hash;
+use crate::stored::{file_lines, length_and_hash, line};
 
 /// The name of the group, by which its results are stored.
 pub const GROUP: &str = "merges";
 /// Number of random pairs, and of damaged ones.
 const RANDOM_PAIRS: u64 = 60;
 const DAMAGED_PAIRS: u64 = 20;
-/// Files of at most this many records are written in full.
-const RECORDS_IN_FULL: usize = 24;
 
 /// All pairs that are stored: the named ones, random ones and damaged ones.
 pub fn pairs() -> Vec<Merge> {
@@ -58,32 +54,11 @@ pub fn expected(pairs: &[Merge]) -> String {
 fn describe(text: &mut String, pair: &Merge) {
     let mut output = vec![0; FILE_BYTES];
     let merged = merge_into(&pair.first, &pair.second, &mut Cells::new().lend(), &mut output);
-    line(text, &format!("merge {}", pair.name));
-    file(text, "first", &pair.first);
-    file(text, "second", &pair.second);
-    line(text, &format!("answer {}", merged.numbers().map(|number| number.to_string()).join(" ")));
+    line(text, "merge", &pair.name);
+    file_lines(text, "first", &pair.first);
+    file_lines(text, "second", &pair.second);
+    line(text, "answer", &merged.numbers().map(|number| number.to_string()).join(" "));
     if let Some(written) = merged.length().and_then(|length| output.get(..length)) {
-        line(text, &format!("merged {}", length_and_hash(written)));
+        line(text, "merged", &length_and_hash(written));
     }
-}
-
-/// The lines of a file: its length and hash, and its records if there are few.
-fn file(text: &mut String, name: &str, bytes: &[u8]) {
-    line(text, &format!("{name} {}", length_and_hash(bytes)));
-    if bytes.len() <= RECORDS_IN_FULL * RECORD_BYTES {
-        for record in bytes.chunks(RECORD_BYTES) {
-            let digits: String = record.iter().map(|byte| format!("{byte:02x}")).collect();
-            line(text, &format!("| {digits}"));
-        }
-    }
-}
-
-/// The length of a file in bytes, and its hash in hexadecimal digits.
-fn length_and_hash(bytes: &[u8]) -> String {
-    format!("{} {:016x}", bytes.len(), hash(bytes.iter().copied()))
-}
-
-fn line(text: &mut String, words: &str) {
-    // Writing to a string does not fail.
-    let _ = writeln!(text, "{words}");
 }

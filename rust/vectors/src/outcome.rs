@@ -1,9 +1,9 @@
-//! Everything that a check and a readout give for one file, in one value: for tests and vectors.
+//! Everything that a check and the two readouts give for one file, in one value: for tests and vectors.
 
-use yestrwyn_second::{check_counting, readout_into, StepWork};
+use yestrwyn_second::{canonical_readout_into, check_counting, readout_into, StepWork};
 use yestrwyn_types::{Answer, Cells};
 
-/// The answer, the named parts of the four tables, the work of each step and the readout.
+/// The answer, the named parts of the four tables, the work of each step and the readouts.
 #[derive(Clone, PartialEq, Eq, Debug)]
 pub struct Outcome {
     /// Verdict and counts.
@@ -14,6 +14,8 @@ pub struct Outcome {
     pub works: Vec<StepWork>,
     /// The readout.
     pub readout: Vec<u8>,
+    /// The second readout.
+    pub canonical: Vec<u8>,
 }
 
 /// Checks a file on day 0, with tables that are just long enough and zero before.
@@ -27,7 +29,8 @@ pub fn outcome_on(day: u16, file: &[u8]) -> Outcome {
     let mut works = Vec::new();
     let answer = check_counting(day, file, &mut cells.lend(), &mut works);
     let readout = readout_into(day, file, &mut cells.lend());
-    Outcome { answer, cells, works, readout }
+    let canonical = canonical_readout_into(day, file, &mut cells.lend());
+    Outcome { answer, cells, works, readout, canonical }
 }
 
 impl Outcome {

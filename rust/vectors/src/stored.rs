@@ -4,6 +4,8 @@
 use std::fmt::Write;
 use std::path::{Path, PathBuf};
 
+use yestrwyn_types::limits::RECORD_BYTES;
+
 use crate::clashing::{clashing_file, clashing_several_file};
 use crate::dated::dated_file;
 use crate::examples::{cases, days, deep, edges, published, refusals, Example};
@@ -17,6 +19,8 @@ const CELLS_IN_FULL: usize = 400;
 const READOUT_IN_FULL: usize = 4096;
 /// At most this many works are written in full.
 const WORKS_IN_FULL: usize = 400;
+/// Files that are in no pack are written in full if they have at most this many records.
+const RECORDS_IN_FULL: usize = 24;
 /// Number of random files, of those made to clash, of those with repeated rows, of those with steps on several right
 /// literals, of longer ones without and with such steps, and of those with windows.
 const RANDOM_FILES: u64 = 1000;
@@ -191,10 +195,27 @@ pub fn describe(text: &mut String, name: &str, outcome: &Outcome) {
     }
     let total: u64 = outcome.works.iter().map(|step| u64::from(step.work)).sum();
     line(text, "total", &format!("{} {total}", works.len()));
-    line(text, "readout", &readout_hash(outcome));
-    if outcome.readout.len() <= READOUT_IN_FULL {
-        for part in String::from_utf8_lossy(&outcome.readout).lines() {
+    readout_lines(text, "readout", &outcome.readout);
+    line(text, "canonical", &length_and_hash(&outcome.canonical));
+}
+
+/// The lines of a readout: its length and hash, and its own lines if it is short.
+pub fn readout_lines(text: &mut String, word: &str, readout: &[u8]) {
+    line(text, word, &length_and_hash(readout));
+    if readout.len() <= READOUT_IN_FULL {
+        for part in String::from_utf8_lossy(readout).lines() {
             line(text, "|", &part);
+        }
+    }
+}
+
+/// The lines of a file that is in no pack: its length and hash, and its records if there are few.
+pub fn file_lines(text: &mut String, word: &str, file: &[u8]) {
+    line(text, word, &length_and_hash(file));
+    if file.len() <= RECORDS_IN_FULL * RECORD_BYTES {
+        for record in file.chunks(RECORD_BYTES) {
+            let digits: String = record.iter().map(|byte| format!("{byte:02x}")).collect();
+            line(text, "|", &digits);
         }
     }
 }
@@ -207,7 +228,7 @@ pub fn listing(groups: &[Group]) -> String {
         for (place, example) in group.examples.iter().enumerate() {
             let outcome = outcome_on(example.day, &example.file);
             let answer = joined(outcome.answer.numbers());
-            let rest = format!("{answer} {} {}", hashes(&outcome), readout_hash(&outcome));
+            let rest = format!("{answer} {} {}", hashes(&outcome), length_and_hash(&outcome.readout));
             line(&mut text, &place.to_string(), &rest);
         }
     }
@@ -220,13 +241,13 @@ fn hashes(outcome: &Outcome) -> String {
     hashes.map(|hash| format!("{hash:016x}")).join(" ")
 }
 
-/// The length of the readout in bytes, and its hash in hexadecimal digits.
-fn readout_hash(outcome: &Outcome) -> String {
-    format!("{} {:016x}", outcome.readout.len(), hash(outcome.readout.iter().copied()))
+/// How many bytes there are, and their hash in hexadecimal digits.
+pub fn length_and_hash(bytes: &[u8]) -> String {
+    format!("{} {:016x}", bytes.len(), hash(bytes.iter().copied()))
 }
 
 /// A line: a word, and what follows it if anything does.
-fn line(text: &mut String, word: &str, rest: &dyn std::fmt::Display) {
+pub fn line(text: &mut String, word: &str, rest: &dyn std::fmt::Display) {
     let whole = format!("{word} {rest}");
     // Writing to a string does not fail.
     let _ = writeln!(text, "{}", whole.trim_end());

@@ -3,6 +3,8 @@
 use std::fs;
 use std::path::PathBuf;
 
+use yestrwyn_vectors::canonical;
+use yestrwyn_vectors::examples::canonical::examples;
 use yestrwyn_vectors::stored::{expected, groups, listing, listing_path, pack_path, results_path, unpack};
 
 const ADVICE: &str = "write them anew with `cargo run --release --bin vectors`";
@@ -33,6 +35,13 @@ fn stored_vectors_are_up_to_date() {
 #[test]
 fn stored_listing_is_up_to_date() {
     same_text(listing_path(), &listing(&groups()));
+}
+
+#[test]
+fn stored_second_readouts_are_up_to_date() {
+    let text = canonical::expected(&examples());
+    same_text(results_path(canonical::GROUP), &text);
+    assert!(text.len() < 50_000, "{} bytes", text.len());
 }
 
 #[test]

@@ -13,5 +13,5 @@ pub use board::{board_open_numbers, board_return_numbers, board_withdraw_numbers
 pub use check::check_numbers;
 pub use covers::covers_numbers;
 pub use merge::merge_numbers;
-pub use readout::{readout_numbers, PROGRESS_CELLS};
+pub use readout::{canonical_readout_numbers, readout_numbers, ReadoutNumbers, PROGRESS_CELLS};
 pub use services::{check_numbers_with, Arrays, Nodes, Origins, Values};

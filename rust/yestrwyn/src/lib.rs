@@ -1,4 +1,4 @@
-//! The proved check and readout of resolution proof files, which of their clauses covers which, two files merged into one, and
+//! The proved check and readouts of resolution proof files, which of their clauses covers which, two files merged into one, and
 //! boards, on which input clauses are withdrawn and returned.
 //!
 //! ```no_run
@@ -14,10 +14,13 @@
 //! package hands slices to them and turns numbers into values; it is not proved, and it is the only
 //! one of this folder that calls them.
 //!
-//! Check and readout take a day: rules that a file gives a first and a last day are in force between these, and
+//! Check and readouts take a day: rules that a file gives a first and a last day are in force between these, and
 //! only a proof from rules in force is accepted.
 //!
-//! [`check()`], [`readout()`], [`covers()`] and [`merge()`] take care of the stack themselves. Functions that end in
+//! [`canonical_readout()`] is the readout with the variables of each line numbered by first appearance, so that a clause looks
+//! the same whichever planner wrote it.
+//!
+//! [`check()`], the readouts, [`covers()`] and [`merge()`] take care of the stack themselves. Functions that end in
 //! `_here` run on the caller's, and say how much of it they need. A service that checks many files keeps a
 //! [`Workspace`]; one that follows which rules are lifted and restored keeps a [`Board`].
 
@@ -37,6 +40,10 @@ pub use board::Board;
 pub use check::{check, check_here, check_into};
 pub use cover::{covers, covers_here, covers_into};
 pub use merge::{merge, merge_here, merge_into};
+pub use readout::{
+    canonical_readout, canonical_readout_piece, canonical_readout_piece_here, write_canonical_readout,
+    write_canonical_readout_here,
+};
 pub use readout::{
     readout, readout_piece, readout_piece_here, write_readout, write_readout_here, Piece, Rest, ENOUGH,
 };

@@ -1,4 +1,4 @@
-//! Compares the proved check, plain and for services, the proved readout, which clause covers which, the proved merge and boards
+//! Compares the proved check, plain and for services, the two proved readouts, which clause covers which, the proved merge and boards
 //! with the second implementation on files from a seed on, each on a day of its own:
 //!
 //! ```text
@@ -17,7 +17,7 @@ use yestrwyn_comparison::boards::{script_of, Any, BoardLengths, Boards};
 use yestrwyn_comparison::compare::{day_and_file_of, lengths_of, Pair};
 use yestrwyn_comparison::covers::{for_covering, Clauses, Coverings};
 use yestrwyn_comparison::merges::{pair_of, MergeLengths, Merges};
-use yestrwyn_comparison::pieces::Second;
+use yestrwyn_comparison::pieces::{Second, READOUTS};
 use yestrwyn_vectors::examples::boards::Script;
 use yestrwyn_vectors::random::SplitMix64;
 
@@ -90,13 +90,15 @@ struct Both {
 }
 
 impl Both {
-    /// Counts a file's answers if neither a check, nor the readout, nor which clause covers which differs.
+    /// Counts a file's answers if neither a check, nor a readout, nor which clause covers which differs.
     fn compare(&mut self, day: u16, file: &[u8], own: u64, tally: &mut Tally) -> Result<(), String> {
         let (lengths, mark, mut random) = (lengths_of(own), own as u16, SplitMix64::new(own));
         let kind =
             self.pair.compare(day, file, lengths, mark).map_err(|difference| difference.to_string())?;
         count(kind, &mut tally.kinds, &mut tally.untouched);
-        Second::new(day, file, lengths, mark).two(&mut random)?;
+        for readout in READOUTS {
+            Second::new(readout, day, file, lengths, mark).two(&mut random)?;
+        }
         let clauses = Clauses::of(file);
         for _ in 0..PAIRS {
             let two = clauses.some_two(&mut random);

@@ -1,12 +1,13 @@
-//! The program `proofread` and the second implementation's `readout` on the same files in one run: a table in Markdown with
-//! the processor time of each, their ratio, and how fast the readout goes to /dev/null. Both programs are built before;
-//! their paths are the arguments:
+//! The programs `proofread` and `proofread_canonical` and the second implementation's `readout` and `canonical` on the same files
+//! in one run: tables in Markdown with the processor time of two programs, their ratio, and how fast the readout of the first goes
+//! to /dev/null. Each proved program is beside the second implementation's, and the second readout beside the first. All programs
+//! are built before; their paths are the arguments:
 //!
 //! ```text
-//! readouts PROOFREAD READOUT FOLDER
+//! readouts FOLDER PROOFREAD READOUT PROOFREAD_CANONICAL CANONICAL
 //! ```
 //!
-//! What both read, two bytes of day and the file, is written to the folder first.
+//! What all of them read, two bytes of day and the file, is written to the folder first.
 
 use std::fs::{self, File};
 use std::path::Path;
@@ -15,29 +16,48 @@ use std::time::Duration;
 
 use yestrwyn_comparison::clock::children_time;
 use yestrwyn_comparison::rounds::Rounds;
-use yestrwyn_vectors::examples::{deep, heavy, Example};
+use yestrwyn_vectors::examples::{canonical, deep, heavy, Example};
 use yestrwyn_vectors::stored::groups;
+
+/// A line of a table: its name, and the paths of the files that are read for it.
+struct Line {
+    name: String,
+    paths: Vec<String>,
+}
 
 fn main() {
     let arguments: Vec<String> = std::env::args().skip(1).collect();
-    let [proofread, second, folder] = arguments.as_slice() else {
-        eprintln!("usage: readouts PROOFREAD READOUT FOLDER");
+    let [folder, proofread, readout, proofread_canonical, canonical] = arguments.as_slice() else {
+        eprintln!("usage: readouts FOLDER PROOFREAD READOUT PROOFREAD_CANONICAL CANONICAL");
         std::process::exit(1);
     };
     fs::create_dir_all(folder).expect("the folder");
-    println!("| file | `proofread` | second | ratio | over ten rounds | bytes | MB/s |");
+    let lines: Vec<Line> = files()
+        .into_iter()
+        .map(|(name, examples)| Line {
+            name,
+            paths: examples.iter().map(|example| write(folder, example)).collect(),
+        })
+        .collect();
+    table(&lines, ["`proofread`", "second"], [proofread, readout]);
+    table(&lines, ["`proofread_canonical`", "second"], [proofread_canonical, canonical]);
+    table(&lines, ["`proofread_canonical`", "`proofread`"], [proofread_canonical, proofread]);
+}
+
+/// A table of two programs, with the bytes that the first one writes.
+fn table(lines: &[Line], [ours, theirs]: [&str; 2], programs: [&str; 2]) {
+    println!("| file | {ours} | {theirs} | ratio | over ten rounds | bytes | MB/s |");
     println!("|---|---|---|---|---|---|---|");
     let mut together = Vec::new();
-    for (name, examples) in files() {
-        let paths: Vec<String> = examples.iter().map(|example| write(folder, example)).collect();
-        let rounds = Rounds::take(|| run(proofread, &paths), || run(second, &paths));
-        let bytes: usize = paths.iter().map(|path| length(second, path)).sum();
+    for Line { name, paths } in lines {
+        let rounds = Rounds::take(|| run(programs[0], paths), || run(programs[1], paths));
+        let bytes: usize = paths.iter().map(|path| length(programs[0], path)).sum();
         println!("| {name} | {rounds} | {} | {} |", with_commas(bytes), speed(bytes, rounds.least()[0]));
         if paths.len() > 1 {
             together.push(rounds);
         }
     }
-    println!("| all stored vectors together | {} | | |", Rounds::sum(&together));
+    println!("| all stored vectors together | {} | | |\n", Rounds::sum(&together));
 }
 
 /// The slow files one by one, and the stored vectors by group.
@@ -46,6 +66,8 @@ fn files() -> Vec<(String, Vec<Example>)> {
     let mut files = vec![(count.name.clone(), vec![count])];
     let heavy = heavy::examples().into_iter();
     files.extend(heavy.map(|example| (format!("`{}`", example.name), vec![example])));
+    let wide = Example::new("6,678 variables in nearly every line", canonical::wide_lines(4000));
+    files.push((wide.name.clone(), vec![wide]));
     let named = |name: &str| format!("stored vectors, a process for each: `{name}`");
     files.extend(groups().into_iter().map(|group| (named(group.name), group.examples)));
     files

@@ -4,7 +4,7 @@ use std::io::Write;
 use std::{fs, io};
 
 use yestrwyn_vectors::stored::{expected, groups, listing, listing_path, pack_path, results_path};
-use yestrwyn_vectors::{boards, merges};
+use yestrwyn_vectors::{boards, canonical, examples, merges};
 
 fn main() -> io::Result<()> {
     let mut out = io::stdout().lock();
@@ -26,6 +26,7 @@ fn main() -> io::Result<()> {
     }
     total += write_merges(&mut out)?;
     total += write_boards(&mut out)?;
+    total += write_canonical(&mut out)?;
     let text = listing(&groups);
     writeln!(out, "printed by cases: {} bytes", text.len())?;
     total += text.len();
@@ -49,5 +50,14 @@ fn write_boards(out: &mut impl Write) -> io::Result<usize> {
     let text = boards::expected(&scripts);
     writeln!(out, "{}: {} boards, {} bytes", boards::GROUP, scripts.len(), text.len())?;
     fs::write(results_path(boards::GROUP), &text)?;
+    Ok(text.len())
+}
+
+/// The files for the second readout, and how many bytes they are.
+fn write_canonical(out: &mut impl Write) -> io::Result<usize> {
+    let files = examples::canonical::examples();
+    let text = canonical::expected(&files);
+    writeln!(out, "{}: {} files, {} bytes", canonical::GROUP, files.len(), text.len())?;
+    fs::write(results_path(canonical::GROUP), &text)?;
     Ok(text.len())
 }

@@ -2,6 +2,7 @@
 //! limit, and files refused for each reason. Tests say what they should give; the vectors store it.
 
 pub mod boards;
+pub mod canonical;
 pub mod cases;
 pub mod days;
 pub mod deep;
