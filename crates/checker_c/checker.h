@@ -1,4 +1,4 @@
-/* The check of a resolution-proof file, the same for services, the readout,
+/* The check of a resolution-proof file, the same for services, the two readouts,
  * which input clause covers which, two files merged into one, and the board of a
  * file, on which input clauses are withdrawn and returned.
  *
@@ -219,6 +219,24 @@ void checker_readout(uint16_t day,
                      uint16_t clause,
                      uint8_t *output, size_t output_len,
                      uint64_t *progress, size_t progress_len);
+
+/* The second readout, with the parameters, the progress and the pieces of
+ * checker_readout. It is like the first in every byte but for variables: in each
+ * line they are numbered from 0 by first printed appearance, from the first
+ * literal of the line on, and are v and that number, without index (v0, v1). A
+ * literal that is printed as ~ shows no variable and takes no number. So clauses
+ * with the same literals in the same order, up to a one-to-one renaming of
+ * variables, print the same literals, and any two that print the same without ~
+ * are so related. */
+void checker_canonical_readout(uint16_t day,
+                               const uint8_t *file, size_t file_len,
+                               uint16_t *symbols, size_t symbols_len,
+                               uint16_t *rows, size_t rows_len,
+                               uint16_t *clauses, size_t clauses_len,
+                               uint16_t *bindings, size_t bindings_len,
+                               uint16_t clause,
+                               uint8_t *output, size_t output_len,
+                               uint64_t *progress, size_t progress_len);
 
 /* Whether input clause c of a file covers input clause d: one substitution for
  * the variables of c turns every literal of c into a literal of d, signs

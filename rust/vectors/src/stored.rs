@@ -228,8 +228,8 @@ pub fn listing(groups: &[Group]) -> String {
         for (place, example) in group.examples.iter().enumerate() {
             let outcome = outcome_on(example.day, &example.file);
             let answer = joined(outcome.answer.numbers());
-            let rest = format!("{answer} {} {}", hashes(&outcome), length_and_hash(&outcome.readout));
-            line(&mut text, &place.to_string(), &rest);
+            let readouts = [&outcome.readout, &outcome.canonical].map(|text| length_and_hash(text)).join(" ");
+            line(&mut text, &place.to_string(), &format!("{answer} {} {readouts}", hashes(&outcome)));
         }
     }
     text
