@@ -54,7 +54,17 @@ fn write_numbered(
         };
     };
     write_literal(
-        nodes, values, text, at, naming, cells, order, numbered, positive, row, index,
+        nodes,
+        values,
+        text,
+        at,
+        naming,
+        cells,
+        order,
+        numbered,
+        positive,
+        row,
+        index,
     )
 }
 
@@ -81,7 +91,18 @@ fn write_found_literals(
     while n < count {
         n += 1;
         let p = write_numbered(
-            origins, clauses, nodes, values, text, end, naming, cells, order, numbered, c, n,
+            origins,
+            clauses,
+            nodes,
+            values,
+            text,
+            end,
+            naming,
+            cells,
+            order,
+            numbered,
+            c,
+            n,
         );
         end = p.end;
         numbered = p.count;
@@ -146,12 +167,21 @@ fn write_collected_literals(
     let mut list = [0u16; 33024];
     let count = collect(origins, clauses, &mut list, 0, c, 0);
     let mut end = at;
-    let mut numbered: u16 = 0;
+    let mut numbered = 0u16;
     let mut n: usize = 0;
     while n < count {
         n += 1;
         let p = write_listed(
-            nodes, values, text, end, naming, cells, order, numbered, &list, n,
+            nodes,
+            values,
+            text,
+            end,
+            naming,
+            cells,
+            order,
+            numbered,
+            &list,
+            n,
         );
         end = p.end;
         numbered = p.count;
@@ -180,11 +210,29 @@ fn write_literals(
 {
     if literals_cell(clauses, c) <= FEW {
         return write_found_literals(
-            origins, clauses, nodes, values, text, at, naming, cells, order, c,
+            origins,
+            clauses,
+            nodes,
+            values,
+            text,
+            at,
+            naming,
+            cells,
+            order,
+            c,
         );
     }
     write_collected_literals(
-        origins, clauses, nodes, values, text, at, naming, cells, order, c,
+        origins,
+        clauses,
+        nodes,
+        values,
+        text,
+        at,
+        naming,
+        cells,
+        order,
+        c,
     )
 }
 
@@ -212,7 +260,16 @@ pub fn write_line(
     let index = put_byte(text, blank, b' ');
     let first = put_decimal(text, index, top);
     let last = write_literals(
-        origins, clauses, nodes, values, text, first, naming, cells, order, c,
+        origins,
+        clauses,
+        nodes,
+        values,
+        text,
+        first,
+        naming,
+        cells,
+        order,
+        c,
     );
     put_byte(text, last.end, b'\n')
 }

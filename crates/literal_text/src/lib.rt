@@ -40,7 +40,17 @@ pub fn write_literal(
     let after = put_byte(text, at, b' ');
     let atom = put_byte(text, after, sign(positive));
     let w = write_term(
-        nodes, values, text, atom, naming, cells, order, count, row, index, 64,
+        nodes,
+        values,
+        text,
+        atom,
+        naming,
+        cells,
+        order,
+        count,
+        row,
+        index,
+        64,
     );
     match w {
         Written::Done(end, _, numbered) => Place {

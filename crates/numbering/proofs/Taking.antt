@@ -69,12 +69,14 @@ module _ {N : List ℕ} (T : NodesOk N) {x : Variable} (X : Numberable N x) wher
       → NumbersFrom N (set K (numberCell N x) (i + length seen)) (set L (i + length seen) (numberCell N x)) i (seen ++ (x ∷ []))
   numbers-more K L roomK i [] roomL E new =
       let e : i + 0 ≡ i = omega arith in
-      let l = cell-inside in
-      (record {
-        numberable = X;
-        cell = getD-set-same K (numberCell N x) (i + 0) 0 (omega arith) ∙ e;
-        listed = ap (λ (k : ℕ). getD (set L (i + 0) (numberCell N x)) k 0) (sym e) ∙ getD-set-same L (i + 0) (numberCell N x) 0 (omega arith);
-      }, tt)
+      let l = cell-inside in (
+        record {
+          numberable = X;
+          cell = getD-set-same K (numberCell N x) (i + 0) 0 (omega arith) ∙ e;
+          listed = ap (λ (k : ℕ). getD (set L (i + 0) (numberCell N x)) k 0) (sym e) ∙ getD-set-same L (i + 0) (numberCell N x) 0 (omega arith);
+        },
+        tt,
+      )
   numbers-more K L roomK i (y ∷ ys) roomL E new = try (same y x) refl new (λ r k. numbers-more K L roomK (suc i) ys r (E .1) k)
     where
       try : (b : Bool) → same y x ≡ b → suc (length ys) ≤ pick b 0 (suc (position ys x))
@@ -83,13 +85,14 @@ module _ {N : List ℕ} (T : NodesOk N) {x : Variable} (X : Numberable N x) wher
       try true p h ih = absurd (omega arith)
       try false p h ih =
           let other : numberCell N y ≡ numberCell N x → ⊥ = λ c. true-not-false (ap (λ (v : Variable). same v x) (cell-own (E .0 .numberable) c) ∙ same-refl x) p in
-          let e : suc i + length ys ≡ i + suc (length ys) = omega arith in
-          (record {
-            numberable = E .0 .numberable;
-            cell = getD-set-other K (numberCell N x) (numberCell N y) (i + suc (length ys)) 0 other ∙ E .0 .cell;
-            listed = getD-set-other L (i + suc (length ys)) i (numberCell N x) 0 (λ z. omega arith) ∙ E .0 .listed;
-          },
-          subst (λ (m : ℕ). NumbersFrom N (set K (numberCell N x) m) (set L m (numberCell N x)) (suc i) (ys ++ (x ∷ []))) e (ih (omega arith) (omega arith)))
+          let e : suc i + length ys ≡ i + suc (length ys) = omega arith in (
+            record {
+              numberable = E .0 .numberable;
+              cell = getD-set-other K (numberCell N x) (numberCell N y) (i + suc (length ys)) 0 other ∙ E .0 .cell;
+              listed = getD-set-other L (i + suc (length ys)) i (numberCell N x) 0 (λ z. omega arith) ∙ E .0 .listed;
+            },
+            subst (λ (m : ℕ). NumbersFrom N (set K (numberCell N x) m) (set L m (numberCell N x)) (suc i) (ys ++ (x ∷ []))) e (ih (omega arith) (omega arith)),
+          )
 
 -- The two ways out.
 module _ {N K L : List ℕ} {count : ℕ} {x : Variable} (R : NumberReady N K L count x) (cell n : ℕ) (c : cell ≡ numberCell N x) (held : n ≡ getD K cell 0) where
@@ -114,13 +117,14 @@ module _ {N K L : List ℕ} {count : ℕ} {x : Variable} (R : NumberReady N K L 
       let new : noted seen x ≡ seen ++ (x ∷ []) = noted-new seen x (omega (arith, none)) in
       let one-more : countAfter count count ≡ suc count = ap (λ (b : Bool). pick b (suc count) count) (eq-eqb count count refl) in
       let m : 0 + length seen ≡ count = omega (arith, G .counted) in
-      let each = numbers-more (R .table) (R .numberable) K L (G .room .0) 0 seen (omega (arith, G .room .1, R .room, m)) (G .each) (omega (arith, none)) in
-      (omega (arith, none, G .counted),
-      record {
-        room = (length-set K cell count ∙ G .room .0, length-set L count cell ∙ G .room .1);
-        counted = one-more ∙ (let z : suc count ≡ length (seen ++ (x ∷ [])) = omega (arith, length-append seen (x ∷ []), m) in z) ∙ ap length (sym new);
-        each = subst (NumbersFrom N (set K cell count) (set L count cell) 0) (sym new) (subst (λ (k : ℕ). NumbersFrom N (set K k count) (set L count k) 0 (seen ++ (x ∷ []))) (sym c) (subst (λ (k : ℕ). NumbersFrom N (set K (numberCell N x) k) (set L k (numberCell N x)) 0 (seen ++ (x ∷ []))) m each));
-      })
+      let each = numbers-more (R .table) (R .numberable) K L (G .room .0) 0 seen (omega (arith, G .room .1, R .room, m)) (G .each) (omega (arith, none)) in (
+        omega (arith, none, G .counted),
+        record {
+          room = (length-set K cell count ∙ G .room .0, length-set L count cell ∙ G .room .1);
+          counted = one-more ∙ (let z : suc count ≡ length (seen ++ (x ∷ [])) = omega (arith, length-append seen (x ∷ []), m) in z) ∙ ap length (sym new);
+          each = subst (NumbersFrom N (set K cell count) (set L count cell) 0) (sym new) (subst (λ (k : ℕ). NumbersFrom N (set K k count) (set L count k) 0 (seen ++ (x ∷ []))) (sym c) (subst (λ (k : ℕ). NumbersFrom N (set K (numberCell N x) k) (set L k (numberCell N x)) 0 (seen ++ (x ∷ []))) m each));
+        },
+      )
     where
       differs : 0 ≤ n → n < 0 + length seen → getD L n 0 ≡ numberCell N x → ⊥
       differs low high e = true-not-false (ap (λ (b : Bool). pick b (eqb (getD L n 0) cell) false) (lt-ltb n count (omega (arith, high, G .counted))) ∙ eq-eqb (getD L n 0) cell (e ∙ sym c)) q

@@ -36,7 +36,14 @@ fn has_number(order: &[u32], count: u16, n: u16, cell: u32) -> bool
 }
 
 // The number of row r, a variable, at index k: the one that it has, or else the next.
-pub fn number(nodes: &Nodes, cells: &mut [u16], order: &mut [u32], count: u16, r: u16, k: u16) -> u16
+pub fn number(
+    nodes: &Nodes,
+    cells: &mut [u16],
+    order: &mut [u32],
+    count: u16,
+    r: u16,
+    k: u16,
+) -> u16
     requires { ⌜ NumberReady (now nodes) (now cells) (now order) count (r, k) ⌝ }
     ensures { λ n. ⌜ TakesNumber (now (nodes .entry)) (now (cells .entry)) (now (cells .exit)) (now (order .entry)) (now (order .exit)) count (r, k) n ⌝ }
 {

@@ -19,13 +19,13 @@ pub outcome-given : (day : ℕ) (file : List ℕ) (before : Tables) (w : Workspa
     → OutcomeOf day file before (record { answer = a; hashes = record { symbols = s; rows = r; clauses = c; bindings = b }; readout = d; canonical = e })
 unfolding after-again
 outcome-given day file before w a S R C B N O A A₁ A₂ s r c b d e X ps pr pc pb D E =
-  let after : AfterCheck C B N O A a = record { day = day; file = file; before = before; lent = w; symbols = S; rows = R; checked = X } in
-  record {
-  answer = X .checked .answer;
-  symbols = ps ∙ ap (hashCells start) (X .checked .symbols);
-  rows = pr ∙ ap (hashCells start) (X .checked .rows);
-  clauses = pc ∙ ap (hashCells start) (X .checked .clauses);
-  bindings = pb ∙ ap (hashCells start) (X .checked .bindings);
-  readout = D .digest after;
-  canonical = E .digest (after-again after (D .values));
-}
+    let after : AfterCheck C B N O A a = record { day = day; file = file; before = before; lent = w; symbols = S; rows = R; checked = X } in
+    record {
+      answer = X .checked .answer;
+      symbols = ps ∙ ap (hashCells start) (X .checked .symbols);
+      rows = pr ∙ ap (hashCells start) (X .checked .rows);
+      clauses = pc ∙ ap (hashCells start) (X .checked .clauses);
+      bindings = pb ∙ ap (hashCells start) (X .checked .bindings);
+      readout = D .digest after;
+      canonical = E .digest (after-again after (D .values));
+    }

@@ -74,7 +74,17 @@ pub fn write_piece(
     let mut written: usize = 0;
     while n < count {
         let end = write_unit(
-            clauses, bindings, nodes, origins, values, &mut text, naming, cells, order, a, n,
+            clauses,
+            bindings,
+            nodes,
+            origins,
+            values,
+            &mut text,
+            naming,
+            cells,
+            order,
+            a,
+            n,
         );
         if output.len() - written < end {
             return Piece {

@@ -41,7 +41,17 @@ fn print_lines(
     let mut n: u16 = 0;
     while n < count {
         let end = write_unit(
-            clauses, bindings, nodes, origins, values, &mut text, naming, cells, order, a, n,
+            clauses,
+            bindings,
+            nodes,
+            origins,
+            values,
+            &mut text,
+            naming,
+            cells,
+            order,
+            a,
+            n,
         );
         if !write_all(&text[..end], naming) {
             return;
@@ -69,10 +79,26 @@ fn print_with(
     requires { ⌜ NumberRoom naming (now cells) (now order) ⌝ }
 {
     let a = check_input(
-        space, n, symbols, rows, clauses, bindings, nodes, origins, values,
+        space,
+        n,
+        symbols,
+        rows,
+        clauses,
+        bindings,
+        nodes,
+        origins,
+        values,
     );
     print_lines(
-        clauses, bindings, nodes, origins, values, naming, cells, order, a,
+        clauses,
+        bindings,
+        nodes,
+        origins,
+        values,
+        naming,
+        cells,
+        order,
+        a,
     );
 }
 

@@ -80,9 +80,12 @@ module _ (naming : Naming) (N A T K L : List ℕ) (count at r k left : ℕ) wher
         let last-seen : S′ .sofar ≡ allAppearing seen (argumentsOut N term σ r k (nodeArity N r) 1) = rw z at (S′ .onward) in
         record {
           models = S′ .models;
-          came = (omega arith, subst (Numbered naming N K₁ L₁ numbered) last-seen (S′ .numbers),
+          came = (
+            omega arith,
+            subst (Numbered naming N K₁ L₁ numbered) last-seen (S′ .numbers),
             λ all H. subst (λ (l : List ℕ). Wrote T T₂ at last l) (whole (nameOf naming row all))
-            (wrote-then T T₁ T₂ at end last (S′ .before (nameOf naming row all)) (closingText n) (S′ .wrote all (subst (λ (xs : List Variable). Longer xs all) (sym last-seen) H)) v));
+                (wrote-then T T₁ T₂ at end last (S′ .before (nameOf naming row all)) (closingText n) (S′ .wrote all (subst (λ (xs : List Variable). Longer xs all) (sym last-seen) H)) v),
+          );
         }
 
     -- The argument at hand, with its mark before it.

@@ -113,7 +113,17 @@ fn write_arguments(
         let start = put_byte(text, end, mark(n));
         let a = part_of(nodes, r, n);
         let one = write_term(
-            nodes, values, text, start, naming, cells, order, numbered, a, k, spare,
+            nodes,
+            values,
+            text,
+            start,
+            naming,
+            cells,
+            order,
+            numbered,
+            a,
+            k,
+            spare,
         );
         match one {
             Written::Done(e, l, c) => {

@@ -38,7 +38,17 @@ pub fn write_unit(
 {
     if n != 0 {
         return write_line(
-            origins, clauses, bindings, nodes, values, text, 0, naming, cells, order, n,
+            origins,
+            clauses,
+            bindings,
+            nodes,
+            values,
+            text,
+            0,
+            naming,
+            cells,
+            order,
+            n,
         );
     }
     let verdict = a.verdict;
@@ -47,6 +57,16 @@ pub fn write_unit(
         return first;
     }
     write_line(
-        origins, clauses, bindings, nodes, values, text, first, naming, cells, order, n,
+        origins,
+        clauses,
+        bindings,
+        nodes,
+        values,
+        text,
+        first,
+        naming,
+        cells,
+        order,
+        n,
     )
 }

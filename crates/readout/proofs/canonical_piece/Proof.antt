@@ -7,7 +7,7 @@ use Rattle.readout.proofs.canonical_piece.Statement.{statement}
 use Rattle.readout.proofs.canonical_piece.Tie as tie
 use Rattle.readout.proofs.canonical_piece.Reads as reads
 use Rattle.readout.proofs.canonical_piece.Lts as lts
-use Rattle.readout.proofs.piece_by.Reads as piece-by-reads
+use Rattle.readout.proofs.piece.piece_by.Reads as piece-by-reads
 
 slice-aggregate-piece-by : tie.Need-slice-aggregate-piece-by
 slice-aggregate-piece-by c = search needs

@@ -1,10 +1,10 @@
 -- What the check leaves is what a piece asks for.
 use Rattle.readout.proofs.PieceChecked.{piece-written}
 use borrow.Author.Needs.{needs}
-use Rattle.readout.proofs.piece_by.Statement.{statement}
-use Rattle.readout.proofs.piece_by.Tie as tie
-use Rattle.readout.proofs.piece_by.Reads as reads
-use Rattle.readout.proofs.piece_by.Lts as lts
+use Rattle.readout.proofs.piece.piece_by.Statement.{statement}
+use Rattle.readout.proofs.piece.piece_by.Tie as tie
+use Rattle.readout.proofs.piece.piece_by.Reads as reads
+use Rattle.readout.proofs.piece.piece_by.Lts as lts
 use Rattle.checker.proofs.check_with.Reads as check-with-reads
 use Rattle.pieces.proofs.write_piece.Reads as write-piece-reads
 
