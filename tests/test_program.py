@@ -1,6 +1,7 @@
-"""The program proofread at its edges: only a whole file gets a verdict, and what fails is said on standard error."""
+"""The programs proofread and proofread_canonical at their edges: only a whole file gets a verdict, and what fails is said on standard error."""
 
 import os
+import re
 import signal
 import subprocess
 import sys
@@ -10,7 +11,7 @@ import unittest
 from pathlib import Path
 
 ROOT = Path(__file__).resolve().parent.parent
-PROGRAM = ROOT / "target" / "bin" / "proofread"
+PROGRAMS = ROOT / "target" / "bin"
 FILE = ROOT / "examples" / "permit.proof"
 READOUT = (ROOT / "examples" / "permit.txt").read_bytes()
 
@@ -23,78 +24,102 @@ def on_day(day, file):
 INPUT = on_day(0, FILE.read_bytes())
 
 
-def proofread(*arguments, given=INPUT):
-    """Runs the program on bytes."""
-    return subprocess.run([PROGRAM, *arguments], input=given, capture_output=True)
+def by_appearance(readout):
+    """The second readout of a first one: in each line the variables numbered from 0 as they appear, without index."""
+    lines = []
+    for line in readout.splitlines(keepends=True):
+        numbers = {}
+        lines.append(re.sub(rb"v\d+\.\d+", lambda name: b"v%d" % numbers.setdefault(name[0], len(numbers)), line))
+    return b"".join(lines)
 
 
-def in_shell(redirections):
-    """Runs the program with redirections of the shell's, where $1 names a file with a day and an accepted file."""
-    command = f'exec "$0" {redirections}'
-    with tempfile.NamedTemporaryFile() as file:
-        file.write(INPUT)
-        file.flush()
-        return subprocess.run(["bash", "-c", command, PROGRAM, file.name], cwd=ROOT, capture_output=True)
+class Program(unittest.TestCase):
+    """A program, and what it prints of a file whose first readout is known."""
+
+    name = "proofread"
+
+    @staticmethod
+    def expected(readout):
+        return readout
+
+    @property
+    def program(self):
+        return PROGRAMS / self.name
+
+    def proofread(self, *arguments, given=INPUT):
+        """Runs the program on bytes."""
+        return subprocess.run([self.program, *arguments], input=given, capture_output=True)
+
+    def in_shell(self, redirections):
+        """Runs the program with redirections of the shell's, where $1 names a file with a day and an accepted file."""
+        command = f'exec "$0" {redirections}'
+        with tempfile.NamedTemporaryFile() as file:
+            file.write(INPUT)
+            file.flush()
+            return subprocess.run(["bash", "-c", command, self.program, file.name], cwd=ROOT, capture_output=True)
+
+    def into_closed_pipe(self, **options):
+        """Runs the program with an output that nobody reads."""
+        reader, writer = os.pipe()
+        os.close(reader)
+        try:
+            return subprocess.run(
+                [self.program], input=INPUT, stdout=writer, stderr=subprocess.PIPE, **options
+            )
+        finally:
+            os.close(writer)
+
+    def says(self, run, what):
+        """One line on standard error, which begins with the program's name."""
+        self.assertEqual(run.stderr, self.name.encode() + b": " + what + b"\n")
 
 
-def into_closed_pipe(**options):
-    """Runs the program with an output that nobody reads."""
-    reader, writer = os.pipe()
-    os.close(reader)
-    try:
-        return subprocess.run(
-            [PROGRAM], input=INPUT, stdout=writer, stderr=subprocess.PIPE, **options
-        )
-    finally:
-        os.close(writer)
-
-
-class Input(unittest.TestCase):
+class Input(Program):
     def is_unread(self, run, why):
         """Nothing on standard output, and the reason on standard error."""
         self.assertEqual(run.stdout, b"")
-        self.assertEqual(run.stderr, b"proofread: standard input: " + why + b"\n")
+        self.says(run, b"standard input: " + why)
 
     def test_files_have_their_readouts(self):
         for file in sorted((ROOT / "examples").glob("*.proof")):
-            run = proofread(given=on_day(0, file.read_bytes()))
-            self.assertEqual((run.stdout, run.stderr), (file.with_suffix(".txt").read_bytes(), b""), file.name)
+            run = self.proofread(given=on_day(0, file.read_bytes()))
+            self.assertEqual((run.stdout, run.stderr), (self.expected(file.with_suffix(".txt").read_bytes()), b""), file.name)
 
     def test_files_have_their_readouts_on_other_days(self):
         stored = sorted((ROOT / "examples").glob("*-*.txt"))
         self.assertTrue(stored)
         for readout in stored:
             name, day = readout.stem.rsplit("-", 1)
-            run = proofread(given=on_day(int(day), (readout.parent / f"{name}.proof").read_bytes()))
-            self.assertEqual((run.stdout, run.stderr), (readout.read_bytes(), b""), readout.name)
+            run = self.proofread(given=on_day(int(day), (readout.parent / f"{name}.proof").read_bytes()))
+            self.assertEqual((run.stdout, run.stderr), (self.expected(readout.read_bytes()), b""), readout.name)
 
     def test_both_bytes_of_the_day_count(self):
         # An empty clause that is in force from day 258 to day 513 only.
         clause, window = bytes([4]) + bytes(15), bytes([8, 0, 0, 0, 2, 1, 1, 2]) + bytes(8)
         for day, first in ((1, b"open"), (257, b"open"), (258, b"accepted 0"), (513, b"accepted 0"), (514, b"open")):
-            self.assertEqual(proofread(given=on_day(day, clause + window)).stdout, first + b"\n0 1\n", day)
+            self.assertEqual(self.proofread(given=on_day(day, clause + window)).stdout, first + b"\n0 1\n", day)
 
     def test_without_a_day_a_file_is_refused(self):
         for given in (b"", b"\0", b"\xff"):
-            run = proofread(given=given)
+            run = self.proofread(given=given)
             self.assertEqual((run.stdout, run.stderr), (b"refused 1 at 0\n", b""), given)
 
     def test_an_empty_file_is_open(self):
         for day in (0, 1, 256, 65535):
-            run = proofread(given=on_day(day, b""))
+            run = self.proofread(given=on_day(day, b""))
             self.assertEqual((run.stdout, run.stderr), (b"open\n", b""), day)
 
     def test_a_day_and_part_of_a_record(self):
         for length in (1, 14, 15, 17):
-            self.assertEqual(proofread(given=bytes(2 + length)).stdout, b"refused 1 at 0\n", length)
+            self.assertEqual(self.proofread(given=bytes(2 + length)).stdout, b"refused 1 at 0\n", length)
 
     def test_lengths_about_the_limit(self):
         # A day and 65,536 bytes are read whole; of a longer file, and of one without end, one byte more.
         for day in (0, 65535):
-            self.assertEqual(proofread(given=on_day(day, bytes(65536))).stdout, b"refused 3 at 0\n")
-            self.assertEqual(proofread(given=on_day(day, bytes(65537))).stdout, b"refused 1 at 0\n")
-            self.assertEqual(proofread(given=on_day(day, bytes(65552))).stdout, b"refused 1 at 0\n")
-        self.assertEqual(in_shell("< /dev/zero").stdout, b"refused 1 at 0\n")
+            self.assertEqual(self.proofread(given=on_day(day, bytes(65536))).stdout, b"refused 3 at 0\n")
+            self.assertEqual(self.proofread(given=on_day(day, bytes(65537))).stdout, b"refused 1 at 0\n")
+            self.assertEqual(self.proofread(given=on_day(day, bytes(65552))).stdout, b"refused 1 at 0\n")
+        self.assertEqual(self.in_shell("< /dev/zero").stdout, b"refused 1 at 0\n")
 
     def test_as_many_windows_as_there_is_room_for(self):
         # The last of 4,095 windows counts, and it is read.
@@ -102,20 +127,20 @@ class Input(unittest.TestCase):
         file = bytes([4]) + bytes(15) + windows
         self.assertEqual(len(on_day(0, file)), 65538)
         for day, first in ((4093, b"open"), (4094, b"accepted 0"), (4095, b"open")):
-            self.assertEqual(proofread(given=on_day(day, file)).stdout, first + b"\n0 1\n", day)
+            self.assertEqual(self.proofread(given=on_day(day, file)).stdout, first + b"\n0 1\n", day)
 
     def test_a_file_in_small_parts(self):
-        with subprocess.Popen([PROGRAM], stdin=subprocess.PIPE, stdout=subprocess.PIPE, bufsize=0) as run:
+        with subprocess.Popen([self.program], stdin=subprocess.PIPE, stdout=subprocess.PIPE, bufsize=0) as run:
             for byte in INPUT:
                 run.stdin.write(bytes([byte]))
             run.stdin.close()
-            self.assertEqual(run.stdout.read(), READOUT)
+            self.assertEqual(run.stdout.read(), self.expected(READOUT))
 
     def test_a_directory(self):
-        self.is_unread(in_shell("< examples"), b"Is a directory")
+        self.is_unread(self.in_shell("< examples"), b"Is a directory")
 
     def test_a_closed_input(self):
-        self.is_unread(in_shell("<&-"), b"Bad file descriptor")
+        self.is_unread(self.in_shell("<&-"), b"Bad file descriptor")
 
     def test_a_read_that_fails_midway(self):
         # The bytes of an accepted file come from a terminal, which then hangs up.
@@ -126,33 +151,33 @@ class Input(unittest.TestCase):
         tty.setraw(theirs)
         os.write(theirs, INPUT)
         os.close(theirs)
-        run = subprocess.run([PROGRAM], stdin=ours, capture_output=True)
+        run = subprocess.run([self.program], stdin=ours, capture_output=True)
         os.close(ours)
         self.is_unread(run, b"Input/output error")
 
 
-class Output(unittest.TestCase):
+class Output(Program):
     def test_a_full_device(self):
-        run = in_shell('< "$1" > /dev/full')
-        self.assertEqual(run.stderr, b"proofread: standard output: No space left on device\n")
+        run = self.in_shell('< "$1" > /dev/full')
+        self.says(run, b"standard output: No space left on device")
 
     def test_a_closed_output(self):
-        run = in_shell('< "$1" >&-')
-        self.assertEqual(run.stderr, b"proofread: standard output: Bad file descriptor\n")
+        run = self.in_shell('< "$1" >&-')
+        self.says(run, b"standard output: Bad file descriptor")
 
     def test_a_closed_pipe_ends_it_quietly(self):
-        run = into_closed_pipe()
+        run = self.into_closed_pipe()
         self.assertEqual((run.returncode, run.stderr), (-signal.SIGPIPE, b""))
 
     def test_a_closed_pipe_is_quiet_where_the_signal_is_ignored(self):
-        run = into_closed_pipe(restore_signals=False)
+        run = self.into_closed_pipe(restore_signals=False)
         self.assertEqual((run.returncode, run.stderr), (0, b""))
 
 
 class Script(unittest.TestCase):
     """The script examples/verdict."""
 
-    def run_script(self, file, day="0", readout=None, program=PROGRAM):
+    def run_script(self, file, day="0", readout=None, program=PROGRAMS / "proofread"):
         """What the script says, with its exit status, and what it leaves as the readout where an earlier run has left an accepted one."""
         with tempfile.TemporaryDirectory() as folder:
             left = Path(folder, "READOUT")
@@ -244,7 +269,7 @@ class Script(unittest.TestCase):
             self.assertRegex(errors, rb"\Averdict: the readout would overwrite .*\n\Z")
 
 
-class Guide(unittest.TestCase):
+class Guide(Program):
     def test_the_file_that_the_guide_writes(self):
         guide = (ROOT / "docs" / "FORMAT.md").read_text()
         program = guide.split("```python\n")[1].split("```")[0]
@@ -252,15 +277,37 @@ class Guide(unittest.TestCase):
             subprocess.run([sys.executable, "-c", program], cwd=folder, check=True)
             file = Path(folder, "closed.proof").read_bytes()
         for day, first in ((0, b"open"), (20938, b"open"), (20939, b"accepted 2"), (21122, b"accepted 2"), (21123, b"open")):
-            self.assertEqual(proofread(given=on_day(day, file)).stdout.splitlines()[0], first, day)
+            self.assertEqual(self.proofread(given=on_day(day, file)).stdout.splitlines()[0], first, day)
 
 
-class Arguments(unittest.TestCase):
+class Arguments(Program):
     def test_an_argument_gets_the_usage(self):
         for arguments in (["examples/permit.proof"], ["--help"], [""], ["a", "b"]):
-            run = proofread(*arguments)
+            run = self.proofread(*arguments)
             self.assertEqual(run.stdout, b"")
-            self.assertRegex(run.stderr, rb"\Aproofread takes no arguments.*: proofread < .*\n\Z")
+            self.assertRegex(run.stderr.decode(), rf"\A{self.name} takes no arguments.*: {self.name} < .*\n\Z")
+
+
+class Canonical(Program):
+    """The same of the second readout."""
+
+    name = "proofread_canonical"
+
+    @staticmethod
+    def expected(readout):
+        return by_appearance(readout)
+
+
+class CanonicalInput(Canonical, Input):
+    pass
+
+
+class CanonicalOutput(Canonical, Output):
+    pass
+
+
+class CanonicalArguments(Canonical, Arguments):
+    pass
 
 
 if __name__ == "__main__":
