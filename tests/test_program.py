@@ -280,6 +280,15 @@ class Guide(Program):
             self.assertEqual(self.proofread(given=on_day(day, file)).stdout.splitlines()[0], first, day)
 
 
+class Examples(unittest.TestCase):
+    def test_the_rules_that_the_page_compares(self):
+        page = (ROOT / "examples" / "README.md").read_text()
+        script, after = page.split("```bash\n")[1].split("```\n", 1)
+        lines = [line.strip() for line in after.splitlines() if line.startswith("    ")]
+        run = subprocess.run(["bash", "-c", script], cwd=ROOT, capture_output=True, text=True)
+        self.assertEqual((run.stdout.splitlines(), run.stderr), (lines[:3], ""))
+
+
 class Arguments(Program):
     def test_an_argument_gets_the_usage(self):
         for arguments in (["examples/permit.proof"], ["--help"], [""], ["a", "b"]):
