@@ -7,11 +7,10 @@ use lib.ListN.{length}
 use Rattle.record.specs.Record.{pick}
 use Rattle.unification.specs.Row.{Variable, same}
 use Rattle.unification.specs.Term.{Term, Terms, var, app, nil, cons, occurrences}
-use Rattle.derivation.specs.Derivation.{Derivation}
 use Rattle.derivation.specs.Written.{Clause, written}
-use Rattle.verdict.specs.State.{State, termOf}
+use Rattle.verdict.specs.State.{termOf}
 use Rattle.verdict.specs.Text.{decimal, literalsText}
-use Rattle.verdict.specs.Readout.{lineWith}
+use Rattle.verdict.specs.Readout.{LineWriter, lineWith}
 
 -- How many variables of a list stand before a variable: all of them before one that is not in it.
 abbrev pub position : List Variable → Variable → ℕ
@@ -49,5 +48,5 @@ numberIn seen x = decimal (position seen x)
 abbrev pub canonicalText : Clause → List ℕ
 canonicalText ls = literalsText (numberIn (allShown [] ls)) ls
 
-abbrev pub canonicalLine : State → ℕ → Derivation → List ℕ
-canonicalLine S n c = lineWith (numberIn (allShown [] (written (termOf S) c))) S n c
+abbrev pub canonicalLine : LineWriter
+canonicalLine S n c = lineWith (canonicalText (written (termOf S) c)) n c

@@ -16,6 +16,7 @@ use Rattle.demands.specs.Conditions.{OneOf}
 use Rattle.appearance.specs.Appearance.{position, appearing, allAppearing, shown, allShown}
 use Rattle.appearance.proofs.Positions.{Among, notedAll, noted-all-append, noted-all-among, noted-all-each, position-once, position-below}
 use Rattle.canonical.specs.SameClause.{printedOf, allPrintedOf, printedVariables, NumberedByAppearance}
+use Rattle.canonical.proofs.Related.{numbered-text}
 
 -- ── The numbered variables are the printed ones, as they appear ──
 
@@ -79,7 +80,7 @@ number-below ls front back x n e p =
 pub numbered-by-appearance : (ls : Clause) → NumberedByAppearance ls
 numbered-by-appearance ls = record {
   number = position (allShown [] ls);
-  printed = λ x h. refl;
+  text = sym (numbered-text ls);
   different = λ x y h k. position-once (allShown [] ls) x y (printed-among ls x h) (printed-among ls y k);
   inOrder = number-below ls;
 }

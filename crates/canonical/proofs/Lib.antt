@@ -1,4 +1,6 @@
+pub mod CasesProved
 pub mod Digits
+pub mod Tildes
 pub mod Reading
 pub mod Relabelling
 pub mod Renaming

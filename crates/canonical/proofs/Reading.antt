@@ -4,14 +4,13 @@ use mathlib.Core.Bool.{Bool, true, false}
 use mathlib.Core.List.{List, [], _∷_, _++_, append-assoc, append-nil}
 use Prim.Native.Nat.{ℕ}
 use native.Mathlib.Omega.{arith}
-use lib.Dec.{eqb, leb}
 use Rattle.record.specs.Record.{pick}
-use Rattle.unification.specs.Term.{Term, Terms, var, app, nil, cons, occurrences}
+use Rattle.unification.specs.Term.{Term, Terms, var, app, nil, cons}
 use Rattle.unification.proofs.Lists.{Each}
-use Rattle.unification.proofs.Tests.{true-not-false}
 use Rattle.verdict.specs.Text.{decimal, signText, termText, argumentsText, furtherText, literalText, literalsText}
-use Rattle.canonical.specs.SameClause.{contains, FiveDigits, AllFiveDigits, FiveDigitLiterals, ReadInOneWay}
+use Rattle.canonical.specs.SameClause.{hasTilde, FiveDigits, AllFiveDigits, FiveDigitLiterals, ReadInOneWay}
 use Rattle.canonical.proofs.Digits.{NoDigit, decimal-once}
+use Rattle.canonical.proofs.Tildes.{Printed, all-printed}
 
 -- ── Terms ──
 
@@ -81,35 +80,6 @@ mutual
 
 -- ── Clauses ──
 
--- Each literal is printed, and none as `~`.
-abbrev pub Printed : {X : Type 0} → Bool × Term X → Type 0
-Printed l = leb (occurrences (l .1)) 64 ≡ true
-
-literal-printed : {X : Type 0} (name : X → List ℕ) (l : Bool × Term X) → contains 126 (literalText name l) ≡ false → Printed l
-literal-printed name l h = sign (l .0) h
-  where
-    atom : (t : Bool) → contains 126 (pick t (termText name (l .1)) (126 ∷ [])) ≡ false → t ≡ true
-    atom true k = refl
-    atom false k = absurd (true-not-false refl k)
-
-    sign : (s : Bool) → contains 126 (signText s ∷ pick (leb (occurrences (l .1)) 64) (termText name (l .1)) (126 ∷ [])) ≡ false → Printed l
-    sign true k = atom (leb (occurrences (l .1)) 64) k
-    sign false k = atom (leb (occurrences (l .1)) 64) k
-
-contains-parts : (b : ℕ) (x y : List ℕ) → contains b (x ++ y) ≡ false → (contains b x ≡ false) × (contains b y ≡ false)
-contains-parts b [] y h = (refl, h)
-contains-parts b (c ∷ x) y h = try (eqb c b) h (λ k. contains-parts b x y k)
-  where
-    try : (t : Bool) → pick t true (contains b (x ++ y)) ≡ false → (contains b (x ++ y) ≡ false → (contains b x ≡ false) × (contains b y ≡ false)) → (pick t true (contains b x) ≡ false) × (contains b y ≡ false)
-    try true k ih = absurd (true-not-false refl k)
-    try false k ih = ih k
-
-pub all-printed : {X : Type 0} (name : X → List ℕ) (ls : List (Bool × Term X)) → contains 126 (literalsText name ls) ≡ false → Each Printed ls
-all-printed name [] h = tt
-all-printed name (l ∷ ls) h =
-    let p = contains-parts 126 (literalText name l) (literalsText name ls) h in
-    (literal-printed name l (p .0), all-printed name ls (p .1))
-
 printed-text : {X : Type 0} (name : X → List ℕ) (l : Bool × Term X) → Printed l → literalText name l ≡ signText (l .0) ∷ termText name (l .1)
 printed-text name l h = ap (λ (b : Bool). signText (l .0) ∷ pick b (termText name (l .1)) (126 ∷ [])) h
 
@@ -143,5 +113,5 @@ clause-once (l ∷ ls) (m ∷ ms) h k p q e =
 pub read-in-one-way : ReadInOneWay
 read-in-one-way = record {
   term = λ t u h k e. term-once t u [] [] h k tt tt (append-nil (termText decimal t) ∙ e ∙ sym (append-nil (termText decimal u))) .0;
-  clause = λ ls ms h k e n. clause-once ls ms h k (all-printed decimal ls n) (all-printed decimal ms (ap (contains 126) (sym e) ∙ n)) e;
+  clause = λ ls ms h k e n. clause-once ls ms h k (all-printed decimal ls n) (all-printed decimal ms (ap hasTilde (sym e) ∙ n)) e;
 }

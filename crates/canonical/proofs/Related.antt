@@ -12,14 +12,15 @@ use Rattle.unification.proofs.Terms.{variables-more}
 use Rattle.derivation.specs.Written.{Clause}
 use Rattle.verdict.specs.Text.{decimal, literalsText}
 use Rattle.appearance.specs.Appearance.{position, allShown, numberIn, canonicalText}
-use Rattle.canonical.specs.SameClause.{OccursInClause, SameUpToRenaming, contains, FiveDigitLiterals}
+use Rattle.canonical.specs.SameClause.{OccursInClause, numberedLiteral, SameUpToRenaming, hasTilde, FiveDigitLiterals}
 use Rattle.appearance.proofs.Positions.{Among, position-found, all-shown-among}
-use Rattle.canonical.proofs.Reading.{Printed, all-printed, read-in-one-way}
+use Rattle.canonical.proofs.Reading.{read-in-one-way}
 use Rattle.canonical.proofs.Relabelling.{relabelled, AllOf, all-of-more, relabelled-text, relabelled-twice, relabelled-alike, clause-occurring, unchanged}
+use Rattle.canonical.proofs.Tildes.{Printed, all-printed}
 
 -- A clause with the number of each variable in place of it.
 abbrev pub numberedClause : Clause → List (Bool × Term ℕ)
-numberedClause ls = map (relabelled (position (allShown [] ls))) ls
+numberedClause ls = map (numberedLiteral (position (allShown [] ls))) ls
 
 -- The variable that has a number in a clause.
 abbrev variableNumbered : Clause → ℕ → Variable
@@ -69,10 +70,10 @@ module _ (ls ms : Clause) (p : Each Printed ls) (q : Each Printed ms) (e : numbe
   }
 
 -- A clause's text is that of its numbers.
-numbered-text : (ls : Clause) → literalsText decimal (numberedClause ls) ≡ canonicalText ls
+pub numbered-text : (ls : Clause) → literalsText decimal (numberedClause ls) ≡ canonicalText ls
 numbered-text ls = relabelled-text (position (allShown [] ls)) decimal ls
 
-pub related-by-text : (ls ms : Clause) → FiveDigitLiterals (numberedClause ls) → FiveDigitLiterals (numberedClause ms) → canonicalText ls ≡ canonicalText ms → contains 126 (canonicalText ls) ≡ false → SameUpToRenaming ls ms
+pub related-by-text : (ls ms : Clause) → FiveDigitLiterals (numberedClause ls) → FiveDigitLiterals (numberedClause ms) → canonicalText ls ≡ canonicalText ms → hasTilde (canonicalText ls) ≡ false → SameUpToRenaming ls ms
 related-by-text ls ms h k e n =
-    numbers-related ls ms (all-printed (numberIn (allShown [] ls)) ls n) (all-printed (numberIn (allShown [] ms)) ms (ap (contains 126) (sym e) ∙ n))
-    (read-in-one-way .clause (numberedClause ls) (numberedClause ms) h k (numbered-text ls ∙ e ∙ sym (numbered-text ms)) (ap (contains 126) (numbered-text ls) ∙ n))
+    numbers-related ls ms (all-printed (numberIn (allShown [] ls)) ls n) (all-printed (numberIn (allShown [] ms)) ms (ap hasTilde (sym e) ∙ n))
+    (read-in-one-way .clause (numberedClause ls) (numberedClause ms) h k (numbered-text ls ∙ e ∙ sym (numbered-text ms)) (ap hasTilde (numbered-text ls) ∙ n))

@@ -1,1 +1,2 @@
 pub mod SameClause
+pub mod Cases

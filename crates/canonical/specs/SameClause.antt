@@ -5,7 +5,7 @@ use mathlib.Core.Bool.{Bool, true, false}
 use mathlib.Core.Option.{some}
 use mathlib.Core.Logic.{_⊎_}
 use mathlib.Core.List.{List, [], _∷_, _++_, map}
-use Prim.Native.Nat.{ℕ, suc, _<_}
+use Prim.Native.Nat.{ℕ, suc, _≤_, _<_}
 use lib.Dec.{eqb, leb}
 use Rattle.record.specs.Record.{pick}
 use Rattle.unification.specs.Row.{Variable}
@@ -15,7 +15,7 @@ use Rattle.derivation.specs.Written.{Clause, written}
 use Rattle.verdict.specs.State.{clauseOf, rowOf, termOf}
 use Rattle.verdict.specs.Text.{decimal, numberAndIndex, termText, literalsText}
 use Rattle.verdict.specs.Verdict.{Lengths, reading, stateGiven}
-use Rattle.appearance.specs.Appearance.{allShown, numberIn, canonicalText}
+use Rattle.appearance.specs.Appearance.{canonicalText}
 use Rattle.demands.specs.Conditions.{OneOf}
 
 -- ── Renaming, on terms written out ──
@@ -34,11 +34,14 @@ abbrev pub OccursInClause : Variable → Clause → Type 0
 OccursInClause x [] = ⊥
 OccursInClause x (l ∷ ls) = OccursIn x (l .1) ⊎ OccursInClause x ls
 
--- A literal with its variables renamed.
+-- A literal with its variables renamed, and one with a number for each variable.
 abbrev pub renamedLiteral : (Variable → Variable) → Bool × Term Variable → Bool × Term Variable
 renamedLiteral f l = (l .0, apply (λ x. var (f x)) (l .1))
 
--- The same literals in the same order up to a renaming that is one-to-one on the clause's variables.
+abbrev pub numberedLiteral : (Variable → ℕ) → Bool × Term Variable → Bool × Term ℕ
+numberedLiteral number l = (l .0, apply (λ x. var (number x)) (l .1))
+
+-- The same literals in the same order up to a renaming that is one-to-one on the clause's variables. Textbooks call such clauses variants.
 pub record SameUpToRenaming (ls ms : Clause) : Type 0 where
   pub renaming : Variable → Variable
   pub oneToOne : (x y : Variable) → OccursInClause x ls → OccursInClause y ls → renaming x ≡ renaming y → x ≡ y
@@ -46,10 +49,15 @@ pub record SameUpToRenaming (ls ms : Clause) : Type 0 where
 
 -- ── Texts ──
 
--- The byte is in a text: 126 is `~`.
-abbrev pub contains : ℕ → List ℕ → Bool
-contains b [] = false
-contains b (c ∷ cs) = pick (eqb c b) true (contains b cs)
+-- A `~`, byte 126, is in a text.
+abbrev pub hasTilde : List ℕ → Bool
+hasTilde [] = false
+hasTilde (b ∷ bs) = pick (eqb b 126) true (hasTilde bs)
+
+-- Every literal of a clause has at most 64 occurrences, so that it is printed in full.
+abbrev pub AllPrinted : Clause → Type 0
+AllPrinted [] = Unit {0}
+AllPrinted (l ∷ ls) = (occurrences (l .1) ≤ 64) × AllPrinted ls
 
 -- Every number in a term, of a symbol or a variable, has at most five digits.
 abbrev mutual
@@ -69,7 +77,7 @@ FiveDigitLiterals (l ∷ ls) = FiveDigits (l .1) × FiveDigitLiterals ls
 pub record ReadInOneWay : Type 0 where
   pub term : (t u : Term ℕ) → FiveDigits t → FiveDigits u → termText decimal t ≡ termText decimal u → t ≡ u
   pub clause : (ls ms : List (Bool × Term ℕ)) → FiveDigitLiterals ls → FiveDigitLiterals ms → literalsText decimal ls ≡ literalsText decimal ms
-      → contains 126 (literalsText decimal ls) ≡ false → ls ≡ ms
+      → hasTilde (literalsText decimal ls) ≡ false → ls ≡ ms
 
 -- ── Numbers by first printed appearance ──
 
@@ -87,17 +95,17 @@ abbrev pub printedVariables : Clause → List Variable
 printedVariables [] = []
 printedVariables (l ∷ ls) = pick (leb (occurrences (l .1)) 64) (printedOf (l .1)) [] ++ printedVariables ls
 
--- Every variable that is printed is printed by a number. Different variables have different numbers, and before a number's first appearance stands the number below it:
--- so they are numbered from 0 on, as they appear, and no number is taken by what is not printed.
+-- What is printed is the clause with a number for each variable. Different variables that are printed have different numbers, and before a number's first appearance stands the
+-- number below it: so they are numbered from 0 on, as they appear, and no number is taken by what is not printed.
 pub record NumberedByAppearance (ls : Clause) : Type 0 where
   pub number : Variable → ℕ
-  pub printed : (x : Variable) → OneOf x (printedVariables ls) → numberIn (allShown [] ls) x ≡ decimal (number x)
+  pub text : canonicalText ls ≡ literalsText decimal (map (numberedLiteral number) ls)
   pub different : (x y : Variable) → OneOf x (printedVariables ls) → OneOf y (printedVariables ls) → number x ≡ number y → x ≡ y
   pub inOrder : (front back : List Variable) (x : Variable) (n : ℕ) → printedVariables ls ≡ front ++ (x ∷ back) → number x ≡ suc n → (y : Variable) × OneOf y front × (number y ≡ n)
 
 -- ── What is shown ──
 
--- Clause c is one that a readout of the file lists, and ls are its literals.
+-- ls are the literals of a clause that a readout of the file lists.
 pub record Listed (file : List ℕ) (lengths : Lengths) (ls : Clause) : Type 0 where
   pub number : ℕ
   pub clause : Derivation
@@ -108,7 +116,9 @@ pub record Listed (file : List ℕ) (lengths : Lengths) (ls : Clause) : Type 0 w
 pub record SameClauseSameLine : Type 0 where
   pub sameText : (ls ms : Clause) → SameUpToRenaming ls ms → canonicalText ls ≡ canonicalText ms
   pub related : (file other : List ℕ) (lengths otherLengths : Lengths) (ls ms : Clause) → Listed file lengths ls → Listed other otherLengths ms
-      → canonicalText ls ≡ canonicalText ms → contains 126 (canonicalText ls) ≡ false → SameUpToRenaming ls ms
+      → canonicalText ls ≡ canonicalText ms → hasTilde (canonicalText ls) ≡ false → SameUpToRenaming ls ms
+  -- There is no `~` where, and only where, every literal has at most 64 occurrences.
+  pub tilde : (ls : Clause) → (hasTilde (canonicalText ls) ≡ false → AllPrinted ls) × (AllPrinted ls → hasTilde (canonicalText ls) ≡ false)
   pub readInOneWay : ReadInOneWay
   pub numbered : (ls : Clause) → NumberedByAppearance ls
   -- Variables of a clause are told apart as the first readout tells them apart, by number and index: no variable of a clause gets two numbers because two rows declare it.

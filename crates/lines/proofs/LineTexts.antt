@@ -42,7 +42,7 @@ use Rattle.appearance.proofs.Positions.{longer-same, longer-then, shown-longer}
 use Rattle.text.specs.Buffer.{Wrote}
 use Rattle.numbering.specs.Numbering.{nameOf, lineOf, NumberRoom, Numbered}
 use Rattle.numbering.specs.declared.Naming.{Naming}
-use Rattle.numbering.proofs.Taking.{numbered-none, numbered-room}
+use Rattle.numbering.proofs.Taking.{numbered-none, line-named}
 use Rattle.names.specs.declared.Place.{Place}
 use Rattle.terms.specs.Writing.{Sized, WritingReady}
 use Rattle.literal_text.specs.Literals.{PartWritten, WritesLiteral}
@@ -310,7 +310,7 @@ module _ (naming : Naming) (C B N O A T K L : List ℕ) (at c top : ℕ) (p : to
       let m : top ≡ maximumIndex d = p ∙ line-index {t = t} {symbols = symbols} {rows = rows} R c d q in
       G B d (kept.stored-of (R .kept) (R .few) c d q) top (lookup d) (rowOf S) (termOf S) (substitution (termOf S) d) (line-writable R c d q top m A₁ A₂ X Y) room
 
-  pub line-written : LineReady naming C B N O A T K L c → LineWritten naming C B N O A A₃ T T₅ K′ L′ at c end
+  pub line-written : LineReady naming C B N O A T K L c → LineWritten naming C B N O A A₃ T T₅ at c end
   line-written ready = record {
     wrote = λ F t S symbols rows R d q.
         let m : top ≡ maximumIndex d = p ∙ line-index {t = t} {symbols = symbols} {rows = rows} R c d q in
@@ -319,16 +319,13 @@ module _ (naming : Naming) (C B N O A T K L : List ℕ) (at c top : ℕ) (p : to
         let x = literalsText (nameOf naming (rowOf S) all) (written (termOf S) d) in
         let y = decimal c ++ (32 ∷ decimal (maximumIndex d)) in
         let index-text : Wrote T₂ T₃ index first (decimal (maximumIndex d)) = subst (λ (i : ℕ). Wrote T₂ T₃ index first (decimal i)) m v₃ in
-        wrote-then T T₄ T₅ at (last .end) end (y ++ x) (10 ∷ [])
+        subst (Wrote T T₅ at end) (sym (line-named naming S c d))
+        (wrote-then T T₄ T₅ at (last .end) end (y ++ x) (10 ∷ [])
         (wrote-then T T₃ T₄ at first (last .end) y x
         (wrote-then T T₁ T₃ at blank first (decimal c) (32 ∷ decimal (maximumIndex d)) v₁ (wrote-then T₁ T₂ T₃ blank index first (32 ∷ []) (decimal (maximumIndex d)) v₂ index-text))
         (w .wrote all (longer-same all)))
-        v₄;
+        v₄);
     sized = record { nodes = Z .nodes; values = Z .values; text = v₄ .kept .room ∙ Z .text };
-    numbers =
-        let R = ready .read in
-        let w = parts (ready .file) (ready .tablesBefore) (ready .state) (ready .symbols) (ready .rows) R (here ready .clause) (here ready .isClause) (ready .numbers) in
-        numbered-room naming N K′ L′ (last .count) (allShown [] (written (termOf (ready .state)) (here ready .clause))) (w .numbered);
   }
 
 -- A line fits into the buffer: at most 128 literals of 834 bytes each, two numbers of five digits, a blank and a line feed.
@@ -340,4 +337,4 @@ line-short naming S H c d q =
     let index : List ℕ = 32 ∷ decimal (maximumIndex d) in
     let name = nameOf naming (rowOf S) (allShown [] (written (termOf S) d)) in
     let text = literalsText name (written (termOf S) d) in
-    omega (arith, length-append (number ++ index ++ text) (10 ∷ []), length-append (number ++ index) text, length-append number index, decimal-length c, decimal-length (maximumIndex d), literals-text-short name (name-short naming (rowOf S) (allShown [] (written (termOf S) d))) (written (termOf S) d), length-map (literals d) (writtenLiteral (termOf S) (substitution (termOf S) d)), few)
+    omega (arith, ap length (line-named naming S c d), length-append (number ++ index ++ text) (10 ∷ []), length-append (number ++ index) text, length-append number index, decimal-length c, decimal-length (maximumIndex d), literals-text-short name (name-short naming (rowOf S) (allShown [] (written (termOf S) d))) (written (termOf S) d), length-map (literals d) (writtenLiteral (termOf S) (substitution (termOf S) d)), few)

@@ -1,4 +1,4 @@
--- The contracts of the functions that write the lines of the readout. What the lines are stands in `Readout` of the crate verdict; this
+-- The contracts of the functions that write the lines of a readout. What the lines are stands in `Readout` of the crate verdict and `Appearance` of the crate appearance; this
 -- file only says how the parts of the program fit together.
 use mathlib.Core.Path.{_≡_}
 use mathlib.Core.Option.{some}
@@ -82,8 +82,7 @@ pub record LineReady (naming : Naming) (C B N O A T K L : List ℕ) (c : ℕ) : 
   pub numbers : NumberRoom naming K L
 
 -- What it says: the clause's line, whichever state the check left; and the lengths, which is all that the next line needs besides.
-pub record LineWritten (naming : Naming) (C B N O A A′ T T′ K′ L′ : List ℕ) (at c end : ℕ) : Type 0 where
+pub record LineWritten (naming : Naming) (C B N O A A′ T T′ : List ℕ) (at c end : ℕ) : Type 0 where
   pub wrote : (F : List ℕ) (t : Tables) (S : State) (symbols rows : List ℕ) → ReadTo F t S (tablesWith symbols rows C B) N O A
       → (d : Derivation) → clauseOf S c ≡ some d → Wrote T T′ at end (lineOf naming S c d)
   pub sized : Sized N A′ T′
-  pub numbers : NumberRoom naming K′ L′

@@ -1,4 +1,4 @@
-// A line of the readout: a clause written out, with its number, its maximum index and its literals.
+// A line of a readout: a clause written out, with its number, its maximum index and its literals.
 use clauses::index_cell;
 use clauses::literals_cell;
 use collecting::literals::LiteralList;
@@ -251,7 +251,7 @@ pub fn write_line(
     c: u16,
 ) -> usize
     requires { ⌜ LineReady naming (now clauses) (now bindings) (now nodes) (now origins) (now values) (now text) (now cells) (now order) c ⌝ }
-    ensures { λ end. ⌜ LineWritten naming (now (clauses .entry)) (now (bindings .entry)) (now (nodes .entry)) (now (origins .entry)) (now (values .entry)) (now (values .exit)) (now (text .entry)) (now (text .exit)) (now (cells .exit)) (now (order .exit)) at c end ⌝ }
+    ensures { λ end. ⌜ LineWritten naming (now (clauses .entry)) (now (bindings .entry)) (now (nodes .entry)) (now (origins .entry)) (now (values .entry)) (now (values .exit)) (now (text .entry)) (now (text .exit)) at c end ⌝ }
 {
     let top = index_cell(clauses, c);
     clear(values, top);

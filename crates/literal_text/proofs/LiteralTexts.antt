@@ -17,7 +17,7 @@ use Rattle.text.specs.Buffer.{Wrote}
 use Rattle.numbering.specs.Numbering.{nameOf, Numbered}
 use Rattle.appearance.specs.Growing.{Longer}
 use Rattle.numbering.specs.declared.Naming.{Naming}
-use Rattle.numbering.specs.declared.Naming.the-variants.{AsWritten, ByAppearance}
+use Rattle.numbering.specs.declared.Naming.the-variants.{ByIndex, ByAppearance}
 use Rattle.names.specs.declared.Place.{Place}
 use Rattle.terms.specs.Writing.{Writing, WritesTerm, FewerOccurrencesLeft}
 use Rattle.literal_text.specs.Literals.{WritesLiteral}
@@ -67,7 +67,7 @@ numbered-few count z h = let k = subst (FewerOccurrencesLeft 64 count) z h in om
 
 -- Names are short, in either readout.
 pub name-short : (naming : Naming) (row : ℕ → Row) (all : List Variable) (x : Variable) → length (nameOf naming row all x) ≤ 11
-name-short AsWritten row all x = omega (arith, length-append (decimal (variableNumber (row (x .0)))) (46 ∷ decimal (x .1)), decimal-length (variableNumber (row (x .0))), decimal-length (x .1))
+name-short ByIndex row all x = omega (arith, length-append (decimal (variableNumber (row (x .0)))) (46 ∷ decimal (x .1)), decimal-length (variableNumber (row (x .0))), decimal-length (x .1))
 name-short ByAppearance row all x = omega (arith, decimal-length (position all x))
 
 -- Each occurrence takes thirteen bytes at most, with the mark before it and its share of the parentheses.

@@ -14,7 +14,7 @@ use Rattle.text.specs.Buffer.{Wrote}
 use Rattle.numbering.specs.Numbering.{countAfter, NumberReady, TakesNumber}
 use Rattle.appearance.specs.Growing.{Longer}
 use Rattle.numbering.specs.declared.Naming.{Naming}
-use Rattle.numbering.specs.declared.Naming.the-variants.{AsWritten, ByAppearance}
+use Rattle.numbering.specs.declared.Naming.the-variants.{ByIndex, ByAppearance}
 use Rattle.appearance.proofs.Positions.{noted-position}
 use Rattle.names.specs.Names.{NameReady, WritesName}
 use Rattle.names.specs.declared.Place.{Place}
@@ -38,7 +38,7 @@ name-numbered N T T′ at K K′ L L′ count x n G w v q = record {
   most = omega (arith, q, count-most count n);
 }
 
-pub name-written : (N T T′ : List ℕ) (at : ℕ) (K L : List ℕ) (count : ℕ) (x : Variable) (m : ℕ) → m ≡ part N (x .0) 0 → (w : Place) → Wrote T T′ at (w .end) (118 ∷ (decimal m ++ (46 ∷ decimal (x .1)))) → w .count ≡ count → WritesName AsWritten N T T′ at K K L L count x w
+pub name-written : (N T T′ : List ℕ) (at : ℕ) (K L : List ℕ) (count : ℕ) (x : Variable) (m : ℕ) → m ≡ part N (x .0) 0 → (w : Place) → Wrote T T′ at (w .end) (118 ∷ (decimal m ++ (46 ∷ decimal (x .1)))) → w .count ≡ count → WritesName ByIndex N T T′ at K K L L count x w
 name-written N T T′ at K L count x m p w v q = record {
   numbered = λ seen H. H;
   wrote = λ row e seen H all W. subst (λ (k : ℕ). Wrote T T′ at (w .end) (118 ∷ (decimal k ++ (46 ∷ decimal (x .1))))) (p ∙ sym e) v;

@@ -54,7 +54,7 @@ pub fn put_name(
     ensures { λ w. ⌜ WritesName naming (now (nodes .entry)) (now (text .entry)) (now (text .exit)) at (now (cells .entry)) (now (cells .exit)) (now (order .entry)) (now (order .exit)) count (r, k) w ⌝ }
 {
     match naming {
-        Naming::AsWritten => Place {
+        Naming::ByIndex => Place {
             end: put_variable(text, at, part_of(nodes, r, 0), k),
             count,
         },

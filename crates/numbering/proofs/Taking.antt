@@ -12,11 +12,16 @@ use Rattle.record.specs.Record.{pick}
 use Rattle.unification.specs.Nodes.{part, NodesOk}
 use Rattle.unification.specs.Row.{Variable, same}
 use Rattle.unification.proofs.Tests.{same-eq, same-refl, true-not-false}
-use Rattle.appearance.specs.Appearance.{position, noted}
-use Rattle.numbering.specs.Numbering.{numberCell, Numberable, NumberAt, NumbersFrom, NumberRoom, Numbers, Numbered, hasNumber, countAfter, NumberReady, TakesNumber}
+use Rattle.derivation.specs.Derivation.{Derivation}
+use Rattle.derivation.specs.Written.{written}
+use Rattle.verdict.specs.State.{State, rowOf, termOf}
+use Rattle.verdict.specs.Text.{literalsText}
+use Rattle.verdict.specs.Readout.{lineWith}
+use Rattle.appearance.specs.Appearance.{position, noted, allShown}
+use Rattle.numbering.specs.Numbering.{lineOf, nameOf, numberCell, Numberable, NumberAt, NumbersFrom, NumberRoom, Numbers, Numbered, hasNumber, countAfter, NumberReady, TakesNumber}
 use Rattle.appearance.specs.Growing.{Longer}
 use Rattle.numbering.specs.declared.Naming.{Naming}
-use Rattle.numbering.specs.declared.Naming.the-variants.{AsWritten, ByAppearance}
+use Rattle.numbering.specs.declared.Naming.the-variants.{ByIndex, ByAppearance}
 use Rattle.appearance.proofs.Positions.{noted-old, noted-new}
 
 -- The cell of a variable is its own, and inside the array.
@@ -117,10 +122,10 @@ module _ {N K L : List ℕ} {count : ℕ} {x : Variable} (R : NumberReady N K L 
       let new : noted seen x ≡ seen ++ (x ∷ []) = noted-new seen x (omega (arith, none)) in
       let one-more : countAfter count count ≡ suc count = ap (λ (b : Bool). pick b (suc count) count) (eq-eqb count count refl) in
       let m : 0 + length seen ≡ count = omega (arith, G .counted) in
-      let each = numbers-more (R .table) (R .numberable) K L (G .room .0) 0 seen (omega (arith, G .room .1, R .room, m)) (G .each) (omega (arith, none)) in (
+      let each = numbers-more (R .table) (R .numberable) K L (G .room .cells) 0 seen (omega (arith, G .room .list, R .room, m)) (G .each) (omega (arith, none)) in (
         omega (arith, none, G .counted),
         record {
-          room = (length-set K cell count ∙ G .room .0, length-set L count cell ∙ G .room .1);
+          room = record { cells = length-set K cell count ∙ G .room .cells; list = length-set L count cell ∙ G .room .list };
           counted = one-more ∙ (let z : suc count ≡ length (seen ++ (x ∷ [])) = omega (arith, length-append seen (x ∷ []), m) in z) ∙ ap length (sym new);
           each = subst (NumbersFrom N (set K cell count) (set L count cell) 0) (sym new) (subst (λ (k : ℕ). NumbersFrom N (set K k count) (set L count k) 0 (seen ++ (x ∷ []))) (sym c) (subst (λ (k : ℕ). NumbersFrom N (set K (numberCell N x) k) (set L k (numberCell N x)) 0 (seen ++ (x ∷ []))) m each));
         },
@@ -139,14 +144,20 @@ numbers-before {N} {K} {L} {seen = seen} W e G = record { room = G .room; counte
 
 -- Going back to the variables seen before: their numbers are as they were.
 pub numbered-back : (naming : Naming) (N K L K′ L′ : List ℕ) (count count′ : ℕ) (seen all : List Variable) → Longer seen all → Numbered naming N K L count seen → Numbered naming N K′ L′ count′ all → Numbered naming N K′ L′ count seen
-numbered-back AsWritten N K L K′ L′ count count′ seen all W G H = tt
+numbered-back ByIndex N K L K′ L′ count count′ seen all W G H = tt
 numbered-back ByAppearance N K L K′ L′ count count′ seen all W G H = numbers-before W (G .counted) H
 
--- At first none has a number; and there is room for as long as there are numbers.
+-- At first none has a number.
 pub numbered-none : (naming : Naming) (N K L : List ℕ) → NumberRoom naming K L → Numbered naming N K L 0 []
-numbered-none AsWritten N K L h = tt
+numbered-none ByIndex N K L h = tt
 numbered-none ByAppearance N K L h = record { room = h; counted = refl; each = tt }
 
-pub numbered-room : (naming : Naming) (N K L : List ℕ) (count : ℕ) (seen : List Variable) → Numbered naming N K L count seen → NumberRoom naming K L
-numbered-room AsWritten N K L count seen G = tt
-numbered-room ByAppearance N K L count seen G = G .room
+-- Room stays as long as the lengths do.
+pub room-kept : (naming : Naming) (K L K′ L′ : List ℕ) → length K′ ≡ length K → length L′ ≡ length L → NumberRoom naming K L → NumberRoom naming K′ L′
+room-kept ByIndex K L K′ L′ p q h = tt
+room-kept ByAppearance K L K′ L′ p q h = record { cells = p ∙ h .cells; list = q ∙ h .list }
+
+-- A line over the names of its variables.
+pub line-named : (naming : Naming) (S : State) (n : ℕ) (c : Derivation) → lineOf naming S n c ≡ lineWith (literalsText (nameOf naming (rowOf S) (allShown [] (written (termOf S) c))) (written (termOf S) c)) n c
+line-named ByIndex S n c = refl
+line-named ByAppearance S n c = refl

@@ -1,5 +1,5 @@
--- The contracts of the functions that number a line's variables. What their numbers are stands in `Appearance` of the crate appearance. In the contracts of the
--- readouts stands `lineOf`; the rest only says how the parts of the program fit together.
+-- The contracts of the functions that number a line's variables. What their numbers are stands in `Appearance` of the crate appearance. In the contract of `write_unit`,
+-- by which both programs print, stands `lineOf`; the rest only says how the parts of the program fit together.
 use mathlib.Core.Path.{_≡_}
 use mathlib.Core.Bool.{Bool, true, false}
 use mathlib.Core.List.{List, [], _∷_}
@@ -9,22 +9,20 @@ use lib.ListN.{length, getD}
 use Rattle.record.specs.Record.{pick}
 use Rattle.unification.specs.Nodes.{isVariable, part, HasRow, NodesOk}
 use Rattle.unification.specs.Row.{Row, Variable}
-use Rattle.derivation.specs.Derivation.{Derivation}
-use Rattle.derivation.specs.Written.{written}
-use Rattle.verdict.specs.State.{State, rowOf, termOf}
 use Rattle.verdict.specs.Text.{numberAndIndex}
-use Rattle.verdict.specs.Readout.{lineWith}
-use Rattle.appearance.specs.Appearance.{position, noted, allShown, numberIn}
+use Rattle.verdict.specs.Readout.{LineWriter, clauseLine}
+use Rattle.appearance.specs.Appearance.{position, noted, numberIn, canonicalLine}
 use Rattle.numbering.specs.declared.Naming.{Naming}
-use Rattle.numbering.specs.declared.Naming.the-variants.{AsWritten, ByAppearance}
+use Rattle.numbering.specs.declared.Naming.the-variants.{ByIndex, ByAppearance}
 
--- How a variable is named, where `all` are those that the line shows; and the line of a clause: `clauseLine` or `canonicalLine`.
+-- The line of a clause, by how variables are named; and how a variable is named, where `all` are those that the line shows.
+abbrev pub lineOf : Naming → LineWriter
+lineOf ByIndex = clauseLine
+lineOf ByAppearance = canonicalLine
+
 abbrev pub nameOf : Naming → (ℕ → Row) → List Variable → Variable → List ℕ
-nameOf AsWritten row all = numberAndIndex row
+nameOf ByIndex row all = numberAndIndex row
 nameOf ByAppearance row all = numberIn all
-
-abbrev pub lineOf : Naming → State → ℕ → Derivation → List ℕ
-lineOf naming S n c = lineWith (nameOf naming (rowOf S) (allShown [] (written (termOf S) c))) S n c
 
 -- The cell of a variable: 64 for each index.
 abbrev pub numberCell : List ℕ → Variable → ℕ
@@ -46,19 +44,23 @@ abbrev pub NumbersFrom : List ℕ → List ℕ → List ℕ → ℕ → List Var
 NumbersFrom N K L i [] = Unit {0}
 NumbersFrom N K L i (x ∷ xs) = NumberAt N K L i x × NumbersFrom N K L (suc i) xs
 
--- There is room for the cells of all variables and for a list of all that a line can show. By number and index nothing is needed.
+-- Room for the cells of all variables, and for a list of all that a line can show. By number and index none is needed.
+pub record RoomForNumbers (K L : List ℕ) : Type 0 where
+  pub cells : length K ≡ 262208
+  pub list : length L ≡ 8192
+
 abbrev pub NumberRoom : Naming → List ℕ → List ℕ → Type 0
-NumberRoom AsWritten K L = Unit {0}
-NumberRoom ByAppearance K L = (length K ≡ 262208) × (length L ≡ 8192)
+NumberRoom ByIndex K L = Unit {0}
+NumberRoom ByAppearance K L = RoomForNumbers K L
 
 -- The variables seen so far have the numbers from 0 on.
 pub record Numbers (N K L : List ℕ) (count : ℕ) (seen : List Variable) : Type 0 where
-  pub room : (length K ≡ 262208) × (length L ≡ 8192)
+  pub room : RoomForNumbers K L
   pub counted : count ≡ length seen
   pub each : NumbersFrom N K L 0 seen
 
 abbrev pub Numbered : Naming → List ℕ → List ℕ → List ℕ → ℕ → List Variable → Type 0
-Numbered AsWritten N K L count seen = Unit {0}
+Numbered ByIndex N K L count seen = Unit {0}
 Numbered ByAppearance N K L count seen = Numbers N K L count seen
 
 -- Whether the list has a cell at a number below the count; and the count after a number was taken.

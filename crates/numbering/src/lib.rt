@@ -11,7 +11,7 @@ ghost use Rattle.numbering.specs.Numbering.{numberCell, hasNumber, count
 
 // How variables are named: by number and index, or numbered by appearance.
 pub enum Naming {
-    AsWritten,
+    ByIndex,
     ByAppearance,
 }
 

@@ -87,7 +87,7 @@ pub after-none : (naming : Naming) {C B N O A : List ℕ} {a : Answer} → Taken
 after-none naming R = taken-none naming (R .day) (R .file) (lengthsOf (R .before))
 
 -- A piece by the array as it is now.
-module _ {naming : Naming} {C B N O A A₁ A₂ K L : List ℕ} {a : Answer} {n : ℕ} {output output′ : List ℕ} {p : Piece} (values : length A₁ ≡ 524416) (room : length output ≡ 131072) (P : PieceOf naming C B N O A₁ A₂ K L a n output output′ p) where
+module _ {naming : Naming} {C B N O A A₁ A₂ : List ℕ} {a : Answer} {n : ℕ} {output output′ : List ℕ} {p : Piece} (values : length A₁ ≡ 524416) (room : length output ≡ 131072) (P : PieceOf naming C B N O A₁ A₂ a n output output′ p) where
   ended-after : (R : AfterCheck C B N O A a) → Ended naming (R .day) (R .file) (lengthsOf (R .before)) n output output′ p
   unfolding after-again
   ended-after R = ended room (P .piece (after-again R values))

@@ -1,3 +1,3 @@
-// What the check and the readout give for one file, in few numbers.
+// What the check and the readouts give for one file, in few numbers.
 pub mod digest;
 pub mod outcome;

@@ -29,7 +29,7 @@ pub struct Outcome {
     pub canonical: Digest,
 }
 
-// Checks a file on a day with the caller's tables, and goes on to the readout by what the check left.
+// Checks a file on a day with the caller's tables, and goes on to both readouts by what the check left.
 fn outcome_with(
     day: u16,
     file: &[u8],
@@ -69,7 +69,7 @@ fn outcome_with(
         nodes,
         origins,
         values,
-        Naming::AsWritten,
+        Naming::ByIndex,
         cells,
         order,
         answer,

@@ -38,8 +38,7 @@ pub record PieceReady (naming : Naming) (C B N O A K L : List ℕ) (a : Answer) 
   pub after : AfterCheck C B N O A a
   pub numbers : NumberRoom naming K L
 
--- What it says, whichever tables there were before the check. The array keeps its length, and so do the cells of numbers, so that the next piece can be written.
-pub record PieceOf (naming : Naming) (C B N O A A′ K′ L′ : List ℕ) (a : Answer) (begin : ℕ) (output output′ : List ℕ) (p : Piece) : Type 0 where
+-- What it says, whichever tables there were before the check. The array keeps its length, so that the next piece can be written.
+pub record PieceOf (naming : Naming) (C B N O A A′ : List ℕ) (a : Answer) (begin : ℕ) (output output′ : List ℕ) (p : Piece) : Type 0 where
   pub piece : (R : AfterCheck C B N O A a) → PieceAt (lineOf naming) (R .day) (R .file) (lengthsOf (R .before)) begin output output′ p
   pub values : length A′ ≡ 524416
-  pub numbers : NumberRoom naming K′ L′

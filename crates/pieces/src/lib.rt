@@ -11,6 +11,8 @@ ghost use mathlib.Core.Path.{_≡_};
 ghost use Prim.Native.Nat.{_+_, _≤_};
 ghost use lib.ListN.{length};
 ghost use lib.Seq.{paste};
+ghost use Rattle.units.specs.Units.{AfterCheck};
+ghost use Rattle.numbering.specs.declared.Naming.the-variants.{ByIndex, ByAppearance};
 ghost use Rattle.pieces.specs.Placed.{PieceReady, PieceOf, restGiven, stoppedAt};
 
 // What comes after a piece: nothing, all is written; the clause that the next piece begins with; or there was no room for the line of
@@ -66,7 +68,7 @@ pub fn write_piece(
     output: &mut [u8],
 ) -> Piece
     requires { ⌜ PieceReady naming (now clauses) (now bindings) (now nodes) (now origins) (now values) (now cells) (now order) a ⌝ }
-    ensures { λ p. ⌜ PieceOf naming (now (clauses .entry)) (now (bindings .entry)) (now (nodes .entry)) (now (origins .entry)) (now (values .entry)) (now (values .exit)) (now (cells .exit)) (now (order .exit)) a begin (now (output .entry)) (now (output .exit)) p ⌝ }
+    ensures { λ p. ⌜ PieceOf naming (now (clauses .entry)) (now (bindings .entry)) (now (nodes .entry)) (now (origins .entry)) (now (values .entry)) (now (values .exit)) a begin (now (output .entry)) (now (output .exit)) p ⌝ }
 {
     let mut text = [0u8; 131072];
     let count = unit_count(a.clauses);
@@ -99,5 +101,106 @@ pub fn write_piece(
     Piece {
         written,
         rest: Rest::Complete,
+    }
+}
+
+// The same with variables named by number and index, for which no room is needed.
+fn write_plain_piece(
+    clauses: &[u16],
+    bindings: &[u16],
+    nodes: &Nodes,
+    origins: &Origins,
+    values: &mut ValueCells,
+    a: Answer,
+    begin: u16,
+    output: &mut [u8],
+) -> Piece
+    requires { ⌜ AfterCheck (now clauses) (now bindings) (now nodes) (now origins) (now values) a ⌝ }
+    ensures { λ p. ⌜ PieceOf ByIndex (now (clauses .entry)) (now (bindings .entry)) (now (nodes .entry)) (now (origins .entry)) (now (values .entry)) (now (values .exit)) a begin (now (output .entry)) (now (output .exit)) p ⌝ }
+{
+    let mut cells = [0u16; 1];
+    let mut order = [0u32; 1];
+    write_piece(
+        clauses,
+        bindings,
+        nodes,
+        origins,
+        values,
+        Naming::ByIndex,
+        &mut cells,
+        &mut order,
+        a,
+        begin,
+        output,
+    )
+}
+
+// The same with variables numbered by appearance, with room for the numbers of any line.
+fn write_numbered_piece(
+    clauses: &[u16],
+    bindings: &[u16],
+    nodes: &Nodes,
+    origins: &Origins,
+    values: &mut ValueCells,
+    a: Answer,
+    begin: u16,
+    output: &mut [u8],
+) -> Piece
+    requires { ⌜ AfterCheck (now clauses) (now bindings) (now nodes) (now origins) (now values) a ⌝ }
+    ensures { λ p. ⌜ PieceOf ByAppearance (now (clauses .entry)) (now (bindings .entry)) (now (nodes .entry)) (now (origins .entry)) (now (values .entry)) (now (values .exit)) a begin (now (output .entry)) (now (output .exit)) p ⌝ }
+{
+    let mut cells = [0u16; 262208];
+    let mut order = [0u32; 8192];
+    write_piece(
+        clauses,
+        bindings,
+        nodes,
+        origins,
+        values,
+        Naming::ByAppearance,
+        &mut cells,
+        &mut order,
+        a,
+        begin,
+        output,
+    )
+}
+
+// A piece with variables named in either way. What a naming needs is made here, after the check, so that the check has the stack for itself.
+pub fn write_named_piece(
+    clauses: &[u16],
+    bindings: &[u16],
+    nodes: &Nodes,
+    origins: &Origins,
+    values: &mut ValueCells,
+    naming: Naming,
+    a: Answer,
+    begin: u16,
+    output: &mut [u8],
+) -> Piece
+    requires { ⌜ AfterCheck (now clauses) (now bindings) (now nodes) (now origins) (now values) a ⌝ }
+    ensures { λ p. ⌜ PieceOf naming (now (clauses .entry)) (now (bindings .entry)) (now (nodes .entry)) (now (origins .entry)) (now (values .entry)) (now (values .exit)) a begin (now (output .entry)) (now (output .exit)) p ⌝ }
+{
+    match naming {
+        Naming::ByIndex => write_plain_piece(
+            clauses,
+            bindings,
+            nodes,
+            origins,
+            values,
+            a,
+            begin,
+            output,
+        ),
+        Naming::ByAppearance => write_numbered_piece(
+            clauses,
+            bindings,
+            nodes,
+            origins,
+            values,
+            a,
+            begin,
+            output,
+        ),
     }
 }

@@ -18,9 +18,9 @@ use read_answer::Input;
 use report::unread;
 use units::unit_count;
 use units::write_unit;
+ghost use Rattle.units.specs.Units.{AfterCheck};
 ghost use Rattle.pieces.specs.Placed.{PieceReady};
 ghost use Rattle.input_check.specs.Checking.{Holds};
-ghost use Rattle.numbering.specs.Numbering.{NumberRoom};
 
 // Prints line after line, the first one with that of clause 0.
 fn print_lines(
@@ -60,7 +60,60 @@ fn print_lines(
     }
 }
 
-// Checks the file of an input once, on its day, and prints its readout by what the check left.
+// The same with variables named by number and index, for which no room is needed.
+fn print_plain(
+    clauses: &[u16],
+    bindings: &[u16],
+    nodes: &Nodes,
+    origins: &Origins,
+    values: &mut ValueCells,
+    a: Answer,
+)
+    requires { ⌜ AfterCheck (now clauses) (now bindings) (now nodes) (now origins) (now values) a ⌝ }
+{
+    let mut cells = [0u16; 1];
+    let mut order = [0u32; 1];
+    print_lines(
+        clauses,
+        bindings,
+        nodes,
+        origins,
+        values,
+        Naming::ByIndex,
+        &mut cells,
+        &mut order,
+        a,
+    );
+}
+
+// The same with variables numbered by appearance, with room for the numbers of any line.
+fn print_numbered(
+    clauses: &[u16],
+    bindings: &[u16],
+    nodes: &Nodes,
+    origins: &Origins,
+    values: &mut ValueCells,
+    a: Answer,
+)
+    requires { ⌜ AfterCheck (now clauses) (now bindings) (now nodes) (now origins) (now values) a ⌝ }
+{
+    let mut cells = [0u16; 262208];
+    let mut order = [0u32; 8192];
+    print_lines(
+        clauses,
+        bindings,
+        nodes,
+        origins,
+        values,
+        Naming::ByAppearance,
+        &mut cells,
+        &mut order,
+        a,
+    );
+}
+
+// Checks the file of an input once, on its day, and prints a readout by what the check left. What a naming needs is made after the check, so that the check has
+// the stack for itself.
 fn print_with(
     space: &[u8],
     n: usize,
@@ -72,11 +125,8 @@ fn print_with(
     origins: &mut Origins,
     values: &mut ValueCells,
     naming: Naming,
-    cells: &mut [u16],
-    order: &mut [u32],
 )
     requires { ⌜ Holds (now space) n ⌝ }
-    requires { ⌜ NumberRoom naming (now cells) (now order) ⌝ }
 {
     let a = check_input(
         space,
@@ -89,23 +139,15 @@ fn print_with(
         origins,
         values,
     );
-    print_lines(
-        clauses,
-        bindings,
-        nodes,
-        origins,
-        values,
-        naming,
-        cells,
-        order,
-        a,
-    );
+    match naming {
+        Naming::ByIndex => print_plain(clauses, bindings, nodes, origins, values, a),
+        Naming::ByAppearance => print_numbered(clauses, bindings, nodes, origins, values, a),
+    }
 }
 
 // The same with tables that are just long enough.
-fn print_readout(space: &[u8], n: usize, naming: Naming, cells: &mut [u16], order: &mut [u32])
+fn print_readout(space: &[u8], n: usize, naming: Naming)
     requires { ⌜ Holds (now space) n ⌝ }
-    requires { ⌜ NumberRoom naming (now cells) (now order) ⌝ }
 {
     let mut symbols = [0u16; 4096];
     let mut rows = [0u16; 4096];
@@ -125,19 +167,15 @@ fn print_readout(space: &[u8], n: usize, naming: Naming, cells: &mut [u16], orde
         &mut origins,
         &mut values,
         naming,
-        cells,
-        order,
     );
 }
 
 // Reads the input and prints its readout, with its variables named in either way.
-pub fn run(naming: Naming, cells: &mut [u16], order: &mut [u32])
-    requires { ⌜ NumberRoom naming (now cells) (now order) ⌝ }
-{
+pub fn run(naming: Naming) {
     let mut space = [0u8; 65539];
     let Input::Whole(n) = read_input(STDIN_FILENO, &mut space) else {
         unread(naming);
         return;
     };
-    print_readout(&space, n, naming, cells, order);
+    print_readout(&space, n, naming);
 }

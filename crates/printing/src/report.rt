@@ -6,7 +6,7 @@ use numbering::Naming;
 // How the program is used.
 pub fn usage(naming: Naming) {
     match naming {
-        Naming::AsWritten => {
+        Naming::ByIndex => {
             io::write_all(
                 STDERR_FILENO,
                 b"proofread takes no arguments; it reads two bytes of day, low byte first, and a proof file from standard input: proofread < DAY_AND_FILE\n",
@@ -24,7 +24,7 @@ pub fn usage(naming: Naming) {
 // Why the input could not be read. Called just after the read that failed.
 pub fn unread(naming: Naming) {
     match naming {
-        Naming::AsWritten => os::fail(b"proofread: standard input"),
+        Naming::ByIndex => os::fail(b"proofread: standard input"),
         Naming::ByAppearance => os::fail(b"proofread_canonical: standard input"),
     }
 }
@@ -35,7 +35,7 @@ pub fn unwritten(naming: Naming) {
         return;
     }
     match naming {
-        Naming::AsWritten => os::fail(b"proofread: standard output"),
+        Naming::ByIndex => os::fail(b"proofread: standard output"),
         Naming::ByAppearance => os::fail(b"proofread_canonical: standard output"),
     }
 }

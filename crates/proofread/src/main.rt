@@ -5,10 +5,8 @@ use printing::run;
 
 fn main() {
     if 1 < os::arg_count() {
-        usage(Naming::AsWritten);
+        usage(Naming::ByIndex);
         return;
     }
-    let mut cells = [0u16; 1];
-    let mut order = [0u32; 1];
-    run(Naming::AsWritten, &mut cells, &mut order);
+    run(Naming::ByIndex);
 }

@@ -9,7 +9,5 @@ fn main() {
         usage(Naming::ByAppearance);
         return;
     }
-    let mut cells = [0u16; 262208];
-    let mut order = [0u32; 8192];
-    run(Naming::ByAppearance, &mut cells, &mut order);
+    run(Naming::ByAppearance);
 }

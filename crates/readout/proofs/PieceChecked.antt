@@ -12,8 +12,8 @@ use Rattle.pieces.specs.Placed.{PieceOf}
 use Rattle.pieces.specs.declared.Piece.{Piece}
 use Rattle.units.proofs.UnitSizes.{pieces-always}
 
-pub piece-written : (naming : Naming) (day : ℕ) (F : List ℕ) (t : Tables) (clause : ℕ) (out out′ : List ℕ) (p : Piece) (a : Answer) (w : Workspace) (s r C B N O A A′ K′ L′ : List ℕ) → CheckedWith day F t w a (tablesWith s r C B) (workspaceWith N O A) → PieceOf naming C B N O A A′ K′ L′ a clause out out′ p → PieceWritten (lineOf naming) day F t clause out p (tablesWith s r C B) out′
-piece-written naming day F t clause out out′ p a w s r C B N O A A′ K′ L′ X P = record {
+pub piece-written : (naming : Naming) (day : ℕ) (F : List ℕ) (t : Tables) (clause : ℕ) (out out′ : List ℕ) (p : Piece) (a : Answer) (w : Workspace) (s r C B N O A A′ : List ℕ) → CheckedWith day F t w a (tablesWith s r C B) (workspaceWith N O A) → PieceOf naming C B N O A A′ a clause out out′ p → PieceWritten (lineOf naming) day F t clause out p (tablesWith s r C B) out′
+piece-written naming day F t clause out out′ p a w s r C B N O A A′ X P = record {
   piece = P .piece (record { day = day; file = F; before = t; lent = w; symbols = s; rows = r; checked = X });
   symbols = X .checked .symbols;
   rows = X .checked .rows;

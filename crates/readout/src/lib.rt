@@ -23,8 +23,6 @@ pub fn readout_piece(
 ) -> Piece
     ensures { λ p. ⌜ PieceWritten clauseLine day (now (file .entry)) (tablesWith (now (symbols .entry)) (now (rows .entry)) (now (clauses .entry)) (now (bindings .entry))) clause (now (output .entry)) p (tablesWith (now (symbols .exit)) (now (rows .exit)) (now (clauses .exit)) (now (bindings .exit))) (now (output .exit)) ⌝ }
 {
-    let mut cells = [0u16; 1];
-    let mut order = [0u32; 1];
     piece_by(
         day,
         file,
@@ -32,9 +30,7 @@ pub fn readout_piece(
         rows,
         clauses,
         bindings,
-        Naming::AsWritten,
-        &mut cells,
-        &mut order,
+        Naming::ByIndex,
         clause,
         output,
     )
@@ -53,8 +49,6 @@ pub fn canonical_piece(
 ) -> Piece
     ensures { λ p. ⌜ CanonicalWritten day (now (file .entry)) (tablesWith (now (symbols .entry)) (now (rows .entry)) (now (clauses .entry)) (now (bindings .entry))) clause (now (output .entry)) p (tablesWith (now (symbols .exit)) (now (rows .exit)) (now (clauses .exit)) (now (bindings .exit))) (now (output .exit)) ⌝ }
 {
-    let mut cells = [0u16; 262208];
-    let mut order = [0u32; 8192];
     piece_by(
         day,
         file,
@@ -63,8 +57,6 @@ pub fn canonical_piece(
         clauses,
         bindings,
         Naming::ByAppearance,
-        &mut cells,
-        &mut order,
         clause,
         output,
     )

@@ -2,9 +2,9 @@
 use checker::check_with;
 use numbering::Naming;
 use pieces::Piece;
-use pieces::write_piece;
+use pieces::write_named_piece;
 ghost use Rattle.entry.specs.Progress.{tablesWith};
-ghost use Rattle.numbering.specs.Numbering.{lineOf, NumberRoom};
+ghost use Rattle.numbering.specs.Numbering.{lineOf};
 ghost use Rattle.readout.specs.Contract.{PieceWritten};
 
 // Checks a file and writes a piece of a readout, with its variables named in either way.
@@ -16,12 +16,9 @@ pub(crate) fn piece_by(
     clauses: &mut [u16],
     bindings: &mut [u16],
     naming: Naming,
-    cells: &mut [u16],
-    order: &mut [u32],
     clause: u16,
     output: &mut [u8],
 ) -> Piece
-    requires { ⌜ NumberRoom naming (now cells) (now order) ⌝ }
     ensures { λ p. ⌜ PieceWritten (lineOf naming) day (now (file .entry)) (tablesWith (now (symbols .entry)) (now (rows .entry)) (now (clauses .entry)) (now (bindings .entry))) clause (now (output .entry)) p (tablesWith (now (symbols .exit)) (now (rows .exit)) (now (clauses .exit)) (now (bindings .exit))) (now (output .exit)) ⌝ }
 {
     let mut nodes = [0u16; 32768];
@@ -38,15 +35,13 @@ pub(crate) fn piece_by(
         &mut origins,
         &mut values,
     );
-    write_piece(
+    write_named_piece(
         clauses,
         bindings,
         &nodes,
         &origins,
         &mut values,
         naming,
-        cells,
-        order,
         a,
         clause,
         output,

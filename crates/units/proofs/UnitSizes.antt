@@ -89,13 +89,12 @@ pub pieces-always : (naming : Naming) (day : ℕ) (F : List ℕ) (lengths : Leng
 pieces-always naming day F lengths = pieces-hold (lineOf naming) day F lengths (all-within naming day F lengths) (units-counted naming day F lengths)
 
 -- What was written is the whole unit.
-pub unit-whole : {naming : Naming} {C B N O A A′ T T′ K K′ L L′ : List ℕ} {a : Answer} {n end : ℕ} → UnitReady naming C B N O A T K L a n → UnitWrote naming C B N O A A′ T T′ K′ L′ a n end → UnitWritten naming C B N O A A′ T′ K′ L′ a n end
+pub unit-whole : {naming : Naming} {C B N O A A′ T T′ K L : List ℕ} {a : Answer} {n end : ℕ} → UnitReady naming C B N O A T K L a n → UnitWrote naming C B N O A A′ T T′ a n end → UnitWritten naming C B N O A A′ T′ a n end
 unfolding unitAt
 unit-whole {naming} {C} {B} {N} {O} {A} {T = T} {a = a} {n = n} U W = record {
   size = λ R. let e = wrote-position (W .wrote R) (fits R) in omega (arith, e);
   whole = λ R. wrote-bytes (W .wrote R) (fits R);
   sized = W .sized;
-  numbers = W .numbers;
 }
   where
     fits : (R : AfterCheck C B N O A a) → 0 + length (unitAt (lineOf naming) (R .day) (R .file) (lengthsOf (R .before)) n) ≤ length T
@@ -104,5 +103,5 @@ unit-whole {naming} {C} {B} {N} {O} {A} {T = T} {a = a} {n = n} U W = record {
         omega (arith, one-within 131072 (units (readoutLines (lineOf naming) (R .day) (R .file) (lengthsOf (R .before)))) n (all-within naming (R .day) (R .file) (lengthsOf (R .before))) i, U .text)
 
 -- It ends inside the buffer.
-pub end-inside : {naming : Naming} {C B N O A A₂ T K L : List ℕ} {a : Answer} {n end : ℕ} → AfterCheck C B N O A a → UnitWritten naming C B N O A A₂ T K L a n end → end ≤ 131072
+pub end-inside : {naming : Naming} {C B N O A A₂ T : List ℕ} {a : Answer} {n end : ℕ} → AfterCheck C B N O A a → UnitWritten naming C B N O A A₂ T a n end → end ≤ 131072
 end-inside {T = T} {end = end} R W = omega (arith, length-take end T, ap length (W .whole R), W .size R, W .sized .text)

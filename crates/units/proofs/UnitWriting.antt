@@ -66,8 +66,8 @@ module _ (naming : Naming) {C B N O A : List ℕ} {a : Answer} (R : AfterCheck C
       record { file = R .file; tablesBefore = R .before; state = stateOf (ending (R .file)); symbols = R .symbols; rows = R .rows; read = read-to n l; inside = omega (arith, count, l, z); text = room; numbers = numbers }
 
   -- The line of clause n, as the units have it.
-  line-text : (n : ℕ) → n < a .clauses → {A′ T T′ K′ L′ : List ℕ} {at end : ℕ} → LineWritten naming C B N O A A′ T T′ K′ L′ at n end → (c : ClauseThere (stateLeft (R .file) (lengthsOf (R .before))) n) → Wrote T T′ at end (lineOf naming (stateLeft (R .file) (lengthsOf (R .before))) n (c .clause))
-  line-text n l {A′} {T} {T′} {at = at} {end} W c =
+  line-text : (n : ℕ) → n < a .clauses → {A′ T T′ : List ℕ} {at end : ℕ} → LineWritten naming C B N O A A′ T T′ at n end → (c : ClauseThere (stateLeft (R .file) (lengthsOf (R .before))) n) → Wrote T T′ at end (lineOf naming (stateLeft (R .file) (lengthsOf (R .before))) n (c .clause))
+  line-text n l {A′} {T} {T′} {at} {end} W c =
       let w = was-read n l in
       subst (λ (S : State). Wrote T T′ at end (lineOf naming S n (c .clause))) (sym (w .state))
       (W .wrote (R .file) (R .before) (stateOf (ending (R .file))) (R .symbols) (R .rows) (read-to n l) (c .clause) (subst (λ (S : State). clauseOf S n ≡ some (c .clause)) (w .state) (c .isClause)))
@@ -117,20 +117,18 @@ module _ {naming : Naming} {C B N O A T K L : List ℕ} {a : Answer} {n : ℕ} (
       try (suc m) k = omega arith
 
 -- As much of a unit as fits into the buffer was written at its start.
-pub record UnitWrote (naming : Naming) (C B N O A A′ T T′ K′ L′ : List ℕ) (a : Answer) (n end : ℕ) : Type 0 where
+pub record UnitWrote (naming : Naming) (C B N O A A′ T T′ : List ℕ) (a : Answer) (n end : ℕ) : Type 0 where
   pub wrote : (R : AfterCheck C B N O A a) → Wrote T T′ 0 end (unitAt (lineOf naming) (R .day) (R .file) (lengthsOf (R .before)) n)
   pub sized : Sized N A′ T′
-  pub numbers : NumberRoom naming K′ L′
 
-module _ {naming : Naming} {C B N O A A′ T T′ K′ L′ : List ℕ} {a : Answer} {end : ℕ} where
-  pub unit-line : {n : ℕ} → (n ≡ 0 → ⊥) → n < a .clauses → LineWritten naming C B N O A A′ T T′ K′ L′ 0 n end → UnitWrote naming C B N O A A′ T T′ K′ L′ a n end
+module _ {naming : Naming} {C B N O A A′ T T′ : List ℕ} {a : Answer} {end : ℕ} where
+  pub unit-line : {n : ℕ} → (n ≡ 0 → ⊥) → n < a .clauses → LineWritten naming C B N O A A′ T T′ 0 n end → UnitWrote naming C B N O A A′ T T′ a n end
   unit-line {n} h l W = record {
     wrote = λ R. subst (Wrote T T′ 0 end) (sym (unit-other (lineOf naming) (R .day) (R .file) (lengthsOf (R .before)) n (there naming R n l .clause) h (there naming R n l .isClause))) (line-text naming R n l W (there naming R n l));
     sized = W .sized;
-    numbers = W .numbers;
   }
 
-  pub unit-both : {n : ℕ} → n ≡ 0 → n < a .clauses → (T₁ : List ℕ) (middle : ℕ) → VerdictWritten (a .verdict) T T₁ 0 middle → LineWritten naming C B N O A A′ T₁ T′ K′ L′ middle n end → UnitWrote naming C B N O A A′ T T′ K′ L′ a n end
+  pub unit-both : {n : ℕ} → n ≡ 0 → n < a .clauses → (T₁ : List ℕ) (middle : ℕ) → VerdictWritten (a .verdict) T T₁ 0 middle → LineWritten naming C B N O A A′ T₁ T′ middle n end → UnitWrote naming C B N O A A′ T T′ a n end
   unit-both {n} z l T₁ middle G W = record {
     wrote = λ R.
         let c = there naming R n l in
@@ -143,15 +141,13 @@ module _ {naming : Naming} {C B N O A A′ T T′ K′ L′ : List ℕ} {a : Ans
         (verdict-line v (verdict-given (R .day) (R .file) (lengthsOf (R .before)) a (R .checked .checked .answer)) G)
         (line-text naming R n l W c)));
     sized = W .sized;
-    numbers = W .numbers;
   }
 
-module _ {naming : Naming} {C B N O A T T′ K L : List ℕ} {a : Answer} {end : ℕ} where
-  pub unit-heading : {n : ℕ} → n ≡ 0 → a .clauses ≡ 0 → VerdictWritten (a .verdict) T T′ 0 end → Sized N A T′ → NumberRoom naming K L → UnitWrote naming C B N O A A T T′ K L a n end
-  unit-heading {n} z none W sized numbers = record {
+module _ {naming : Naming} {C B N O A T T′ : List ℕ} {a : Answer} {end : ℕ} where
+  pub unit-heading : {n : ℕ} → n ≡ 0 → a .clauses ≡ 0 → VerdictWritten (a .verdict) T T′ 0 end → Sized N A T′ → UnitWrote naming C B N O A A T T′ a n end
+  unit-heading {n} z none W sized = record {
     wrote = λ R. subst (Wrote T T′ 0 end)
         (sym (ap (unitAt (lineOf naming) (R .day) (R .file) (lengthsOf (R .before))) z ∙ unit-alone (lineOf naming) (R .day) (R .file) (lengthsOf (R .before)) (sym (count naming R) ∙ none)))
         (verdict-line (check (R .day) (R .file) (lengthsOf (R .before)) .verdict) (verdict-given (R .day) (R .file) (lengthsOf (R .before)) a (R .checked .checked .answer)) W);
     sized = sized;
-    numbers = numbers;
   }

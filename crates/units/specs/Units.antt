@@ -1,5 +1,5 @@
--- The contracts of the functions that write what a piece is made of. What that is stands in `Pieces`. In the contract of `write_unit`, by which `proofread`
--- prints, stand `UnitWritten` with `unitAt` and `AfterCheck`; the rest only says how the parts of the program fit together.
+-- The contracts of the functions that write what a piece is made of. What that is stands in `Pieces`. In the contract of `write_unit`, by which the programs
+-- print, stand `UnitWritten` with `unitAt` and `AfterCheck`; the rest only says how the parts of the program fit together.
 use mathlib.Core.Path.{_≡_}
 use mathlib.Core.List.{List, []}
 use Prim.Native.Nat.{ℕ, _<_}
@@ -38,8 +38,7 @@ pub record UnitReady (naming : Naming) (C B N O A T K L : List ℕ) (a : Answer)
 
 -- What it says, whichever file was checked and whichever tables there were before: the unit stands whole at the start of the buffer, and `end` is its length.
 -- Nothing is said of the bytes from `end` on.
-pub record UnitWritten (naming : Naming) (C B N O A A′ T′ K′ L′ : List ℕ) (a : Answer) (n end : ℕ) : Type 0 where
+pub record UnitWritten (naming : Naming) (C B N O A A′ T′ : List ℕ) (a : Answer) (n end : ℕ) : Type 0 where
   pub size : (R : AfterCheck C B N O A a) → end ≡ length (unitAt (lineOf naming) (R .day) (R .file) (lengthsOf (R .before)) n)
   pub whole : (R : AfterCheck C B N O A a) → take end T′ ≡ unitAt (lineOf naming) (R .day) (R .file) (lengthsOf (R .before)) n
   pub sized : Sized N A′ T′
-  pub numbers : NumberRoom naming K′ L′

@@ -34,7 +34,7 @@ pub fn write_unit(
     n: u16,
 ) -> usize
     requires { ⌜ UnitReady naming (now clauses) (now bindings) (now nodes) (now origins) (now values) (now text) (now cells) (now order) a n ⌝ }
-    ensures { λ end. ⌜ UnitWritten naming (now (clauses .entry)) (now (bindings .entry)) (now (nodes .entry)) (now (origins .entry)) (now (values .entry)) (now (values .exit)) (now (text .exit)) (now (cells .exit)) (now (order .exit)) a n end ⌝ }
+    ensures { λ end. ⌜ UnitWritten naming (now (clauses .entry)) (now (bindings .entry)) (now (nodes .entry)) (now (origins .entry)) (now (values .entry)) (now (values .exit)) (now (text .exit)) a n end ⌝ }
 {
     if n != 0 {
         return write_line(

@@ -2,7 +2,6 @@
 use mathlib.Core.List.{List, [], _∷_, _++_}
 use Prim.Native.Nat.{ℕ}
 use lib.ListN.{length}
-use Rattle.unification.specs.Row.{Variable}
 use Rattle.derivation.specs.Derivation.{Derivation, maximumIndex}
 use Rattle.derivation.specs.Written.{written}
 use Rattle.verdict.specs.Refusal.{reasonNumber}
@@ -28,16 +27,17 @@ verdictText (refusal reason k) = refusedText (reasonNumber reason) k
 abbrev pub verdictLine : Verdict → List ℕ
 verdictLine v = verdictText v ++ (10 ∷ [])
 
--- A clause: its number, its maximum index and its literals, parted by one blank, with its variables named in some way.
-abbrev pub lineWith : (Variable → List ℕ) → State → ℕ → Derivation → List ℕ
-lineWith name S n c = decimal n ++ (32 ∷ decimal (maximumIndex c)) ++ literalsText name (written (termOf S) c) ++ (10 ∷ [])
-
-abbrev pub clauseLine : State → ℕ → Derivation → List ℕ
-clauseLine S n c = lineWith (numberAndIndex (rowOf S)) S n c
-
--- Readouts differ in how they write the line of a clause, and in nothing else. The one of document 01 is by `clauseLine`; document 02, Q-10, has another.
+-- How a readout writes the line of a clause of a state, by the clause's number. Readouts differ in this alone.
 abbrev pub LineWriter : Type 0
 LineWriter = State → ℕ → Derivation → List ℕ
+
+-- A clause: its number, its maximum index and the text of its literals, parted by one blank.
+abbrev pub lineWith : List ℕ → ℕ → Derivation → List ℕ
+lineWith literals n c = decimal n ++ (32 ∷ decimal (maximumIndex c)) ++ literals ++ (10 ∷ [])
+
+-- The readout of document 01 names variables by number and index. Document 02, Q-10, has another, which differs from it in these names alone.
+abbrev pub clauseLine : LineWriter
+clauseLine S n c = lineWith (literalsText (numberAndIndex (rowOf S)) (written (termOf S) c)) n c
 
 abbrev pub joinedLines : List (List ℕ) → List ℕ
 joinedLines [] = []

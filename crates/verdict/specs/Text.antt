@@ -25,7 +25,7 @@ abbrev pub signText : Bool → ℕ
 signText true = 43
 signText false = 45
 
--- How the readout names a variable: its number, a dot and its index.
+-- How the readout of document 01 names a variable: its number, a dot and its index.
 abbrev pub numberAndIndex : (ℕ → Row) → Variable → List ℕ
 numberAndIndex row x = decimal (variableNumber (row (x .0))) ++ (46 ∷ decimal (x .1))
 

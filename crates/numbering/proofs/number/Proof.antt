@@ -22,11 +22,11 @@ mul-n c = search needs
 slice-read-n : tie.Need-slice-read-n
 slice-read-n c =
     let p = c .before .before .before .before .pre in
-    omega (arith, c .before .number-cell .ensures, cell-inside (p .table) (p .numberable), p .numbers .room .0)
+    omega (arith, c .before .number-cell .ensures, cell-inside (p .table) (p .numberable), p .numbers .room .cells)
 
 has-number-requires : tie.Need-has-number-requires
 has-number-requires c κs =
-    (c .before .before .before .before .before .pre .numbers .room .1, c .before .before .before .before .before .pre .room)
+    (c .before .before .before .before .before .pre .numbers .room .list, c .before .before .before .before .before .pre .room)
 
 same-length : tie.Need-same-length
 same-length c = search needs
@@ -44,7 +44,7 @@ mul-cells c = search needs
 slice-write-cells : tie.Need-slice-write-cells
 slice-write-cells c =
     let p = c .before .before .before .before .before .before .before .pre in
-    omega (arith, c .before .before .before .before .number-cell .ensures, cell-inside (p .table) (p .numberable), p .numbers .room .0)
+    omega (arith, c .before .before .before .before .number-cell .ensures, cell-inside (p .table) (p .numberable), p .numbers .room .cells)
 
 mul-order : tie.Need-mul-order
 mul-order c = search needs

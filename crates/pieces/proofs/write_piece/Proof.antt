@@ -6,7 +6,7 @@ use lib.ListN.{length, length-replicate}
 use Rattle.units.proofs.UnitSizes.{end-inside}
 use Rattle.pieces.proofs.PieceWriting.{Written, written-none, written-all, written-stopped, written-more}
 use Rattle.units.proofs.UnitWriting.{after-again}
-use Rattle.numbering.specs.Numbering.{NumberRoom}
+use Rattle.numbering.proofs.Taking.{room-kept}
 use borrow.Author.Needs.{needs}
 use Rattle.pieces.proofs.write_piece.Statement.{statement}
 use Rattle.pieces.proofs.write_piece.Tie as tie
@@ -19,7 +19,7 @@ use Rattle.units.proofs.write_unit.Reads as write-unit-reads
 
 abbrev Inv-loop : tie.InvT-loop
 Inv-loop clauses bindings nodes origins values₀ naming cells₀ order₀ a begin output₀ text₀ count n₀ written₀ values cells order output text n written =
-    (length values ≡ 524416) × (length text ≡ 131072) × (length output ≡ length output₀) × Written naming clauses bindings nodes origins values₀ a begin output₀ output n written × NumberRoom naming cells order × (length cells ≡ length cells₀) × (length order ≡ length order₀)
+    (length values ≡ 524416) × (length text ≡ 131072) × (length output ≡ length output₀) × Written naming clauses bindings nodes origins values₀ a begin output₀ output n written × (length cells ≡ length cells₀) × (length order ≡ length order₀)
 
 abbrev μ-loop : tie.MeasureT-loop
 μ-loop clauses bindings nodes origins values₀ naming cells₀ order₀ a begin output₀ text₀ count n₀ written₀ values cells order output text n written =
@@ -30,11 +30,11 @@ unit-count-requires c κs = search needs
 
 loop-holds : tie.Need-loop-holds Inv-loop μ-loop
 loop-holds c =
-    (c .before .before .before .before .before .before .pre .after .checked .values, length-replicate {A = ℕ} 131072 0, refl, written-none (c .before .before .before .before .before .before .args .naming), c .before .before .before .before .before .before .pre .numbers, refl, refl)
+    (c .before .before .before .before .before .before .pre .after .checked .values, length-replicate {A = ℕ} 131072 0, refl, written-none (c .before .before .before .before .before .before .args .naming), refl, refl)
 
 write-unit-requires : tie.Need-write-unit-requires Inv-loop μ-loop
 write-unit-requires c κs =
-    record { after = after-again (c .before .before .before .before .before .before .before .before .before .before .before .before .pre .after) (c .before .before .before .before .before .loop .inv .0); inside = subst (λ (k : ℕ). c .before .before .before .before .before .loop .n < k) (c .before .before .before .before .before .before .unit-count .ensures) (c .before .before .before .before .loop-test .taken); text = c .before .before .before .before .before .loop .inv .1; numbers = c .before .before .before .before .before .loop .inv .4 }
+    record { after = after-again (c .before .before .before .before .before .before .before .before .before .before .before .before .pre .after) (c .before .before .before .before .before .loop .inv .0); inside = subst (λ (k : ℕ). c .before .before .before .before .before .loop .n < k) (c .before .before .before .before .before .before .unit-count .ensures) (c .before .before .before .before .loop-test .taken); text = c .before .before .before .before .before .loop .inv .1; numbers = room-kept (c .before .before .before .before .before .before .before .before .before .before .before .before .args .naming) (c .before .before .before .before .before .before .before .before .before .before .before .before .args .cells .now) (c .before .before .before .before .before .before .before .before .before .before .before .before .args .order .now) (c .before .before .before .before .before .loop .cells) (c .before .before .before .before .before .loop .order) (c .before .before .before .before .before .loop .inv .4) (c .before .before .before .before .before .loop .inv .5) (c .before .before .before .before .before .before .before .before .before .before .before .before .pre .numbers) }
 
 sub-if1 : tie.Need-sub-if1 Inv-loop μ-loop
 sub-if1 c =
@@ -84,7 +84,7 @@ loop-again c =
     let loop-inv-0 = c .before .before .before .before .before .before .before .before .before .before .before .before .before .before .before .before .loop .inv .0 in
     let if1-left = c .before .before .before .before .before .if1 .left in
     let loop-n = c .before .before .before .before .before .before .before .before .before .before .before .before .before .before .before .before .loop .n in
-    (write-unit-says-sized-values, write-unit-says-sized-text, output-given ∙ loop-inv-2, written-more _ loop-inv-3 loop-inv-0 (subst (λ (k : ℕ). loop-n < k) unit-count-says loop-test-taken) write-unit-says (omega (arith, if1-left, loop-inv-2)) copy-text-says, c .before .before .before .before .before .before .before .before .before .before .write-unit .ensures .numbers, c .before .before .before .before .before .before .before .before .before .cells .given ∙ c .before .before .before .before .before .before .before .before .before .before .before .before .before .before .before .before .loop .inv .5, c .before .before .before .before .before .before .before .order .given ∙ c .before .before .before .before .before .before .before .before .before .before .before .before .before .before .before .before .loop .inv .6)
+    (write-unit-says-sized-values, write-unit-says-sized-text, output-given ∙ loop-inv-2, written-more _ loop-inv-3 loop-inv-0 (subst (λ (k : ℕ). loop-n < k) unit-count-says loop-test-taken) write-unit-says (omega (arith, if1-left, loop-inv-2)) copy-text-says, c .before .before .before .before .before .before .before .before .before .cells .given ∙ c .before .before .before .before .before .before .before .before .before .before .before .before .before .before .before .before .loop .inv .4, c .before .before .before .before .before .before .before .order .given ∙ c .before .before .before .before .before .before .before .before .before .before .before .before .before .before .before .before .loop .inv .5)
 
 same-length-4 : tie.Need-same-length-4 Inv-loop μ-loop
 same-length-4 c = search needs
@@ -97,7 +97,7 @@ same-length-6 c = search needs
 
 returns-2 : tie.Need-returns-2 Inv-loop μ-loop
 returns-2 c =
-    written-all _ (c .before .loop .inv .3) (c .before .loop .inv .0) (c .before .loop .inv .4) (omega (arith, c .before .before .unit-count .ensures, c .loop-test .left)) _ refl refl
+    written-all _ (c .before .loop .inv .3) (c .before .loop .inv .0) (omega (arith, c .before .before .unit-count .ensures, c .loop-test .left)) _ refl refl
 
 pub write-piece-spec : {M : Type 1} → statement M
 write-piece-spec =

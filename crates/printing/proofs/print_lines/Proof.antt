@@ -4,7 +4,7 @@ use Prim.Native.Nat.{ℕ, _-_, _<_}
 use native.Mathlib.Omega.{arith}
 use lib.ListN.{length, length-replicate}
 use lib.Seq.{length-take-le}
-use Rattle.numbering.specs.Numbering.{NumberRoom}
+use Rattle.numbering.proofs.Taking.{room-kept}
 use Rattle.units.proofs.UnitSizes.{end-inside}
 use Rattle.units.proofs.UnitWriting.{after-again}
 use borrow.Author.Needs.{needs}
@@ -18,7 +18,7 @@ use Rattle.units.proofs.write_unit.Reads as write-unit-reads
 
 abbrev Inv-loop : tie.InvT-loop
 Inv-loop clauses bindings nodes origins values₀ naming cells₀ order₀ a text₀ count n₀ values cells order text n =
-    (length values ≡ 524416) × (length text ≡ 131072) × NumberRoom naming cells order × (length cells ≡ length cells₀) × (length order ≡ length order₀)
+    (length values ≡ 524416) × (length text ≡ 131072) × (length cells ≡ length cells₀) × (length order ≡ length order₀)
 
 abbrev μ-loop : tie.MeasureT-loop
 μ-loop clauses bindings nodes origins values₀ naming cells₀ order₀ a text₀ count n₀ values cells order text n =
@@ -29,11 +29,11 @@ unit-count-requires c κs = search needs
 
 loop-holds : tie.Need-loop-holds Inv-loop μ-loop
 loop-holds c =
-    (c .before .before .before .before .before .pre .after .checked .values, length-replicate {A = ℕ} 131072 0, c .before .before .before .before .before .pre .numbers, refl, refl)
+    (c .before .before .before .before .before .pre .after .checked .values, length-replicate {A = ℕ} 131072 0, refl, refl)
 
 write-unit-requires : tie.Need-write-unit-requires Inv-loop μ-loop
 write-unit-requires c κs =
-    record { after = after-again (c .before .before .before .before .before .before .before .before .before .before .before .pre .after) (c .before .before .before .before .before .loop .inv .0); inside = subst (λ (k : ℕ). c .before .before .before .before .before .loop .n < k) (c .before .before .before .before .before .before .unit-count .ensures) (c .before .before .before .before .loop-test .taken); text = c .before .before .before .before .before .loop .inv .1; numbers = c .before .before .before .before .before .loop .inv .2 }
+    record { after = after-again (c .before .before .before .before .before .before .before .before .before .before .before .pre .after) (c .before .before .before .before .before .loop .inv .0); inside = subst (λ (k : ℕ). c .before .before .before .before .before .loop .n < k) (c .before .before .before .before .before .before .unit-count .ensures) (c .before .before .before .before .loop-test .taken); text = c .before .before .before .before .before .loop .inv .1; numbers = room-kept (c .before .before .before .before .before .before .before .before .before .before .before .args .naming) (c .before .before .before .before .before .before .before .before .before .before .before .args .cells .now) (c .before .before .before .before .before .before .before .before .before .before .before .args .order .now) (c .before .before .before .before .before .loop .cells) (c .before .before .before .before .before .loop .order) (c .before .before .before .before .before .loop .inv .2) (c .before .before .before .before .before .loop .inv .3) (c .before .before .before .before .before .before .before .before .before .before .before .pre .numbers) }
 
 array-share-prefix-text : tie.Need-array-share-prefix-text Inv-loop μ-loop
 array-share-prefix-text c =
@@ -63,7 +63,7 @@ loop-less c = search needs
 
 loop-again : tie.Need-loop-again Inv-loop μ-loop
 loop-again c =
-    (c .before .before .before .before .before .before .before .write-unit .ensures .sized .values, c .before .before .before .before .before .before .before .write-unit .ensures .sized .text, c .before .before .before .before .before .before .before .write-unit .ensures .numbers, c .before .before .before .before .before .before .cells .given ∙ c .before .before .before .before .before .before .before .before .before .before .before .before .before .loop .inv .3, c .before .before .before .before .order .given ∙ c .before .before .before .before .before .before .before .before .before .before .before .before .before .loop .inv .4)
+    (c .before .before .before .before .before .before .before .write-unit .ensures .sized .values, c .before .before .before .before .before .before .before .write-unit .ensures .sized .text, c .before .before .before .before .before .before .cells .given ∙ c .before .before .before .before .before .before .before .before .before .before .before .before .before .loop .inv .2, c .before .before .before .before .order .given ∙ c .before .before .before .before .before .before .before .before .before .before .before .before .before .loop .inv .3)
 
 same-length-3 : tie.Need-same-length-3 Inv-loop μ-loop
 same-length-3 c = search needs

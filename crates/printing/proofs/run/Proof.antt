@@ -33,13 +33,7 @@ slice-aggregate-print-readout c = search needs
 
 print-readout-requires : tie.Need-print-readout-requires
 print-readout-requires c κs =
-    let i = inside (c .before .before .before .before .before .before .before .read-input .last .1 .0) (c .before .before .before .before .before .before .before .read-input .ensures) (c .before .before .before .before .n .given .1) .0 in (record { inside = i; room = omega arith }, c .before .before .before .before .before .before .before .before .before .before .before .pre)
-
-same-length : tie.Need-same-length
-same-length c = search needs
-
-same-length-2 : tie.Need-same-length-2
-same-length-2 c = search needs
+    let i = inside (c .before .before .before .before .before .read-input .last .1 .0) (c .before .before .before .before .before .read-input .ensures) (c .before .before .n .given .1) .0 in record { inside = i; room = omega arith }
 
 returns-2 : tie.Need-returns-2
 returns-2 c = search needs
@@ -56,6 +50,4 @@ run-spec =
     returns
     slice-aggregate-print-readout
     print-readout-requires
-    same-length
-    same-length-2
     returns-2)

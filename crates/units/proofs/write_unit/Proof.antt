@@ -31,7 +31,7 @@ write-verdict-requires c κs =
 returns-2 : tie.Need-returns-2
 returns-2 c =
     unit-whole (c .before .before .before .before .before .before .before .before .before .pre)
-    (unit-heading (c .before .before .before .before .if1 .left) (c .if2 .taken) (c .before .before .write-verdict .ensures) (record { nodes = c .before .before .before .before .before .before .before .before .before .pre .after .checked .nodeRoom; values = c .before .before .before .before .before .before .before .before .before .pre .after .checked .values; text = c .before .before .write-verdict .ensures .room }) (c .before .before .before .before .before .before .before .before .before .pre .numbers))
+    (unit-heading (c .before .before .before .before .if1 .left) (c .if2 .taken) (c .before .before .write-verdict .ensures) (record { nodes = c .before .before .before .before .before .before .before .before .before .pre .after .checked .nodeRoom; values = c .before .before .before .before .before .before .before .before .before .pre .after .checked .values; text = c .before .before .write-verdict .ensures .room }))
 
 write-line-requires-2 : tie.Need-write-line-requires-2
 write-line-requires-2 c κs =

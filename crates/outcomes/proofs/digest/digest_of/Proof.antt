@@ -4,7 +4,7 @@ use Prim.Native.Nat.{ℕ, _-_, _*_, _≤_}
 use native.Mathlib.Omega.{arith}
 use lib.ListN.{length, length-replicate}
 use lib.Seq.{length-take-le}
-use Rattle.numbering.specs.Numbering.{NumberRoom}
+use Rattle.numbering.proofs.Taking.{room-kept}
 use Rattle.units.proofs.UnitWriting.{after-again}
 use Rattle.outcomes.proofs.DigestLaws.{TakenAfter, after-none, after-more, after-all, short, onwards, never-short, last-piece}
 use borrow.Author.Needs.{needs}
@@ -17,7 +17,7 @@ use Rattle.pieces.proofs.write_piece.Reads as write-piece-reads
 
 abbrev Inv-loop : tie.InvT-loop
 Inv-loop clauses bindings nodes origins values₀ naming cells₀ order₀ a output₀ total₀ hash₀ clause₀ values cells order output total hash clause =
-    (length values ≡ 524416) × (length output ≡ 131072) × (total ≤ 131072 * clause) × (clause ≤ 65535) × TakenAfter naming clauses bindings nodes origins values₀ a clause total hash × NumberRoom naming cells order × (length cells ≡ length cells₀) × (length order ≡ length order₀)
+    (length values ≡ 524416) × (length output ≡ 131072) × (total ≤ 131072 * clause) × (clause ≤ 65535) × TakenAfter naming clauses bindings nodes origins values₀ a clause total hash × (length cells ≡ length cells₀) × (length order ≡ length order₀)
 
 abbrev μ-loop : tie.MeasureT-loop
 μ-loop clauses bindings nodes origins values₀ naming cells₀ order₀ a output₀ total₀ hash₀ clause₀ values cells order output total hash clause =
@@ -25,7 +25,7 @@ abbrev μ-loop : tie.MeasureT-loop
 
 loop-holds : tie.Need-loop-holds Inv-loop μ-loop
 loop-holds c =
-    (c .before .before .before .before .pre .after .checked .values, length-replicate {A = ℕ} 131072 0, omega arith, omega arith, after-none (c .before .before .before .before .args .naming), c .before .before .before .before .pre .numbers, refl, refl)
+    (c .before .before .before .before .pre .after .checked .values, length-replicate {A = ℕ} 131072 0, omega arith, omega arith, after-none (c .before .before .before .before .args .naming), refl, refl)
 
 slice-aggregate-write-piece : tie.Need-slice-aggregate-write-piece Inv-loop μ-loop
 slice-aggregate-write-piece c =
@@ -33,7 +33,7 @@ slice-aggregate-write-piece c =
 
 write-piece-requires : tie.Need-write-piece-requires Inv-loop μ-loop
 write-piece-requires c κs =
-    record { after = after-again (c .before .before .before .before .before .before .before .before .before .pre .after) (c .before .before .before .before .loop .inv .0); numbers = c .before .before .before .before .loop .inv .5 }
+    record { after = after-again (c .before .before .before .before .before .before .before .before .before .pre .after) (c .before .before .before .before .loop .inv .0); numbers = room-kept (c .before .before .before .before .before .before .before .before .before .args .naming) (c .before .before .before .before .before .before .before .before .before .args .cells .now) (c .before .before .before .before .before .before .before .before .before .args .order .now) (c .before .before .before .before .loop .cells) (c .before .before .before .before .loop .order) (c .before .before .before .before .loop .inv .5) (c .before .before .before .before .loop .inv .6) (c .before .before .before .before .before .before .before .before .before .pre .numbers) }
 
 array-share-prefix-output : tie.Need-array-share-prefix-output Inv-loop μ-loop
 array-share-prefix-output c =
@@ -73,7 +73,7 @@ loop-again : tie.Need-loop-again Inv-loop μ-loop
 loop-again c =
     let l = onwards (c .before .before .before .before .before .before .before .before .before .before .before .before .before .before .before .loop .inv .0) (c .before .before .before .before .before .before .before .before .before .before .before .before .before .before .before .loop .inv .1) (c .before .before .before .before .before .before .before .before .before .before .write-piece .ensures) (c .before .before .before .before .before .before .before .before .before .before .before .before .before .before .before .before .before .before .before .before .pre .after) _ (c .before .rest .given .1) in
     let s = short (c .before .before .before .before .before .before .before .before .before .before .before .before .before .before .before .loop .inv .0) (c .before .before .before .before .before .before .before .before .before .before .before .before .before .before .before .loop .inv .1) (c .before .before .before .before .before .before .before .before .before .before .write-piece .ensures) (c .before .before .before .before .before .before .before .before .before .before .before .before .before .before .before .before .before .before .before .before .pre .after) (c .before .before .before .before .before .output2 .given) in
-    (c .before .before .before .before .before .before .before .before .before .before .write-piece .ensures .values, c .before .before .before .before .before .output2 .given, omega (arith, c .before .before .before .before .before .before .before .before .before .before .before .before .before .before .before .loop .inv .2), omega arith, after-more (c .before .before .before .before .before .before .before .before .before .before .before .before .before .before .before .loop .inv .0) (c .before .before .before .before .before .before .before .before .before .before .before .before .before .before .before .loop .inv .1) (c .before .before .before .before .before .before .before .before .before .before .write-piece .ensures) (c .before .before .before .before .before .before .before .before .before .before .before .before .before .before .before .loop .inv .4) (c .before .before .before .with-bytes .ensures) _ (c .before .rest .given .1), c .before .before .before .before .before .before .before .before .before .before .write-piece .ensures .numbers, c .before .before .before .before .before .before .before .before .before .cells .given ∙ c .before .before .before .before .before .before .before .before .before .before .before .before .before .before .before .loop .inv .6, c .before .before .before .before .before .before .before .order .given ∙ c .before .before .before .before .before .before .before .before .before .before .before .before .before .before .before .loop .inv .7)
+    (c .before .before .before .before .before .before .before .before .before .before .write-piece .ensures .values, c .before .before .before .before .before .output2 .given, omega (arith, c .before .before .before .before .before .before .before .before .before .before .before .before .before .before .before .loop .inv .2), omega arith, after-more (c .before .before .before .before .before .before .before .before .before .before .before .before .before .before .before .loop .inv .0) (c .before .before .before .before .before .before .before .before .before .before .before .before .before .before .before .loop .inv .1) (c .before .before .before .before .before .before .before .before .before .before .write-piece .ensures) (c .before .before .before .before .before .before .before .before .before .before .before .before .before .before .before .loop .inv .4) (c .before .before .before .with-bytes .ensures) _ (c .before .rest .given .1), c .before .before .before .before .before .before .before .before .before .cells .given ∙ c .before .before .before .before .before .before .before .before .before .before .before .before .before .before .before .loop .inv .5, c .before .before .before .before .before .before .before .order .given ∙ c .before .before .before .before .before .before .before .before .before .before .before .before .before .before .before .loop .inv .6)
 
 pub digest-of-spec : {M : Type 1} → statement M
 digest-of-spec =

@@ -32,7 +32,7 @@ digest-of-requires c κs =
 
 digest-of-requires-2 : tie.Need-digest-of-requires-2
 digest-of-requires-2 c κs =
-    record { after = after-again (record { day = _; file = _; before = _; lent = _; symbols = _; rows = _; checked = c .before .before .before .before .before .before .before .before .before .before .before .before .before .before .before .before .before .before .before .before .before .before .before .before .before .before .before .before .before .before .before .before .before .before .before .check-with .ensures }) (c .before .before .before .before .before .before .before .before .before .before .before .digest-of .ensures .values); numbers = (c .before .before .before .before .before .before .before .before .before .before .cells .given ∙ c .before .before .before .before .before .before .before .before .before .before .before .before .before .before .before .before .before .before .before .before .before .before .before .before .before .before .before .before .before .before .before .before .before .before .before .before .before .before .before .before .before .before .before .before .before .before .before .before .before .before .pre .0, c .before .before .before .before .before .before .before .before .order .given ∙ c .before .before .before .before .before .before .before .before .before .before .before .before .before .before .before .before .before .before .before .before .before .before .before .before .before .before .before .before .before .before .before .before .before .before .before .before .before .before .before .before .before .before .before .before .before .before .before .before .before .before .pre .1) }
+    record { after = after-again (record { day = _; file = _; before = _; lent = _; symbols = _; rows = _; checked = c .before .before .before .before .before .before .before .before .before .before .before .before .before .before .before .before .before .before .before .before .before .before .before .before .before .before .before .before .before .before .before .before .before .before .before .check-with .ensures }) (c .before .before .before .before .before .before .before .before .before .before .before .digest-of .ensures .values); numbers = record { cells = c .before .before .before .before .before .before .before .before .before .before .cells .given ∙ c .before .before .before .before .before .before .before .before .before .before .before .before .before .before .before .before .before .before .before .before .before .before .before .before .before .before .before .before .before .before .before .before .before .before .before .before .before .before .before .before .before .before .before .before .before .before .before .before .before .before .pre .cells; list = c .before .before .before .before .before .before .before .before .order .given ∙ c .before .before .before .before .before .before .before .before .before .before .before .before .before .before .before .before .before .before .before .before .before .before .before .before .before .before .before .before .before .before .before .before .before .before .before .before .before .before .before .before .before .before .before .before .before .before .before .before .before .before .pre .list } }
 
 same-length : tie.Need-same-length
 same-length c =

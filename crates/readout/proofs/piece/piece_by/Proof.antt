@@ -6,14 +6,14 @@ use Rattle.readout.proofs.piece.piece_by.Tie as tie
 use Rattle.readout.proofs.piece.piece_by.Reads as reads
 use Rattle.readout.proofs.piece.piece_by.Lts as lts
 use Rattle.checker.proofs.check_with.Reads as check-with-reads
-use Rattle.pieces.proofs.write_piece.Reads as write-piece-reads
+use Rattle.pieces.proofs.write_named_piece.Reads as write-named-piece-reads
 
 check-with-requires : tie.Need-check-with-requires
 check-with-requires c κs = search needs
 
-write-piece-requires : tie.Need-write-piece-requires
-write-piece-requires c κs =
-    record { after = record { day = _; file = _; before = _; lent = _; symbols = _; rows = _; checked = c .before .before .before .before .before .before .before .before .before .before .before .before .before .before .before .before .check-with .ensures }; numbers = c .before .before .before .before .before .before .before .before .before .before .before .before .before .before .before .before .before .before .before .before .before .before .before .before .before .before .before .before .before .before .before .before .pre }
+write-named-piece-requires : tie.Need-write-named-piece-requires
+write-named-piece-requires c κs =
+    record { day = _; file = _; before = _; lent = _; symbols = _; rows = _; checked = c .before .before .before .before .before .before .before .before .before .before .before .before .before .before .check-with .ensures }
 
 same-length : tie.Need-same-length
 same-length c = search needs
@@ -30,27 +30,19 @@ same-length-4 c = search needs
 same-length-5 : tie.Need-same-length-5
 same-length-5 c = search needs
 
-same-length-6 : tie.Need-same-length-6
-same-length-6 c = search needs
-
-same-length-7 : tie.Need-same-length-7
-same-length-7 c = search needs
-
 returns : tie.Need-returns
 returns c =
-    piece-written _ _ _ _ _ _ _ _ _ _ _ _ _ _ _ _ _ _ _ _ (c .before .before .before .before .before .before .before .before .before .before .before .before .before .before .before .before .before .before .before .before .before .before .before .check-with .ensures) (c .before .before .before .before .before .before .write-piece .ensures)
+    piece-written _ _ _ _ _ _ _ _ _ _ _ _ _ _ _ _ _ _ (c .before .before .before .before .before .before .before .before .before .before .before .before .before .before .before .before .before .check-with .ensures) (c .before .before .write-named-piece .ensures)
 
 pub piece-by-spec : {M : Type 1} → statement M
 piece-by-spec =
     tie.close
     (tie.spec
     check-with-requires
-    write-piece-requires
+    write-named-piece-requires
     same-length
     same-length-2
     same-length-3
     same-length-4
     same-length-5
-    same-length-6
-    same-length-7
     returns)
