@@ -166,7 +166,7 @@ fn write_numbered_piece(
     )
 }
 
-// A piece with variables named in either way. What a naming needs is made here, after the check, so that the check has the stack for itself.
+// A piece with variables named in either way: what the naming needs is made here.
 pub fn write_named_piece(
     clauses: &[u16],
     bindings: &[u16],

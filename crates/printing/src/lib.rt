@@ -112,8 +112,7 @@ fn print_numbered(
     );
 }
 
-// Checks the file of an input once, on its day, and prints a readout by what the check left. What a naming needs is made after the check, so that the check has
-// the stack for itself.
+// Checks the file of an input once, on its day, and prints a readout by what the check left.
 fn print_with(
     space: &[u8],
     n: usize,
