@@ -17,8 +17,8 @@
 //! Check and readouts take a day: rules that a file gives a first and a last day are in force between these, and
 //! only a proof from rules in force is accepted.
 //!
-//! [`canonical_readout()`] is the readout with the variables of each line numbered by first appearance, so that a clause looks
-//! the same whichever planner wrote it.
+//! [`canonical_readout()`] is the readout with the variables of each line numbered by first appearance, so that clauses
+//! with the same literals in the same order, over the same symbols, print the same literals whichever planner wrote them.
 //!
 //! [`check()`], the readouts, [`covers()`] and [`merge()`] take care of the stack themselves. Functions that end in
 //! `_here` run on the caller's, and say how much of it they need. A service that checks many files keeps a
