@@ -42,7 +42,8 @@ use Rattle.appearance.proofs.Positions.{longer-same, longer-then, shown-longer}
 use Rattle.text.specs.Buffer.{Wrote}
 use Rattle.numbering.specs.Numbering.{nameOf, lineOf, NumberRoom, Numbered}
 use Rattle.numbering.specs.declared.Naming.{Naming}
-use Rattle.numbering.proofs.Taking.{numbered-none, line-named}
+use Rattle.numbering.proofs.Keeping.{numbered-none}
+use Rattle.numbering.proofs.LineNames.{line-named}
 use Rattle.names.specs.declared.Place.{Place}
 use Rattle.terms.specs.Writing.{Sized, WritingReady}
 use Rattle.literal_text.specs.Literals.{PartWritten, WritesLiteral}

@@ -1,1 +1,3 @@
 pub mod Taking
+pub mod Keeping
+pub mod LineNames

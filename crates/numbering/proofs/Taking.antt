@@ -12,16 +12,8 @@ use Rattle.record.specs.Record.{pick}
 use Rattle.unification.specs.Nodes.{part, NodesOk}
 use Rattle.unification.specs.Row.{Variable, same}
 use Rattle.unification.proofs.Tests.{same-eq, same-refl, true-not-false}
-use Rattle.derivation.specs.Derivation.{Derivation}
-use Rattle.derivation.specs.Written.{written}
-use Rattle.verdict.specs.State.{State, rowOf, termOf}
-use Rattle.verdict.specs.Text.{literalsText}
-use Rattle.verdict.specs.Readout.{lineWith}
-use Rattle.appearance.specs.Appearance.{position, noted, allShown}
-use Rattle.numbering.specs.Numbering.{lineOf, nameOf, numberCell, Numberable, NumberAt, NumbersFrom, NumberRoom, Numbers, Numbered, hasNumber, countAfter, NumberReady, TakesNumber}
-use Rattle.appearance.specs.Growing.{Longer}
-use Rattle.numbering.specs.declared.Naming.{Naming}
-use Rattle.numbering.specs.declared.Naming.the-variants.{ByIndex, ByAppearance}
+use Rattle.appearance.specs.Appearance.{position, noted}
+use Rattle.numbering.specs.Numbering.{numberCell, Numberable, NumberAt, NumbersFrom, Numbers, hasNumber, countAfter, NumberReady, TakesNumber}
 use Rattle.appearance.proofs.Positions.{noted-old, noted-new}
 
 -- The cell of a variable is its own, and inside the array.
@@ -133,31 +125,3 @@ module _ {N K L : List ℕ} {count : ℕ} {x : Variable} (R : NumberReady N K L 
     where
       differs : 0 ≤ n → n < 0 + length seen → getD L n 0 ≡ numberCell N x → ⊥
       differs low high e = true-not-false (ap (λ (b : Bool). pick b (eqb (getD L n 0) cell) false) (lt-ltb n count (omega (arith, high, G .counted))) ∙ eq-eqb (getD L n 0) cell (e ∙ sym c)) q
-
--- Fewer variables, of those that have numbers.
-numbers-fewer : (N K L : List ℕ) (i : ℕ) (seen more : List Variable) → NumbersFrom N K L i (seen ++ more) → NumbersFrom N K L i seen
-numbers-fewer N K L i [] more E = tt
-numbers-fewer N K L i (x ∷ xs) more E = (E .0, numbers-fewer N K L (suc i) xs more (E .1))
-
-numbers-before : {N K L : List ℕ} {count count′ : ℕ} {seen all : List Variable} → Longer seen all → count ≡ length seen → Numbers N K L count′ all → Numbers N K L count seen
-numbers-before {N} {K} {L} {seen = seen} W e G = record { room = G .room; counted = e; each = numbers-fewer N K L 0 seen (W .more) (subst (NumbersFrom N K L 0) (W .grown) (G .each)) }
-
--- Going back to the variables seen before: their numbers are as they were.
-pub numbered-back : (naming : Naming) (N K L K′ L′ : List ℕ) (count count′ : ℕ) (seen all : List Variable) → Longer seen all → Numbered naming N K L count seen → Numbered naming N K′ L′ count′ all → Numbered naming N K′ L′ count seen
-numbered-back ByIndex N K L K′ L′ count count′ seen all W G H = tt
-numbered-back ByAppearance N K L K′ L′ count count′ seen all W G H = numbers-before W (G .counted) H
-
--- At first none has a number.
-pub numbered-none : (naming : Naming) (N K L : List ℕ) → NumberRoom naming K L → Numbered naming N K L 0 []
-numbered-none ByIndex N K L h = tt
-numbered-none ByAppearance N K L h = record { room = h; counted = refl; each = tt }
-
--- Room stays as long as the lengths do.
-pub room-kept : (naming : Naming) (K L K′ L′ : List ℕ) → length K′ ≡ length K → length L′ ≡ length L → NumberRoom naming K L → NumberRoom naming K′ L′
-room-kept ByIndex K L K′ L′ p q h = tt
-room-kept ByAppearance K L K′ L′ p q h = record { cells = p ∙ h .cells; list = q ∙ h .list }
-
--- A line over the names of its variables.
-pub line-named : (naming : Naming) (S : State) (n : ℕ) (c : Derivation) → lineOf naming S n c ≡ lineWith (literalsText (nameOf naming (rowOf S) (allShown [] (written (termOf S) c))) (written (termOf S) c)) n c
-line-named ByIndex S n c = refl
-line-named ByAppearance S n c = refl

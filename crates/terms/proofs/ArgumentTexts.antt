@@ -20,7 +20,7 @@ use Rattle.numbering.specs.Numbering.{nameOf, Numbered}
 use Rattle.appearance.specs.Growing.{Longer}
 use Rattle.numbering.specs.declared.Naming.{Naming}
 use Rattle.appearance.proofs.Positions.{longer-same, longer-then, appearing-longer}
-use Rattle.numbering.proofs.Taking.{numbered-back}
+use Rattle.numbering.proofs.Keeping.{numbered-back}
 use Rattle.text.specs.Buffer.{Wrote}
 use Rattle.terms.specs.Writing.{markBefore, closingText, Writable, WritingReady, WritingArgumentsReady, WritesTerm, argumentsOut, WritesArguments}
 use Rattle.terms.specs.declared.Written.the-variants.{Done, TooMany}

@@ -6,7 +6,7 @@ use lib.ListN.{length, length-replicate}
 use Rattle.units.proofs.UnitSizes.{end-inside}
 use Rattle.pieces.proofs.PieceWriting.{Written, written-none, written-all, written-stopped, written-more}
 use Rattle.units.proofs.UnitWriting.{after-again}
-use Rattle.numbering.proofs.Taking.{room-kept}
+use Rattle.numbering.proofs.Keeping.{room-kept}
 use borrow.Author.Needs.{needs}
 use Rattle.pieces.proofs.write_piece.Statement.{statement}
 use Rattle.pieces.proofs.write_piece.Tie as tie

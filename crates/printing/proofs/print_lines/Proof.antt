@@ -4,7 +4,7 @@ use Prim.Native.Nat.{ℕ, _-_, _<_}
 use native.Mathlib.Omega.{arith}
 use lib.ListN.{length, length-replicate}
 use lib.Seq.{length-take-le}
-use Rattle.numbering.proofs.Taking.{room-kept}
+use Rattle.numbering.proofs.Keeping.{room-kept}
 use Rattle.units.proofs.UnitSizes.{end-inside}
 use Rattle.units.proofs.UnitWriting.{after-again}
 use borrow.Author.Needs.{needs}

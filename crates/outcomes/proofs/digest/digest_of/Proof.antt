@@ -4,7 +4,7 @@ use Prim.Native.Nat.{ℕ, _-_, _*_, _≤_}
 use native.Mathlib.Omega.{arith}
 use lib.ListN.{length, length-replicate}
 use lib.Seq.{length-take-le}
-use Rattle.numbering.proofs.Taking.{room-kept}
+use Rattle.numbering.proofs.Keeping.{room-kept}
 use Rattle.units.proofs.UnitWriting.{after-again}
 use Rattle.outcomes.proofs.DigestLaws.{TakenAfter, after-none, after-more, after-all, short, onwards, never-short, last-piece}
 use borrow.Author.Needs.{needs}
