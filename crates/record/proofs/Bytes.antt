@@ -1,13 +1,16 @@
 -- Writing a record and decoding it are inverse to each other, for one record and for a whole file.
 use mathlib.Core.Path.{_≡_, refl, sym, ap, ap₂, _∙_}
+use mathlib.Core.Option.{Option, none, some}
 use mathlib.Core.List.{List, [], _∷_, _++_, map, append-assoc}
-use Prim.Native.Nat.{ℕ, zero, suc, _+_, _*_, _/_, _%_, _<_}
+use Prim.Native.Nat.{ℕ, zero, suc, _+_, _*_, _%_, _/_, _≤_, _<_}
 use native.Mathlib.Omega.{arith}
 use lib.ListN.{length, getD, take, drop, take-append-drop, length-append, length-drop, drop-of-length-le}
 use lib.Seq.{length-take-le, drop-cons, getD-drop, take-at, drop-at}
-use Rattle.record.specs.Bytes.{lowThenHigh, recordBytes, fileBytes, Fits, AllFit, Bytes}
-use Rattle.record.specs.Record.{Record, recordCount, decoded, parts, records}
-use Rattle.record.proofs.Records.{Shaped}
+use Rattle.record.specs.Bytes.{lowThenHigh, fieldBytes, dayBytes, recordBytes, bytesIn, DaysFit, Fits, AllFit, Bytes}
+use Rattle.record.specs.Record.{Record, File, inForm, recordLength, recordCount, kindOf, countOf, fieldsOf, decodedIn, parts, records}
+use Rattle.record.proofs.Records.{HasDays, ShapedRecord, Shaped}
+use Rattle.record.specs.declared.Form.{Form}
+use Rattle.record.specs.declared.Form.the-variants.{Old, New}
 
 -- ── A list of a known length, by its elements ──
 
@@ -39,20 +42,30 @@ high-byte : (l h : ℕ) → l < 256 → (l + 256 * h) / 256 ≡ h
 high-byte l h b = omega arith
 
 -- Decoding the bytes of a record gives the record back.
-pub record-decoded : (r : Record) → length (r .fields) ≡ 7 → decoded (recordBytes r) ≡ r
+pub record-decoded : (form : Form) (r : Record) → ShapedRecord form r → decodedIn form (recordBytes form r) ≡ r
 unfolding recordBytes
-record-decoded r e =
-    let same : decoded (recordBytes r) .fields ≡ r .fields = simp rejoined (seven-elements (r .fields) e) in
-    λ i. record { kind = r .kind; count = r .count; fields = same i }
+record-decoded Old r h =
+    let same : decodedIn Old (recordBytes Old r) .fields ≡ r .fields = simp rejoined (seven-elements (r .fields) (h .seven)) in
+    λ i. record { kind = r .kind; count = r .count; fields = same i; days = sym (h .days) i }
+record-decoded New r h =
+    let same : decodedIn New (recordBytes New r) .fields ≡ r .fields = simp rejoined (seven-elements (r .fields) (h .seven)) in
+    let days : decodedIn New (recordBytes New r) .days ≡ r .days = rw (h .days .2) (simp rejoined refl) in
+    λ i. record { kind = r .kind; count = r .count; fields = same i; days = days i }
 
--- The bytes of a decoded part of sixteen bytes are that part.
-pub part-written : (part : List ℕ) → length part ≡ 16 → Bytes part → recordBytes (decoded part) ≡ part
+-- The bytes of a decoded part of a record's length are that part.
+pub part-written : (form : Form) (part : List ℕ) → length part ≡ recordLength form → Bytes part → recordBytes form (decodedIn form part) ≡ part
 unfolding recordBytes elements
-part-written part e b = simp (low-byte, high-byte, b) (elements-all part 0 16 e)
+part-written Old part e b = simp (low-byte, high-byte, b) (elements-all part 0 16 e)
+part-written New part e b = simp (low-byte, high-byte, b) (elements-all part 0 20 e)
 
-pub record-sixteen : (r : Record) → length (recordBytes r) ≡ 16
+days-four : (days : Option (ℕ × ℕ)) → length (dayBytes days) ≡ 4
+days-four none = refl
+days-four (some d) = refl
+
+pub record-whole : (form : Form) (r : Record) → length (recordBytes form r) ≡ recordLength form
 unfolding recordBytes
-record-sixteen r = refl
+record-whole Old r = refl
+record-whole New r = rw (days-four (r .days)) refl
 
 -- All elements are below a bound: of an empty list, and of a list with one or two more.
 record Below (b : ℕ) (xs : List ℕ) : Type 0 where
@@ -71,68 +84,87 @@ both : (xs ys : List ℕ) → Bytes xs → Bytes ys → Below 256 (xs ++ ys)
 both [] ys h k = record { at = k }
 both (x ∷ xs) ys h k = one-more (h 0) (both xs ys (λ i. h (suc i)) k)
 
--- The bytes of a record that sixteen bytes can hold are bytes, and a decoded part of bytes is such a record.
-pub record-bytes : (r : Record) → Fits r → Bytes (recordBytes r)
+-- The bytes of a record that a form can hold are bytes, and a decoded part of bytes is such a record.
+fields-below : (fields bytes : List ℕ) → ((i : ℕ) → getD fields i 0 < 65536) → Below 256 bytes → Below 256 (fieldBytes fields bytes)
+fields-below fields bytes n hs = two-more (n 0) (two-more (n 1) (two-more (n 2) (two-more (n 3) (two-more (n 4) (two-more (n 5) (two-more (n 6) hs))))))
+
+days-below : (days : Option (ℕ × ℕ)) → DaysFit New days → Below 256 (dayBytes days)
+days-below days f = rw (f .2) (two-more (f .3) (two-more (f .4) (no-elements 256 (omega arith))))
+
+pub record-bytes : (form : Form) (r : Record) → Fits form r → Bytes (recordBytes form r)
 unfolding recordBytes
-record-bytes r f =
-    let n = f .fieldsBits in
-    let all : Below 256 (recordBytes r) =
-    one-more (f .kindByte) (one-more (f .countByte)
-    (two-more (n 0) (two-more (n 1) (two-more (n 2) (two-more (n 3) (two-more (n 4) (two-more (n 5) (two-more (n 6) (no-elements 256 (omega arith))))))))))
-    in
-    all .at
+record-bytes Old r f = one-more (f .kindByte) (one-more (f .countByte) (fields-below (r .fields) [] (f .fieldsBits) (no-elements 256 (omega arith)))) .at
+record-bytes New r f = one-more (f .kindByte) (one-more (f .countByte) (fields-below (r .fields) (dayBytes (r .days)) (f .fieldsBits) (days-below (r .days) (f .daysFit)))) .at
 
 sixteen-bits : {l h : ℕ} → l < 256 → h < 256 → l + 256 * h < 65536
 sixteen-bits a b = omega arith
 
-pub part-fits : (part : List ℕ) → Bytes part → Fits (decoded part)
-part-fits part b =
-    let all : Below 65536 (decoded part .fields) =
+days-fit : (form : Form) (part : List ℕ) → Bytes part → DaysFit form (decodedIn form part .days)
+days-fit Old part b = refl
+days-fit New part b = (_, _, refl, sixteen-bits (b 16) (b 17), sixteen-bits (b 18) (b 19))
+
+decoded-fields : (form : Form) (part : List ℕ) → decodedIn form part ≡ record { kind = kindOf part; count = countOf part; fields = fieldsOf part; days = decodedIn form part .days }
+decoded-fields Old part = refl
+decoded-fields New part = refl
+
+pub part-fits : (form : Form) (part : List ℕ) → Bytes part → Fits form (decodedIn form part)
+part-fits form part b =
+    let all : Below 65536 (fieldsOf part) =
     one-more (sixteen-bits (b 2) (b 3)) (one-more (sixteen-bits (b 4) (b 5)) (one-more (sixteen-bits (b 6) (b 7))
     (one-more (sixteen-bits (b 8) (b 9)) (one-more (sixteen-bits (b 10) (b 11)) (one-more (sixteen-bits (b 12) (b 13))
     (one-more (sixteen-bits (b 14) (b 15)) (no-elements 65536 (omega arith))))))))
     in
-    record { kindByte = b 0; countByte = b 1; sevenFields = refl; fieldsBits = all .at }
+    rw (decoded-fields form part) (record { kindByte = b 0; countByte = b 1; sevenFields = refl; fieldsBits = all .at; daysFit = days-fit form part b })
 
 -- ── A whole file ──
 
-pub fits-shaped : (rs : List Record) → AllFit rs → Shaped rs
-fits-shaped [] f = tt
-fits-shaped (r ∷ rs) f = (f .0 .sevenFields, fits-shaped rs (f .1))
+days-shaped : (form : Form) (days : Option (ℕ × ℕ)) → DaysFit form days → HasDays form days
+days-shaped Old days f = f
+days-shaped New days f = (f .0, f .1, f .2)
 
-pub file-length : (rs : List Record) → length (fileBytes rs) ≡ 16 * length rs
-unfolding fileBytes
-file-length [] = refl
-file-length (r ∷ rs) = length-append (recordBytes r) (fileBytes rs) ∙ omega (arith, record-sixteen r, file-length rs)
+pub fits-shaped : (form : Form) (rs : List Record) → AllFit form rs → Shaped form rs
+fits-shaped form [] f = tt
+fits-shaped form (r ∷ rs) f = (record { seven = f .0 .sevenFields; days = days-shaped form (r .days) (f .0 .daysFit) }, fits-shaped form rs (f .1))
 
-pub file-joined : (rs ss : List Record) → fileBytes (rs ++ ss) ≡ fileBytes rs ++ fileBytes ss
-unfolding fileBytes
-file-joined [] ss = refl
-file-joined (r ∷ rs) ss = rw (file-joined rs ss) (sym (append-assoc (recordBytes r) (fileBytes rs) (fileBytes ss)))
+pub file-length : (form : Form) (rs : List Record) → length (bytesIn form rs) ≡ recordLength form * length rs
+unfolding bytesIn
+file-length Old [] = refl
+file-length New [] = refl
+file-length Old (r ∷ rs) = length-append (recordBytes Old r) (bytesIn Old rs) ∙ omega (arith, record-whole Old r, file-length Old rs)
+file-length New (r ∷ rs) = length-append (recordBytes New r) (bytesIn New rs) ∙ omega (arith, record-whole New r, file-length New rs)
+
+pub file-joined : (form : Form) (rs ss : List Record) → bytesIn form (rs ++ ss) ≡ bytesIn form rs ++ bytesIn form ss
+unfolding bytesIn
+file-joined form [] ss = refl
+file-joined form (r ∷ rs) ss = rw (file-joined form rs ss) (sym (append-assoc (recordBytes form r) (bytesIn form rs) (bytesIn form ss)))
 
 -- Its parts are the records' bytes, one after another.
-file-parts : (rs : List Record) → parts (length rs) (fileBytes rs) ≡ map recordBytes rs
-unfolding fileBytes
-file-parts [] = refl
-file-parts (r ∷ rs) =
-    rw (take-at (recordBytes r) (fileBytes rs) 16 (record-sixteen r), drop-at (recordBytes r) (fileBytes rs) 16 (record-sixteen r))
-    (ap (λ (k : List (List ℕ)). recordBytes r ∷ k) (file-parts rs))
+file-parts : (form : Form) (rs : List Record) → parts (recordLength form) (length rs) (bytesIn form rs) ≡ map (recordBytes form) rs
+unfolding bytesIn
+file-parts form [] = refl
+file-parts form (r ∷ rs) =
+    rw (take-at (recordBytes form r) (bytesIn form rs) (recordLength form) (record-whole form r), drop-at (recordBytes form r) (bytesIn form rs) (recordLength form) (record-whole form r))
+    (ap (λ (k : List (List ℕ)). recordBytes form r ∷ k) (file-parts form rs))
 
-all-decoded : (rs : List Record) → Shaped rs → map decoded (map recordBytes rs) ≡ rs
-all-decoded [] s = refl
-all-decoded (r ∷ rs) s = λ i. record-decoded r (s .0) i ∷ all-decoded rs (s .1) i
+all-decoded : (form : Form) (rs : List Record) → Shaped form rs → map (decodedIn form) (map (recordBytes form) rs) ≡ rs
+all-decoded form [] s = refl
+all-decoded form (r ∷ rs) s = λ i. record-decoded form r (s .0) i ∷ all-decoded form rs (s .1) i
+
+pub file-counted : (form : Form) (rs : List Record) → recordCount (inForm form (bytesIn form rs)) ≡ length rs
+file-counted Old rs = omega (arith, file-length Old rs)
+file-counted New rs = omega (arith, file-length New rs)
 
 -- Its records are those that it was made of.
-pub file-records : (rs : List Record) → Shaped rs → records (fileBytes rs) ≡ rs
+pub file-records : (form : Form) (rs : List Record) → Shaped form rs → records (inForm form (bytesIn form rs)) ≡ rs
 unfolding records
-file-records rs s =
-    let n : length (fileBytes rs) / 16 ≡ length rs = omega (arith, file-length rs) in
-    rw n (ap (map decoded) (file-parts rs) ∙ all-decoded rs s)
+file-records form rs s =
+    ap (λ (n : ℕ). map (decodedIn form) (parts (recordLength form) n (bytesIn form rs))) (file-counted form rs)
+    ∙ ap (map (decodedIn form)) (file-parts form rs) ∙ all-decoded form rs s
 
-pub file-bytes : (rs : List Record) → AllFit rs → Bytes (fileBytes rs)
-unfolding fileBytes
-file-bytes [] f = no-elements 256 (omega arith) .at
-file-bytes (r ∷ rs) f = both (recordBytes r) (fileBytes rs) (record-bytes r (f .0)) (file-bytes rs (f .1)) .at
+pub file-bytes : (form : Form) (rs : List Record) → AllFit form rs → Bytes (bytesIn form rs)
+unfolding bytesIn
+file-bytes form [] f = no-elements 256 (omega arith) .at
+file-bytes form (r ∷ rs) f = both (recordBytes form r) (bytesIn form rs) (record-bytes form r (f .0)) (file-bytes form rs (f .1)) .at
 
 -- A part of bytes has bytes.
 taken-bytes : (n : ℕ) (bytes : List ℕ) → Bytes bytes → Bytes (take n bytes)
@@ -149,24 +181,49 @@ no-bytes [] l = refl
 no-bytes (x ∷ xs) l = absurd (omega arith)
 
 -- A file of n whole records is made of its own records.
-parts-rewritten : (n : ℕ) (file : List ℕ) → length file ≡ 16 * n → Bytes file → fileBytes (map decoded (parts n file)) ≡ file
-unfolding fileBytes
-parts-rewritten zero file l b = no-bytes file l
-parts-rewritten (suc n) file l b =
-    ap₂ _++_
-    (part-written (take 16 file) (length-take-le 16 file (omega arith)) (taken-bytes 16 file b))
-    (parts-rewritten n (drop 16 file) (length-drop 16 file ∙ omega arith) (dropped-bytes 16 file b))
-    ∙ take-append-drop 16 file
+record Whole (form : Form) (n : ℕ) (bytes : List ℕ) : Type 0 where
+  is : length bytes ≡ recordLength form * n
 
-pub file-rewritten : (file : List ℕ) → length file % 16 ≡ 0 → Bytes file → fileBytes (records file) ≡ file
+one-there : (form : Form) (n : ℕ) (bytes : List ℕ) → Whole form (suc n) bytes → recordLength form ≤ length bytes
+one-there Old n bytes w = omega (arith, w .is)
+one-there New n bytes w = omega (arith, w .is)
+
+one-less : (form : Form) (n : ℕ) (bytes : List ℕ) → Whole form (suc n) bytes → Whole form n (drop (recordLength form) bytes)
+one-less Old n bytes w = record { is = length-drop 16 bytes ∙ omega (arith, w .is) }
+one-less New n bytes w = record { is = length-drop 20 bytes ∙ omega (arith, w .is) }
+
+none-there : (form : Form) (bytes : List ℕ) → Whole form 0 bytes → length bytes ≡ 0
+none-there Old bytes w = omega (arith, w .is)
+none-there New bytes w = omega (arith, w .is)
+
+parts-rewritten : (form : Form) (n : ℕ) (bytes : List ℕ) → Whole form n bytes → Bytes bytes → bytesIn form (map (decodedIn form) (parts (recordLength form) n bytes)) ≡ bytes
+unfolding bytesIn
+parts-rewritten form zero bytes w b = no-bytes bytes (none-there form bytes w)
+parts-rewritten form (suc n) bytes w b =
+    ap₂ _++_
+    (part-written form (take (recordLength form) bytes) (length-take-le (recordLength form) bytes (one-there form n bytes w)) (taken-bytes (recordLength form) bytes b))
+    (parts-rewritten form n (drop (recordLength form) bytes) (one-less form n bytes w) (dropped-bytes (recordLength form) bytes b))
+    ∙ take-append-drop (recordLength form) bytes
+
+-- The length is a multiple of the record's.
+abbrev pub WholeRecords : Form → List ℕ → Type 0
+WholeRecords Old bytes = length bytes % 16 ≡ 0
+WholeRecords New bytes = length bytes % 20 ≡ 0
+
+whole-counted : (form : Form) (bytes : List ℕ) → WholeRecords form bytes → Whole form (recordCount (inForm form bytes)) bytes
+whole-counted Old bytes l = record { is = omega arith }
+whole-counted New bytes l = record { is = omega arith }
+
+pub file-rewritten : (form : Form) (bytes : List ℕ) → WholeRecords form bytes → Bytes bytes → bytesIn form (records (inForm form bytes)) ≡ bytes
 unfolding records
-file-rewritten file l b = parts-rewritten (length file / 16) file (omega arith) b
+file-rewritten form bytes l b = parts-rewritten form (recordCount (inForm form bytes)) bytes (whole-counted form bytes l) b
 
 -- The records of a file of bytes fit.
-parts-fit : (n : ℕ) (file : List ℕ) → Bytes file → AllFit (map decoded (parts n file))
-parts-fit zero file b = tt
-parts-fit (suc n) file b = (part-fits (take 16 file) (taken-bytes 16 file b), parts-fit n (drop 16 file) (dropped-bytes 16 file b))
+parts-fit : (form : Form) (n : ℕ) (bytes : List ℕ) → Bytes bytes → AllFit form (map (decodedIn form) (parts (recordLength form) n bytes))
+parts-fit form zero bytes b = tt
+parts-fit form (suc n) bytes b =
+    (part-fits form (take (recordLength form) bytes) (taken-bytes (recordLength form) bytes b), parts-fit form n (drop (recordLength form) bytes) (dropped-bytes (recordLength form) bytes b))
 
-pub records-fit : (file : List ℕ) → Bytes file → AllFit (records file)
+pub records-fit : (file : File) → Bytes (file .bytes) → AllFit (file .form) (records file)
 unfolding records
-records-fit file b = parts-fit (recordCount file) file b
+records-fit file b = parts-fit (file .form) (recordCount file) (file .bytes) b

@@ -1,6 +1,7 @@
--- Laws of the records of a file: how many there are, that each has seven fields, which part of the file each is, and which records a
+-- Laws of the records of a file: how many there are, that each has seven fields and its form's days, which part of the file each is, and which records a
 -- part of a file and two files put together have.
 use mathlib.Core.Path.{_≡_, refl, sym, ap, _∙_}
+use mathlib.Core.Option.{Option, none, some}
 use mathlib.Core.List.{List, [], _∷_, _++_, map, map-append}
 use Prim.Native.Nat.{ℕ, zero, suc, _+_, _-_, _*_, _%_, _≤_, _<_}
 use native.Mathlib.Nat.{not-suc-le-zero, le-of-suc-le-suc}
@@ -8,62 +9,88 @@ use native.Mathlib.Omega.{arith}
 use borrow.Author.Tests.{lt-ltb}
 use lib.ListN.{length, take, drop, length-append, length-drop, length-map}
 use lib.Seq.{drop-drop, take-append-le, drop-append-le}
-use Rattle.record.specs.Record.{Record, recordCount, recordPart, decoded, parts, records}
+use Rattle.record.specs.Record.{Record, File, inForm, oldFile, recordLength, recordCount, recordPart, decodedIn, recordAt, parts, records}
+use Rattle.record.specs.declared.Form.{Form}
+use Rattle.record.specs.declared.Form.the-variants.{Old, New}
 
--- Every record of the list has exactly seven fields.
-abbrev pub Shaped : List Record → Type 0
-Shaped [] = Unit {0}
-Shaped (r ∷ rs) = (length (r .fields) ≡ 7) × Shaped rs
+-- The days that a record of a form has: none, or two.
+abbrev pub HasDays : Form → Option (ℕ × ℕ) → Type 0
+HasDays Old days = days ≡ none
+HasDays New days = (first : ℕ) × (last : ℕ) × (days ≡ some (first, last))
 
-parts-length : (n : ℕ) (file : List ℕ) → length (parts n file) ≡ n
-parts-length zero file = refl
-parts-length (suc n) file = ap suc (parts-length n (drop 16 file))
+-- Every record of the list has exactly seven fields, and the days of the form.
+pub record ShapedRecord (form : Form) (r : Record) : Type 0 where
+  pub seven : length (r .fields) ≡ 7
+  pub days : HasDays form (r .days)
 
-pub records-length : (file : List ℕ) → length (records file) ≡ recordCount file
+abbrev pub Shaped : Form → List Record → Type 0
+Shaped form [] = Unit {0}
+Shaped form (r ∷ rs) = ShapedRecord form r × Shaped form rs
+
+parts-length : (size n : ℕ) (bytes : List ℕ) → length (parts size n bytes) ≡ n
+parts-length size zero bytes = refl
+parts-length size (suc n) bytes = ap suc (parts-length size n (drop size bytes))
+
+pub records-length : (file : File) → length (records file) ≡ recordCount file
 unfolding records
-records-length file = length-map (parts (recordCount file) file) decoded ∙ parts-length (recordCount file) file
+records-length file =
+    length-map (parts (recordLength (file .form)) (recordCount file) (file .bytes)) (decodedIn (file .form)) ∙ parts-length (recordLength (file .form)) (recordCount file) (file .bytes)
 
-decoded-shaped : (ps : List (List ℕ)) → Shaped (map decoded ps)
-decoded-shaped [] = tt
-decoded-shaped (p ∷ ps) = (refl, decoded-shaped ps)
+pub decoded-shaped : (form : Form) (part : List ℕ) → ShapedRecord form (decodedIn form part)
+decoded-shaped Old part = record { seven = refl; days = refl }
+decoded-shaped New part = record { seven = refl; days = (_, _, refl) }
 
-pub records-shaped : (file : List ℕ) → Shaped (records file)
+all-shaped : (form : Form) (ps : List (List ℕ)) → Shaped form (map (decodedIn form) ps)
+all-shaped form [] = tt
+all-shaped form (p ∷ ps) = (decoded-shaped form p, all-shaped form ps)
+
+pub records-shaped : (file : File) → Shaped (file .form) (records file)
 unfolding records
-records-shaped file = decoded-shaped (parts (recordCount file) file)
+records-shaped file = all-shaped (file .form) (parts (recordLength (file .form)) (recordCount file) (file .bytes))
 
--- The part after k starts sixteen bytes further.
-next : (k : ℕ) (file : List ℕ) → drop (16 * suc k) file ≡ drop (16 * k) (drop 16 file)
-next k file =
+-- The part after k starts one record further.
+next : (form : Form) (k : ℕ) (bytes : List ℕ) → drop (recordLength form * suc k) bytes ≡ drop (recordLength form * k) (drop (recordLength form) bytes)
+next Old k bytes =
     let e : 16 * suc k ≡ 16 + 16 * k = omega arith in
-    ap (λ (n : ℕ). drop n file) e ∙ sym (drop-drop (16 * k) 16 file)
+    ap (λ (n : ℕ). drop n bytes) e ∙ sym (drop-drop (16 * k) 16 bytes)
+next New k bytes =
+    let e : 20 * suc k ≡ 20 + 20 * k = omega arith in
+    ap (λ (n : ℕ). drop n bytes) e ∙ sym (drop-drop (20 * k) 20 bytes)
 
--- From part k on, the parts go on with the sixteen bytes at 16 * k.
-parts-numbered : (n : ℕ) (file : List ℕ) (k : ℕ) → k < n
-    → drop k (map decoded (parts n file)) ≡ decoded (take 16 (drop (16 * k) file)) ∷ drop (suc k) (map decoded (parts n file))
-parts-numbered zero file k h = absurd (not-suc-le-zero h)
-parts-numbered (suc n) file zero h = refl
-parts-numbered (suc n) file (suc k) h = rw next (parts-numbered n (drop 16 file) k (le-of-suc-le-suc h))
+none-dropped : (form : Form) (bytes : List ℕ) → drop (recordLength form * 0) bytes ≡ bytes
+none-dropped Old bytes = refl
+none-dropped New bytes = refl
 
-pub record-numbered : (file : List ℕ) (k : ℕ) → k < recordCount file
-    → drop k (records file) ≡ decoded (recordPart file k) ∷ drop (suc k) (records file)
+-- From part k on, the parts go on with the bytes at k records' length.
+parts-numbered : (form : Form) (n : ℕ) (bytes : List ℕ) (k : ℕ) → k < n
+    → drop k (map (decodedIn form) (parts (recordLength form) n bytes)) ≡ decodedIn form (take (recordLength form) (drop (recordLength form * k) bytes)) ∷ drop (suc k) (map (decodedIn form) (parts (recordLength form) n bytes))
+parts-numbered form zero bytes k h = absurd (not-suc-le-zero h)
+parts-numbered form (suc n) bytes zero h = rw none-dropped refl
+parts-numbered form (suc n) bytes (suc k) h = rw next (parts-numbered form n (drop (recordLength form) bytes) k (le-of-suc-le-suc h))
+
+pub record-numbered : (file : File) (k : ℕ) → k < recordCount file → drop k (records file) ≡ recordAt file k ∷ drop (suc k) (records file)
 unfolding records recordPart
-record-numbered file k h = rw (lt-ltb _ _ h) (parts-numbered (recordCount file) file k h)
+record-numbered file k h = rw (lt-ltb _ _ h) (parts-numbered (file .form) (recordCount file) (file .bytes) k h)
 
 -- The records from record k on are those of the part of the file that begins with it.
-parts-dropped : (k n m : ℕ) (file : List ℕ) → m ≡ k + n → map decoded (parts n (drop (16 * k) file)) ≡ drop k (map decoded (parts m file))
-parts-dropped zero n m file e = let same : n ≡ m = omega arith in rw same refl
-parts-dropped (suc k) n zero file e = absurd (omega arith)
-parts-dropped (suc k) n (suc m) file e = rw next (parts-dropped k n m (drop 16 file) (omega arith))
+parts-dropped : (form : Form) (k n m : ℕ) (bytes : List ℕ) → m ≡ k + n → map (decodedIn form) (parts (recordLength form) n (drop (recordLength form * k) bytes)) ≡ drop k (map (decodedIn form) (parts (recordLength form) m bytes))
+parts-dropped form zero n m bytes e = let same : n ≡ m = omega arith in rw (same, none-dropped) refl
+parts-dropped form (suc k) n zero bytes e = absurd (omega arith)
+parts-dropped form (suc k) n (suc m) bytes e = rw next (parts-dropped form k n m (drop (recordLength form) bytes) (omega arith))
 
-pub records-dropped : (file : List ℕ) (k : ℕ) → k ≤ recordCount file → records (drop (16 * k) file) ≡ drop k (records file)
+rest-counted : (form : Form) (k : ℕ) (bytes : List ℕ) → recordCount (inForm form (drop (recordLength form * k) bytes)) ≡ recordCount (inForm form bytes) - k
+rest-counted Old k bytes = omega (arith, length-drop (16 * k) bytes)
+rest-counted New k bytes = omega (arith, length-drop (20 * k) bytes)
+
+pub records-dropped : (form : Form) (bytes : List ℕ) (k : ℕ) → k ≤ recordCount (inForm form bytes) → records (inForm form (drop (recordLength form * k) bytes)) ≡ drop k (records (inForm form bytes))
 unfolding records
-records-dropped file k h =
-    let left : recordCount (drop (16 * k) file) ≡ recordCount file - k = omega (arith, length-drop (16 * k) file) in
-    rw left (parts-dropped k (recordCount file - k) (recordCount file) file (omega arith))
+records-dropped form bytes k h =
+    ap (λ (n : ℕ). map (decodedIn form) (parts (recordLength form) n (drop (recordLength form * k) bytes))) (rest-counted form k bytes)
+    ∙ parts-dropped form k (recordCount (inForm form bytes) - k) (recordCount (inForm form bytes)) bytes (omega arith)
 
 -- The records of two files put together, where the first has whole records: the first's, then the second's.
 parts-joined : (n m k : ℕ) (first second : List ℕ) → k ≡ n + m → length first ≡ 16 * n
-    → parts k (first ++ second) ≡ parts n first ++ parts m second
+    → parts 16 k (first ++ second) ≡ parts 16 n first ++ parts 16 m second
 parts-joined zero m k [] second e l = let same : k ≡ m = omega arith in rw same refl
 parts-joined zero m k (x ∷ xs) second e l = absurd (omega arith)
 parts-joined (suc n) m zero first second e l = absurd (omega arith)
@@ -71,9 +98,9 @@ parts-joined (suc n) m (suc k) first second e l =
     rw (take-append-le 16 first second (omega arith), drop-append-le 16 first second (omega arith))
     (ap (λ (ps : List (List ℕ)). take 16 first ∷ ps) (parts-joined n m k (drop 16 first) second (omega arith) (length-drop 16 first ∙ omega arith)))
 
-pub records-joined : (first second : List ℕ) → length first % 16 ≡ 0 → records (first ++ second) ≡ records first ++ records second
+pub records-joined : (first second : List ℕ) → length first % 16 ≡ 0 → records (oldFile (first ++ second)) ≡ records (oldFile first) ++ records (oldFile second)
 unfolding records
 records-joined first second l =
-    let count : recordCount (first ++ second) ≡ recordCount first + recordCount second = omega (arith, length-append first second) in
-    ap (map decoded) (parts-joined (recordCount first) (recordCount second) (recordCount (first ++ second)) first second count (omega arith))
-    ∙ map-append decoded (parts (recordCount first) first) (parts (recordCount second) second)
+    let count : recordCount (oldFile (first ++ second)) ≡ recordCount (oldFile first) + recordCount (oldFile second) = omega (arith, length-append first second) in
+    ap (map (decodedIn Old)) (parts-joined (recordCount (oldFile first)) (recordCount (oldFile second)) (recordCount (oldFile (first ++ second))) first second count (omega arith))
+    ∙ map-append (decodedIn Old) (parts 16 (recordCount (oldFile first)) first) (parts 16 (recordCount (oldFile second)) second)

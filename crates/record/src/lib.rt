@@ -1,12 +1,28 @@
-// The records of a proof file: sixteen bytes each, handed out as a part of the caller's file and never copied. Every
+// The records of a proof file: sixteen bytes each, or twenty in the new form, handed out as a part of the caller's file and never copied. Every
 // function here takes any number and any bytes.
 ghost use mathlib.Core.Path.{_≡_};
 ghost use lib.ListN.{getD};
-ghost use Rattle.record.specs.Record.{recordPart, kindOf, countOf, fieldOf};
+ghost use Rattle.record.specs.Record.{oldFile, newFile, inForm, recordCount, recordPart, kindOf, countOf, fieldOf};
 
-// The part of the file that is record k, or the empty part where k is not wholly inside.
-pub fn record_part(file: &[u8], k: usize) -> &[u8]
-    ensures { λ r. ⌜ now r ≡ recordPart (now (file .entry)) k ⌝ }
+// The form of a file: sixteen bytes a record, or twenty with the days beside a clause.
+pub enum Form {
+    Old,
+    New,
+}
+
+// How many records are wholly inside the file.
+pub fn record_count(form: Form, file: &[u8]) -> usize
+    ensures { λ n. ⌜ n ≡ recordCount (inForm form (now (file .entry))) ⌝ }
+{
+    match form {
+        Form::Old => file.len() / 16,
+        Form::New => file.len() / 20,
+    }
+}
+
+// The sixteen bytes of record k of the old form, or the empty part.
+fn old_part(file: &[u8], k: usize) -> &[u8]
+    ensures { λ r. ⌜ now r ≡ recordPart (oldFile (now (file .entry))) k ⌝ }
 {
     if k < file.len() / 16 {
         let from = 16 * k;
@@ -14,6 +30,29 @@ pub fn record_part(file: &[u8], k: usize) -> &[u8]
         &file[from..to]
     } else {
         &file[0..0]
+    }
+}
+
+// The twenty bytes of record k of the new form, or the empty part.
+fn new_part(file: &[u8], k: usize) -> &[u8]
+    ensures { λ r. ⌜ now r ≡ recordPart (newFile (now (file .entry))) k ⌝ }
+{
+    if k < file.len() / 20 {
+        let from = 20 * k;
+        let to = from + 20;
+        &file[from..to]
+    } else {
+        &file[0..0]
+    }
+}
+
+// The part of the file that is record k, or the empty part where k is not wholly inside.
+pub fn record_part(form: Form, file: &[u8], k: usize) -> &[u8]
+    ensures { λ r. ⌜ now r ≡ recordPart (inForm form (now (file .entry))) k ⌝ }
+{
+    match form {
+        Form::Old => old_part(file, k),
+        Form::New => new_part(file, k),
     }
 }
 

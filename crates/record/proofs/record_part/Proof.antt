@@ -1,59 +1,35 @@
--- Both sides make the same test; where it holds, `to - from` is sixteen, and where it fails both parts are empty.
-use mathlib.Core.Path.{_≡_}
-use Prim.Native.Nat.{ℕ, _+_, _-_}
-use native.Mathlib.Omega.{arith}
+use mathlib.Core.Path.{sym, ap, _∙_}
+use Rattle.record.specs.Record.{recordPart, inForm}
+use Rattle.record.specs.declared.Form.{Form}
 use borrow.Author.Needs.{needs}
-use borrow.Author.Tests.{lt-ltb, le-ltb}
-use Rattle.record.specs.Record.{recordPart}
 use Rattle.record.proofs.record_part.Statement.{statement}
 use Rattle.record.proofs.record_part.Tie as tie
+use Rattle.record.proofs.record_part.Reads as reads
+use Rattle.record.proofs.record_part.Lts as lts
+use Rattle.record.proofs.new_part.Reads as new-part-reads
+use Rattle.record.proofs.old_part.Reads as old-part-reads
 
-sixteen : (n : ℕ) → n + 16 - n ≡ 16
-sixteen n = omega arith
+enum-told : tie.Need-enum-told
+enum-told c = search needs
 
-mul-from : tie.Need-mul-from
-mul-from c = search needs
+old-part-requires : tie.Need-old-part-requires
+old-part-requires c κs = search needs
 
-add-to : tie.Need-add-to
-add-to c = search needs
+enum-told-2 : tie.Need-enum-told-2
+enum-told-2 c = search needs
 
-sub-result : tie.Need-sub-result
-sub-result c = search needs
-
-part-result-start : tie.Need-part-result-start
-part-result-start c = search needs
-
-part-result-end : tie.Need-part-result-end
-part-result-end c = search needs
-
-sub-result-2 : tie.Need-sub-result-2
-sub-result-2 c = search needs
-
-part-result-start-2 : tie.Need-part-result-start-2
-part-result-start-2 c = search needs
-
-part-result-end-2 : tie.Need-part-result-end-2
-part-result-end-2 c = search needs
+new-part-requires : tie.Need-new-part-requires
+new-part-requires c κs = search needs
 
 returns : tie.Need-returns
-unfolding recordPart
-returns c = rw (lt-ltb _ _ (c .before .if1 .taken), sixteen)
+returns c =
+    c .old-part .ensures ∙ sym (ap (λ (f : Form). recordPart (inForm f (c .before .before .before .before .args .file .now)) (c .before .before .before .before .args .k)) (c .before .enum-told .given .1))
 
 returns-2 : tie.Need-returns-2
-unfolding recordPart
-returns-2 c = rw (le-ltb _ _ (c .before .if1 .left))
+returns-2 c =
+    c .new-part .ensures ∙ sym (ap (λ (f : Form). recordPart (inForm f (c .before .before .before .before .args .file .now)) (c .before .before .before .before .args .k)) (c .before .enum-told2 .given .1))
 
 pub record-part-spec : {M : Type 1} → statement M
 record-part-spec =
     tie.close
-    (tie.spec
-    mul-from
-    add-to
-    sub-result
-    part-result-start
-    part-result-end
-    sub-result-2
-    part-result-start-2
-    part-result-end-2
-    returns
-    returns-2)
+    (tie.spec enum-told old-part-requires enum-told-2 new-part-requires returns returns-2)
