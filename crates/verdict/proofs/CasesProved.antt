@@ -5,8 +5,8 @@ use mathlib.Core.List.{List, [], _∷_, _++_, map}
 use Prim.Native.Nat.{ℕ, zero, suc, _+_, _-_, _/_}
 use native.Mathlib.Omega.{arith}
 use lib.ListN.{length, take, drop, replicate, length-replicate, take-append-drop}
-use Rattle.record.specs.Bytes.{recordBytes, fileBytes}
-use Rattle.record.specs.Record.{pick, Record, decoded, parts, records}
+use Rattle.record.specs.Bytes.{recordBytes, bytesIn, fileBytes}
+use Rattle.record.specs.Record.{pick, oldFile, Record, decodedIn, parts, records}
 use Rattle.unification.specs.Environment.{Binding, Environment}
 use Rattle.unification.specs.Outlines.{mostOutlinePairs, clashWithin}
 use Rattle.unification.specs.Row.{Row, application, rowAt}
@@ -16,14 +16,15 @@ use Rattle.unification.proofs.Limits.{work-16384}
 use Rattle.unification.proofs.Trees as trees
 use Rattle.derivation.specs.Derivation.{input, inputLiterals}
 use Rattle.verdict.specs.Cases.{recordOf, inputClause, nines, holding, Case, works, caseOf, caseLongest, caseTooLong, cases, StoredAsBytes, CasesHold, caseA, caseB, caseC, caseD, caseE, caseF, caseG, caseGBad, caseH, caseI, caseJ, caseRepeats, caseSeveral, caseSides, caseInOrder, caseInSeason, caseOutOfSeason, caseTwice, caseRepeatedLiteral, caseK}
-use Rattle.verdict.specs.Edges.{answerTo, ranges, unusedFields, outlines, severalLiterals, indexEdge, literalEdge, workEdge, eights, EdgesHold, RoomsHold, FarRowHolds, WindowsHold, ShortTablesHold, TextsHold}
+use Rattle.verdict.specs.Edges.{answerTo, ranges, unusedFields, outlines, severalLiterals, indexEdge, literalEdge, workEdge, eights, EdgesHold, RoomsHold, FarRowHolds, WindowsHold, FormsHold, ShortTablesHold, TextsHold}
 use Rattle.verdict.specs.Readout.{clauseLine, linesOf, joinedLines, readout, readoutLines}
 use Rattle.verdict.specs.Refusal.{badLength, mostLiterals, mostIndex}
 use Rattle.verdict.specs.State.{State, emptyState, derivations}
 use Rattle.verdict.specs.Step.{Ending, allStand, refusedAt, require, requireAll, enter, onNamed, step, read, addClause, stateOf}
 use Rattle.verdict.specs.Tables.{Tables, lengthsOf, symbolCells, rowCells, clauseCells, bindingCells, filled, filledTables, tablesGiven, tablesAfter}
-use Rattle.verdict.specs.Verdict.{refusal, verdictOf, leastLengths, check, answerNumbers, longEnough, answerOf, verdictGiven, stateGiven, Lengths, fittingLength, ending, Reading, untouched, readTo, reading}
+use Rattle.verdict.specs.Verdict.{refusal, verdictOf, leastLengths, check, answerNumbers, longEnough, answerOf, verdictGiven, stateGiven, Lengths, fittingLength, fitting, ending, Reading, untouched, readTo, reading}
 use Rattle.verdict.proofs.Endings.{reading-records, read-on}
+use Rattle.record.specs.declared.Form.the-variants.{Old}
 
 -- ── The case sheet: its tables are compared by the cells that they start with ──
 
@@ -77,26 +78,26 @@ caseFrom day file r work = record {
 }
 
 abbrev caseBy : ℕ → List ℕ → Lengths → Case
-caseBy day file lengths = caseFrom day file (reading file lengths) (pick (fittingLength (length file)) (works emptyState 0 (records file)) [])
+caseBy day file lengths = caseFrom day file (reading (oldFile file) lengths) (pick (fitting (oldFile file)) (works emptyState 0 (records (oldFile file))) [])
 
 case-by : (day : ℕ) (file : List ℕ) → caseOf day file ≡ caseBy day file ninesLengths
 unfolding tablesAfter check readoutLines
 case-by day file = (λ i. record {
   day = day;
   file = file;
-  answer = answerNumbers (check day file (lengthsOf nines));
-  tables = given-tables (reading file (lengthsOf nines)) i;
-  work = pick (fittingLength (length file)) (works emptyState 0 (records file)) [];
-  readout = readout day file (lengthsOf nines);
+  answer = answerNumbers (check day (oldFile file) (lengthsOf nines));
+  tables = given-tables (reading (oldFile file) (lengthsOf nines)) i;
+  work = pick (fitting (oldFile file)) (works emptyState 0 (records (oldFile file))) [];
+  readout = readout day (oldFile file) (lengthsOf nines);
 }) ∙ ap (caseBy day file) nines-lengths
 
 -- The same of a file whose length is given, so that the two longest files are not counted out.
 abbrev recordsOf : ℕ → List ℕ → List Record
-recordsOf n file = map decoded (parts (n / 16) file)
+recordsOf n file = map (decodedIn Old) (parts 16 (n / 16) file)
 
 abbrev caseAt : ℕ → List ℕ → ℕ → Case
 caseAt day file n =
-    caseFrom day file (pick (fittingLength n) (readTo (read emptyState 0 (recordsOf n file))) (untouched badLength)) (pick (fittingLength n) (works emptyState 0 (recordsOf n file)) [])
+    caseFrom day file (pick (fittingLength Old n) (readTo (read emptyState 0 (recordsOf n file))) (untouched badLength)) (pick (fittingLength Old n) (works emptyState 0 (recordsOf n file)) [])
 
 case-at : (day : ℕ) (file : List ℕ) → caseBy day file ninesLengths ≡ caseAt day file (length file)
 unfolding records ending
@@ -124,11 +125,11 @@ casesAfter =
     caseD ∷ caseE ∷ caseF ∷ caseG ∷ caseGBad ∷ caseH ∷ caseI ∷ caseJ ∷ caseRepeats ∷ caseSeveral ∷ caseSides ∷ caseInOrder ∷ caseInSeason ∷ caseOutOfSeason ∷ caseTwice ∷ caseRepeatedLiteral ∷ caseK ∷ []
 
 computed-before : madeFrom casesBefore ≡ casesBefore
-unfolding fileBytes recordBytes records ending require addClause clashWithin mostOutlinePairs run mostWork mostBindings mostLinks mostLiterals mostIndex
+unfolding bytesIn recordBytes records ending require addClause clashWithin mostOutlinePairs run mostWork mostBindings mostLinks mostLiterals mostIndex
 computed-before = refl
 
 computed-after : madeFrom casesAfter ≡ casesAfter
-unfolding fileBytes recordBytes records ending require addClause clashWithin mostOutlinePairs run mostWork mostBindings mostLinks mostLiterals mostIndex
+unfolding bytesIn recordBytes records ending require addClause clashWithin mostOutlinePairs run mostWork mostBindings mostLinks mostLiterals mostIndex
 computed-after = refl
 
 computed : madeFrom cases ≡ cases
@@ -138,7 +139,7 @@ pub cases-hold : CasesHold
 cases-hold = ap (λ made. map (λ c. made (c .day) (c .file)) cases) (fun-ext (λ day. fun-ext (case-by day))) ∙ computed
 
 pub stored-as-bytes : StoredAsBytes
-unfolding fileBytes recordBytes
+unfolding bytesIn recordBytes
 stored-as-bytes = refl
 
 -- ── The edges of the limits ──
@@ -185,10 +186,10 @@ unfolding numbersOf
 numbers (allStand S) = refl
 numbers (refusedAt S reason k) = refl
 
-answered : (rs : List Record) → fittingLength (length (fileBytes rs)) ≡ true → answerTo rs ≡ numbersOf (ending (fileBytes rs))
+answered : (rs : List Record) → fitting (oldFile (fileBytes rs)) ≡ true → answerTo rs ≡ numbersOf (ending (oldFile (fileBytes rs)))
 unfolding check
 answered rs fits =
-    ap (λ r. answerNumbers (answerOf (verdictGiven 0 r) (stateGiven r))) (reading-records (fileBytes rs) leastLengths fits refl) ∙ numbers (ending (fileBytes rs))
+    ap (λ r. answerNumbers (answerOf (verdictGiven 0 r) (stateGiven r))) (reading-records (oldFile (fileBytes rs)) leastLengths fits refl) ∙ numbers (ending (oldFile (fileBytes rs)))
 
 -- The state before the two steps of `workEdge`.
 abbrev edgeState : State
@@ -208,55 +209,55 @@ edgeState = record {
 abbrev lastSteps : List Record
 lastSteps = recordOf 5 0 (0 ∷ 1 ∷ 1 ∷ 1 ∷ 0 ∷ 0 ∷ 0 ∷ []) ∷ recordOf 5 0 (2 ∷ 1 ∷ 3 ∷ 1 ∷ 0 ∷ 0 ∷ 0 ∷ []) ∷ []
 
-edge-declared : read emptyState 0 (take 23 (records (fileBytes workEdge))) ≡ allStand edgeState
-unfolding fileBytes recordBytes records require addClause
+edge-declared : read emptyState 0 (take 23 (records (oldFile (fileBytes workEdge)))) ≡ allStand edgeState
+unfolding bytesIn recordBytes records require addClause
 edge-declared = refl
 
-edge-steps : drop 23 (records (fileBytes workEdge)) ≡ lastSteps
-unfolding fileBytes recordBytes records
+edge-steps : drop 23 (records (oldFile (fileBytes workEdge))) ≡ lastSteps
+unfolding bytesIn recordBytes records
 edge-steps = refl
 
-edge-ending : ending (fileBytes workEdge) ≡ read edgeState 23 lastSteps
-unfolding fileBytes recordBytes records ending
+edge-ending : ending (oldFile (fileBytes workEdge)) ≡ read edgeState 23 lastSteps
+unfolding bytesIn recordBytes records ending
 edge-ending =
-    ap (read emptyState 0) (sym (take-append-drop 23 (records (fileBytes workEdge))))
-    ∙ read-on emptyState 0 (take 23 (records (fileBytes workEdge))) (drop 23 (records (fileBytes workEdge))) edgeState edge-declared
+    ap (read emptyState 0) (sym (take-append-drop 23 (records (oldFile (fileBytes workEdge)))))
+    ∙ read-on emptyState 0 (take 23 (records (oldFile (fileBytes workEdge)))) (drop 23 (records (oldFile (fileBytes workEdge)))) edgeState edge-declared
     ∙ ap (read edgeState 23) edge-steps
 
 steps-numbers : numbersOf (read edgeState 23 lastSteps) ≡ 2 ∷ 12 ∷ 24 ∷ 3 ∷ 16 ∷ 5 ∷ 0 ∷ []
 unfolding require addClause clashWithin mostOutlinePairs mostBindings mostLinks mostLiterals mostIndex numbersOf
 steps-numbers = rw (last-work, read, step, enter, requireAll, require, onNamed, no-further-work)
 
-work-numbers : numbersOf (ending (fileBytes workEdge)) ≡ 2 ∷ 12 ∷ 24 ∷ 3 ∷ 16 ∷ 5 ∷ 0 ∷ []
+work-numbers : numbersOf (ending (oldFile (fileBytes workEdge))) ≡ 2 ∷ 12 ∷ 24 ∷ 3 ∷ 16 ∷ 5 ∷ 0 ∷ []
 work-numbers = ap numbersOf edge-ending ∙ steps-numbers
 
-work-fits : fittingLength (length (fileBytes workEdge)) ≡ true
-unfolding fileBytes recordBytes
+work-fits : fitting (oldFile (fileBytes workEdge)) ≡ true
+unfolding bytesIn recordBytes
 work-fits = refl
 
 -- The others are computed, turn by turn.
 ranges-hold : map (λ e. answerTo (e .0)) ranges ≡ map (λ e. e .1) ranges
-unfolding fileBytes recordBytes records check ending require addClause clashWithin mostOutlinePairs run mostWork mostBindings mostLinks mostLiterals mostIndex
+unfolding bytesIn recordBytes records check ending require addClause clashWithin mostOutlinePairs run mostWork mostBindings mostLinks mostLiterals mostIndex
 ranges-hold = refl
 
 unused-hold : map (λ e. answerTo (e .0)) unusedFields ≡ map (λ e. e .1) unusedFields
-unfolding fileBytes recordBytes records check ending require addClause clashWithin mostOutlinePairs run mostWork mostBindings mostLinks mostLiterals mostIndex
+unfolding bytesIn recordBytes records check ending require addClause clashWithin mostOutlinePairs run mostWork mostBindings mostLinks mostLiterals mostIndex
 unused-hold = refl
 
 index-edge : answerTo indexEdge ≡ 2 ∷ 9 ∷ 15 ∷ 1 ∷ 1 ∷ 13 ∷ 0 ∷ []
-unfolding fileBytes recordBytes records check ending require addClause clashWithin mostOutlinePairs run mostWork mostBindings mostLinks mostLiterals mostIndex
+unfolding bytesIn recordBytes records check ending require addClause clashWithin mostOutlinePairs run mostWork mostBindings mostLinks mostLiterals mostIndex
 index-edge = refl
 
 literal-edge : answerTo literalEdge ≡ 2 ∷ 9 ∷ 29 ∷ 1 ∷ 1 ∷ 27 ∷ 0 ∷ []
-unfolding fileBytes recordBytes records check ending require addClause clashWithin mostOutlinePairs run mostWork mostBindings mostLinks mostLiterals mostIndex
+unfolding bytesIn recordBytes records check ending require addClause clashWithin mostOutlinePairs run mostWork mostBindings mostLinks mostLiterals mostIndex
 literal-edge = refl
 
 outlines-hold : map (λ e. answerTo (e .0)) outlines ≡ map (λ e. e .1) outlines
-unfolding fileBytes recordBytes records check ending require addClause clashWithin mostOutlinePairs run mostWork mostBindings mostLinks mostLiterals mostIndex
+unfolding bytesIn recordBytes records check ending require addClause clashWithin mostOutlinePairs run mostWork mostBindings mostLinks mostLiterals mostIndex
 outlines-hold = refl
 
 several-hold : map (λ e. answerTo (e .0)) severalLiterals ≡ map (λ e. e .1) severalLiterals
-unfolding fileBytes recordBytes records check ending require addClause clashWithin mostOutlinePairs run mostWork mostBindings mostLinks mostLiterals mostIndex
+unfolding bytesIn recordBytes records check ending require addClause clashWithin mostOutlinePairs run mostWork mostBindings mostLinks mostLiterals mostIndex
 several-hold = refl
 
 pub edges-hold : EdgesHold
@@ -270,8 +271,12 @@ pub far-row-holds : FarRowHolds
 far-row-holds = refl
 
 pub windows-hold : WindowsHold
-unfolding fileBytes recordBytes records check ending require addClause clashWithin mostOutlinePairs run mostWork mostBindings mostLinks mostLiterals mostIndex
+unfolding bytesIn recordBytes records check ending require addClause clashWithin mostOutlinePairs run mostWork mostBindings mostLinks mostLiterals mostIndex
 windows-hold = refl
+
+pub forms-hold : FormsHold
+unfolding bytesIn recordBytes records check ending require addClause clashWithin mostOutlinePairs run mostWork mostBindings mostLinks mostLiterals mostIndex
+forms-hold = record { answers = refl; lengths = refl }
 
 -- ── Tables that are too short ──
 
@@ -283,11 +288,11 @@ eights-lengths : (s r c b : ℕ) → lengthsOf (eights s r c b) ≡ lengthsBy s 
 eights-lengths s r c b =
     λ i. lengthsBy (length-replicate {A = ℕ} s 8 i) (length-replicate {A = ℕ} r 8 i) (length-replicate {A = ℕ} c 8 i) (length-replicate {A = ℕ} b 8 i)
 
-short-answer : (s r c b : ℕ) → longEnough (lengthsBy s r c b) ≡ false → answerNumbers (check 0 [] (lengthsOf (eights s r c b))) ≡ 2 ∷ 2 ∷ 0 ∷ 0 ∷ 0 ∷ 0 ∷ 0 ∷ []
+short-answer : (s r c b : ℕ) → longEnough (lengthsBy s r c b) ≡ false → answerNumbers (check 0 (oldFile []) (lengthsOf (eights s r c b))) ≡ 2 ∷ 2 ∷ 0 ∷ 0 ∷ 0 ∷ 0 ∷ 0 ∷ []
 unfolding check
 short-answer s r c b short = rw (ap longEnough (eights-lengths s r c b) ∙ short)
 
-short-untouched : (s r c b : ℕ) → longEnough (lengthsBy s r c b) ≡ false → tablesAfter [] (eights s r c b) ≡ eights s r c b
+short-untouched : (s r c b : ℕ) → longEnough (lengthsBy s r c b) ≡ false → tablesAfter (oldFile []) (eights s r c b) ≡ eights s r c b
 unfolding tablesAfter
 short-untouched s r c b short = rw (ap longEnough (eights-lengths s r c b) ∙ short)
 

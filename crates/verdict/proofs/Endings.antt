@@ -6,20 +6,20 @@ use Prim.Native.Nat.{ℕ, suc, _+_}
 use native.Mathlib.Nat.{add-zero, add-suc, suc-add}
 use native.Mathlib.Omega.{arith}
 use lib.ListN.{length}
-use Rattle.record.specs.Record.{Record}
+use Rattle.record.specs.Record.{File, Record}
 use Rattle.verdict.specs.Refusal.{Reason, badLength, shortTable}
 use Rattle.verdict.specs.State.{State}
 use Rattle.verdict.specs.Step.{stands, refused, Result, step, read, allStand, refusedAt}
-use Rattle.verdict.specs.Verdict.{Lengths, longEnough, fittingLength, ending, untouched, readTo, reading}
+use Rattle.verdict.specs.Verdict.{Lengths, longEnough, fitting, ending, untouched, readTo, reading}
 
 -- The three ways that the reading of a file can go.
-pub reading-length : (file : List ℕ) (n : Lengths) → fittingLength (length file) ≡ false → reading file n ≡ untouched badLength
+pub reading-length : (file : File) (n : Lengths) → fitting file ≡ false → reading file n ≡ untouched badLength
 reading-length file n f = rw f
 
-pub reading-tables : (file : List ℕ) (n : Lengths) → fittingLength (length file) ≡ true → longEnough n ≡ false → reading file n ≡ untouched shortTable
+pub reading-tables : (file : File) (n : Lengths) → fitting file ≡ true → longEnough n ≡ false → reading file n ≡ untouched shortTable
 reading-tables file n f l = rw (f, l)
 
-pub reading-records : (file : List ℕ) (n : Lengths) → fittingLength (length file) ≡ true → longEnough n ≡ true → reading file n ≡ readTo (ending file)
+pub reading-records : (file : File) (n : Lengths) → fitting file ≡ true → longEnough n ≡ true → reading file n ≡ readTo (ending file)
 reading-records file n f l = rw (f, l)
 
 pub ending-stands : {S T : State} → allStand S ≡ allStand T → S ≡ T

@@ -11,7 +11,7 @@ use Prim.Native.String.{String}
 use lib.Dec.{eqb}
 use lib.ListN.{length, replicate}
 use Rattle.record.specs.Bytes.{fileBytes}
-use Rattle.record.specs.Record.{pick, Record, records, resolveKind, severalKind}
+use Rattle.record.specs.Record.{pick, oldFile, Record, records, resolveKind, severalKind}
 use Rattle.unification.specs.Unification.{mostWork, Outcome, unified, failed}
 use Rattle.derivation.specs.Derivation.{Literal, Derivation}
 use Rattle.verdict.specs.Readout.{readout}
@@ -19,13 +19,13 @@ use Rattle.verdict.specs.Refusal.{leftOf, rightOf, deletedOf}
 use Rattle.verdict.specs.State.{State, emptyState}
 use Rattle.verdict.specs.Step.{stands, refused, step, unifyResolve, unifyFactor}
 use Rattle.verdict.specs.Tables.{Tables, lengthsOf, tablesAfter}
-use Rattle.verdict.specs.Verdict.{check, answerNumbers, fittingLength}
+use Rattle.verdict.specs.Verdict.{check, answerNumbers, fitting}
 
 -- ── How a case is written ──
 
 -- Records: kind, byte 1, fields; a field that is not written is zero. Then one for each kind.
 abbrev pub recordOf : ℕ → ℕ → List ℕ → Record
-recordOf kind count fields = record { kind = kind; count = count; fields = fields }
+recordOf kind count fields = record { kind = kind; count = count; fields = fields; days = none }
 
 abbrev pub symbolOf : ℕ → Record
 symbolOf arity = recordOf 1 arity []
@@ -111,10 +111,10 @@ abbrev pub caseOf : ℕ → List ℕ → Case
 caseOf day file = record {
   day = day;
   file = file;
-  answer = answerNumbers (check day file (lengthsOf nines));
-  tables = tablesAfter file nines;
-  work = pick (fittingLength (length file)) (works emptyState 0 (records file)) [];
-  readout = readout day file (lengthsOf nines);
+  answer = answerNumbers (check day (oldFile file) (lengthsOf nines));
+  tables = tablesAfter (oldFile file) nines;
+  work = pick (fitting (oldFile file)) (works emptyState 0 (records (oldFile file))) [];
+  readout = readout day (oldFile file) (lengthsOf nines);
 }
 
 -- ── The cases ──

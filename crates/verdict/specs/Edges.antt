@@ -6,8 +6,8 @@ use mathlib.Core.Bool.{true, false}
 use mathlib.Core.List.{List, [], _∷_, _++_, map}
 use Prim.Native.Nat.{ℕ, zero, suc}
 use lib.ListN.{replicate}
-use Rattle.record.specs.Bytes.{fileBytes}
-use Rattle.record.specs.Record.{Record}
+use Rattle.record.specs.Bytes.{bytesIn, fileBytes}
+use Rattle.record.specs.Record.{oldFile, newFile, Record, withDays}
 use Rattle.unification.specs.Row.{variable, Row, application, Variable}
 use Rattle.unification.specs.Term.{Term, var, app, nil, cons}
 use Rattle.derivation.specs.Derivation.{input}
@@ -17,7 +17,8 @@ use Rattle.verdict.specs.State.{State, emptyState, withRow}
 use Rattle.verdict.specs.Step.{stands, refused, Result, step}
 use Rattle.verdict.specs.Tables.{Tables, lengthsOf, rowCells, tablesAfter}
 use Rattle.verdict.specs.Text.{decimal, numberAndIndex, signText, termText, literalText}
-use Rattle.verdict.specs.Verdict.{check, answerNumbers, leastLengths}
+use Rattle.verdict.specs.Verdict.{check, answerNumbers, leastLengths, fittingLength}
+use Rattle.record.specs.declared.Form.the-variants.{New}
 
 -- Records, and the seven numbers of the answer to the file that they make: 0 open, 1 accepted, 2 refused; clause or reason; record; the
 -- counts of symbols, rows, clauses, bindings.
@@ -25,7 +26,7 @@ abbrev pub Answered : Type 0
 Answered = List Record × List ℕ
 
 abbrev pub answerOn : ℕ → List Record → List ℕ
-answerOn day rs = answerNumbers (check day (fileBytes rs) leastLengths)
+answerOn day rs = answerNumbers (check day (oldFile (fileBytes rs)) leastLengths)
 
 abbrev pub answerTo : List Record → List ℕ
 answerTo rs = answerOn 0 rs
@@ -233,6 +234,48 @@ windows =
 abbrev pub WindowsHold : Type 0
 WindowsHold = map (λ e. answerOn (e .0) (e .1)) windows ≡ map (λ e. e .2) windows
 
+-- Document 02, Q-11: the same two clauses and their resolvent in the new form, in force from `first` to `last`; and one record in it. Days beside a record that is no input
+-- clause give 4, whichever is not zero; kind 8 gives 3, also where its days are not zero. Crossed days give 16, after a row that does not exist (5) and before
+-- a literal on a variable (7).
+abbrev pub newAnswerOn : ℕ → List Record → List ℕ
+newAnswerOn day rs = answerNumbers (check day (newFile (bytesIn New rs)) leastLengths)
+
+abbrev pub undated : Record → Record
+undated r = withDays r 0 0
+
+abbrev pub twoDated : ℕ → ℕ → List Record
+twoDated first last =
+    undated (symbolOf 0) ∷ undated (applicationRow 0 []) ∷ withDays (inputClause (1 ∷ [])) first last ∷ withDays (inputClause (0 ∷ [])) 0 65535 ∷ undated (resolveStep 0 1 1 1) ∷ []
+
+abbrev pub forms : List (ℕ × List Record × List ℕ)
+forms =
+    (9, twoDated 10 20, 0 ∷ 0 ∷ 0 ∷ 1 ∷ 1 ∷ 3 ∷ 0 ∷ [])
+    ∷ (10, twoDated 10 20, 1 ∷ 2 ∷ 0 ∷ 1 ∷ 1 ∷ 3 ∷ 0 ∷ [])
+    ∷ (20, twoDated 10 20, 1 ∷ 2 ∷ 0 ∷ 1 ∷ 1 ∷ 3 ∷ 0 ∷ [])
+    ∷ (21, twoDated 10 20, 0 ∷ 0 ∷ 0 ∷ 1 ∷ 1 ∷ 3 ∷ 0 ∷ [])
+    ∷ (0, twoDated 0 65535, 1 ∷ 2 ∷ 0 ∷ 1 ∷ 1 ∷ 3 ∷ 0 ∷ [])
+    ∷ (65535, twoDated 0 65535, 1 ∷ 2 ∷ 0 ∷ 1 ∷ 1 ∷ 3 ∷ 0 ∷ [])
+    ∷ (10, twoDated 10 10, 1 ∷ 2 ∷ 0 ∷ 1 ∷ 1 ∷ 3 ∷ 0 ∷ [])
+    ∷ (0, twoDated 20 19, 2 ∷ 16 ∷ 2 ∷ 1 ∷ 1 ∷ 0 ∷ 0 ∷ [])
+    ∷ (0, withDays (symbolOf 0) 1 0 ∷ [], 2 ∷ 4 ∷ 0 ∷ 0 ∷ 0 ∷ 0 ∷ 0 ∷ [])
+    ∷ (0, withDays (symbolOf 0) 0 256 ∷ [], 2 ∷ 4 ∷ 0 ∷ 0 ∷ 0 ∷ 0 ∷ 0 ∷ [])
+    ∷ (0, withDays (variableRow 0) 1 0 ∷ [], 2 ∷ 4 ∷ 0 ∷ 0 ∷ 0 ∷ 0 ∷ 0 ∷ [])
+    ∷ (0, withDays (applicationRow 0 []) 0 1 ∷ [], 2 ∷ 4 ∷ 0 ∷ 0 ∷ 0 ∷ 0 ∷ 0 ∷ [])
+    ∷ (0, withDays (resolveStep 0 1 1 1) 1 1 ∷ [], 2 ∷ 4 ∷ 0 ∷ 0 ∷ 0 ∷ 0 ∷ 0 ∷ [])
+    ∷ (0, withDays (factorStep 0 1 2) 0 1 ∷ [], 2 ∷ 4 ∷ 0 ∷ 0 ∷ 0 ∷ 0 ∷ 0 ∷ [])
+    ∷ (0, withDays (recordOf 7 1 []) 0 1 ∷ [], 2 ∷ 4 ∷ 0 ∷ 0 ∷ 0 ∷ 0 ∷ 0 ∷ [])
+    ∷ (0, undated (recordOf 7 1 []) ∷ [], 2 ∷ 5 ∷ 0 ∷ 0 ∷ 0 ∷ 0 ∷ 0 ∷ [])
+    ∷ (0, undated (recordOf 8 0 []) ∷ [], 2 ∷ 3 ∷ 0 ∷ 0 ∷ 0 ∷ 0 ∷ 0 ∷ [])
+    ∷ (0, withDays (recordOf 8 0 []) 1 0 ∷ [], 2 ∷ 3 ∷ 0 ∷ 0 ∷ 0 ∷ 0 ∷ 0 ∷ [])
+    ∷ (0, withDays (inputClause (1 ∷ [])) 20 19 ∷ [], 2 ∷ 5 ∷ 0 ∷ 0 ∷ 0 ∷ 0 ∷ 0 ∷ [])
+    ∷ (0, undated (variableRow 0) ∷ withDays (inputClause (1 ∷ [])) 20 19 ∷ [], 2 ∷ 16 ∷ 1 ∷ 0 ∷ 1 ∷ 0 ∷ 0 ∷ [])
+    ∷ (0, undated (variableRow 0) ∷ withDays (inputClause (1 ∷ [])) 19 20 ∷ [], 2 ∷ 7 ∷ 1 ∷ 0 ∷ 1 ∷ 0 ∷ 0 ∷ [])
+    ∷ []
+
+pub record FormsHold : Type 0 where
+  pub answers : map (λ e. newAnswerOn (e .0) (e .1)) forms ≡ map (λ e. e .2) forms
+  pub lengths : map (fittingLength New) (0 ∷ 16 ∷ 20 ∷ 65520 ∷ 65536 ∷ 65540 ∷ []) ≡ true ∷ false ∷ true ∷ true ∷ false ∷ false ∷ []
+
 -- Reason 2: each table in turn is one cell too short, and all are untouched.
 abbrev pub eights : ℕ → ℕ → ℕ → ℕ → Tables
 eights symbols rows clauses bindings =
@@ -242,8 +285,8 @@ abbrev pub shortTables : List Tables
 shortTables = eights 4095 4096 20480 32768 ∷ eights 4096 4095 20480 32768 ∷ eights 4096 4096 20479 32768 ∷ eights 4096 4096 20480 32767 ∷ []
 
 pub record ShortTablesHold : Type 0 where
-  pub answers : map (λ t. answerNumbers (check 0 [] (lengthsOf t))) shortTables ≡ replicate 4 (2 ∷ 2 ∷ 0 ∷ 0 ∷ 0 ∷ 0 ∷ 0 ∷ [])
-  pub untouched : map (tablesAfter []) shortTables ≡ shortTables
+  pub answers : map (λ t. answerNumbers (check 0 (oldFile []) (lengthsOf t))) shortTables ≡ replicate 4 (2 ∷ 2 ∷ 0 ∷ 0 ∷ 0 ∷ 0 ∷ 0 ∷ [])
+  pub untouched : map (tablesAfter (oldFile [])) shortTables ≡ shortTables
 
 -- The readout: digits in their order, and a term of 64 occurrences, which is written out, and of 65, which is `~`.
 abbrev pub nested : ℕ → Term Variable

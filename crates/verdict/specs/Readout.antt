@@ -2,6 +2,7 @@
 use mathlib.Core.List.{List, [], _∷_, _++_}
 use Prim.Native.Nat.{ℕ}
 use lib.ListN.{length}
+use Rattle.record.specs.Record.{File}
 use Rattle.derivation.specs.Derivation.{Derivation, maximumIndex}
 use Rattle.derivation.specs.Written.{written}
 use Rattle.verdict.specs.Refusal.{reasonNumber}
@@ -54,12 +55,12 @@ module _ (line : LineWriter) where
 
   -- The readout of a file on a day, line by line and as a whole. It goes by the check of the file, whatever the tables held before. All clauses are
   -- listed; only the first line looks at the day.
-  unfoldable pub readoutLines : ℕ → List ℕ → Lengths → List (List ℕ)
+  unfoldable pub readoutLines : ℕ → File → Lengths → List (List ℕ)
   readoutLines day file lengths = linesOf (verdictGiven day (reading file lengths)) (stateGiven (reading file lengths))
 
-  abbrev pub readoutBy : ℕ → List ℕ → Lengths → List ℕ
+  abbrev pub readoutBy : ℕ → File → Lengths → List ℕ
   readoutBy day file lengths = joinedLines (readoutLines day file lengths)
 
 -- The readout of document 01.
-abbrev pub readout : ℕ → List ℕ → Lengths → List ℕ
+abbrev pub readout : ℕ → File → Lengths → List ℕ
 readout day file lengths = readoutBy clauseLine day file lengths

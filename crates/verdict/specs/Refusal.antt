@@ -1,5 +1,5 @@
 -- Document 01, "Verdict, tables and refusals": the reasons with their numbers, and the tests of a record that give 3 to 9; document 02, Q-1: the
--- outlines of a step; Q-3: reason 14, and several right literals; Q-6: reason 16, and windows.
+-- outlines of a step; Q-3: reason 14, and several right literals; Q-6: reason 16, and windows; Q-11: the days beside a record.
 use mathlib.Core.Bool.{Bool, true, false, _&&_, not}
 use mathlib.Core.Option.{Option, none, some}
 use mathlib.Core.List.{List, [], _∷_, map}
@@ -38,25 +38,49 @@ mostLiterals = 128
 unfoldable pub mostIndex : ℕ
 mostIndex = 4096
 
+-- Document 02, Q-11: where records have days there is no kind 8.
+abbrev pub hasDays : Option (ℕ × ℕ) → Bool
+hasDays none = false
+hasDays (some days) = true
+
 abbrev pub kindOfRecord : Record → Kind
-kindOfRecord r = kindNumbered (r .kind)
+kindOfRecord r = pick (hasDays (r .days) && eqb (r .kind) 8) otherKind (kindNumbered (r .kind))
 
 -- 4: byte 1 and the variable number are in range, and unused fields are zero.
 abbrev pub zeros : List ℕ → Bool
 zeros [] = true
 zeros (n ∷ ns) = eqb n 0 && zeros ns
 
-abbrev pub inRange : Kind → Record → Bool
-inRange symbolKind r = leb (r .count) 6 && zeros (r .fields)
-inRange variableKind r = eqb (r .count) 0 && leb (fieldA r) 63 && zeros (drop 1 (r .fields))
-inRange applicationKind r = leb (r .count) 6 && zeros (drop (1 + r .count) (r .fields))
-inRange inputKind r = leb (r .count) 7 && zeros (drop (r .count) (r .fields))
-inRange resolveKind r = eqb (r .count) 0 && zeros (drop 4 (r .fields))
-inRange factorKind r = eqb (r .count) 0 && zeros (drop 3 (r .fields))
-inRange severalKind r = leb 1 (r .count) && leb (r .count) 4 && zeros (drop (3 + r .count) (r .fields))
-inRange windowKind r = eqb (r .count) 0 && zeros (drop 3 (r .fields))
+abbrev pub fieldsInRange : Kind → Record → Bool
+fieldsInRange symbolKind r = leb (r .count) 6 && zeros (r .fields)
+fieldsInRange variableKind r = eqb (r .count) 0 && leb (fieldA r) 63 && zeros (drop 1 (r .fields))
+fieldsInRange applicationKind r = leb (r .count) 6 && zeros (drop (1 + r .count) (r .fields))
+fieldsInRange inputKind r = leb (r .count) 7 && zeros (drop (r .count) (r .fields))
+fieldsInRange resolveKind r = eqb (r .count) 0 && zeros (drop 4 (r .fields))
+fieldsInRange factorKind r = eqb (r .count) 0 && zeros (drop 3 (r .fields))
+fieldsInRange severalKind r = leb 1 (r .count) && leb (r .count) 4 && zeros (drop (3 + r .count) (r .fields))
+fieldsInRange windowKind r = eqb (r .count) 0 && zeros (drop 3 (r .fields))
 -- Any other kind is refused with 3, before its range matters.
-inRange otherKind r = true
+fieldsInRange otherKind r = true
+
+-- Document 02, Q-11: only an input clause has days; beside every other record they are zero.
+abbrev pub zeroDays : Option (ℕ × ℕ) → Bool
+zeroDays none = true
+zeroDays (some days) = eqb (days .0) 0 && eqb (days .1) 0
+
+abbrev pub daysInRange : Kind → Record → Bool
+daysInRange inputKind r = true
+daysInRange symbolKind r = zeroDays (r .days)
+daysInRange variableKind r = zeroDays (r .days)
+daysInRange applicationKind r = zeroDays (r .days)
+daysInRange resolveKind r = zeroDays (r .days)
+daysInRange severalKind r = zeroDays (r .days)
+daysInRange factorKind r = zeroDays (r .days)
+daysInRange windowKind r = true
+daysInRange otherKind r = true
+
+abbrev pub inRange : Kind → Record → Bool
+inRange kind r = daysInRange kind r && fieldsInRange kind r
 
 -- The argument rows of an application.
 abbrev pub argumentRows : Record → List ℕ
@@ -132,6 +156,11 @@ rising [] = true
 rising (n ∷ []) = true
 rising (n ∷ m ∷ ns) = ltb n m && rising (m ∷ ns)
 
+-- 16: the days beside an input clause do not cross.
+abbrev pub inOrder : Option (ℕ × ℕ) → Bool
+inOrder none = true
+inOrder (some days) = leb (days .0) (days .1)
+
 -- 7: no literal's row is a variable.
 abbrev pub isApplication : Row → Bool
 isApplication (variable v) = false
@@ -192,6 +221,7 @@ tests S applicationKind r =
 tests S inputKind r =
     (inRange inputKind r, outOfRange)
     ∷ (literalRowsThere S r, notThere)
+    ∷ (inOrder (r .days), crossedDays)
     ∷ (allApplications (rowOf S) (inputLiterals r), variableLiteral) ∷ []
 tests S resolveKind r = resolveTests S resolveKind r
 tests S severalKind r = resolveTests S severalKind r

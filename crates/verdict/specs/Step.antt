@@ -9,7 +9,7 @@ use Rattle.unification.specs.Row.{variable, Row, application, Expression}
 use Rattle.unification.specs.Unification.{unify, Outcome, unified, failed}
 use Rattle.derivation.specs.Derivation.{input, Literal, RowLiteral, inputLiterals, Derivation, resolve, factor, pairsWith, maximumIndex, joined, lookup}
 use Rattle.verdict.specs.Refusal.{tests, outlineTests, Reason, unification, badKind, notThere, kindOfRecord, leftOf, rightNumbers, rightOf, deletedOf, argumentRows}
-use Rattle.verdict.specs.State.{State, Window, withSymbol, withRow, withClause, withWindow, rowOf, earliestOf, recordOfRow, nextClause}
+use Rattle.verdict.specs.State.{State, Window, withSymbol, withRow, withClause, withWindow, withDaysBeside, rowOf, earliestOf, recordOfRow, nextClause}
 
 -- A record that stands gives the next state; a refused one its reason.
 pub data Result : Type 0 where
@@ -74,7 +74,7 @@ abbrev pub enter : State → ℕ → Kind → Record → Result
 enter S k symbolKind r = stands (withSymbol S k (r .count))
 enter S k variableKind r = enterRow S k (variable (fieldA r))
 enter S k applicationKind r = enterRow S k (newApplication S r)
-enter S k inputKind r = stands (withClause S k (input (nextClause S) (newLiterals S r)))
+enter S k inputKind r = stands (withDaysBeside (withClause S k (input (nextClause S) (newLiterals S r))) (nextClause S) (r .days))
 enter S k resolveKind r = enterResolvent S k resolveKind r
 enter S k severalKind r = enterResolvent S k severalKind r
 enter S k factorKind r =

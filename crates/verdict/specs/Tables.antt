@@ -2,6 +2,7 @@
 use mathlib.Core.List.{List, [], _∷_, _++_, map, reverse}
 use Prim.Native.Nat.{ℕ, _+_, _-_}
 use lib.ListN.{length, drop, replicate}
+use Rattle.record.specs.Record.{File}
 use Rattle.unification.specs.Environment.{Binding}
 use Rattle.derivation.specs.Derivation.{literals, Derivation, maximumIndex, ownBindings}
 use Rattle.verdict.specs.State.{State, derivations}
@@ -64,5 +65,5 @@ abbrev pub tablesGiven : Reading → Tables → Tables
 tablesGiven (untouched reason) t = t
 tablesGiven (readTo e) t = filledTables (stateOf e) t
 
-unfoldable pub tablesAfter : List ℕ → Tables → Tables
+unfoldable pub tablesAfter : File → Tables → Tables
 tablesAfter file t = tablesGiven (reading file (lengthsOf t)) t

@@ -6,12 +6,14 @@ use mathlib.Core.List.{List, [], _∷_, _++_}
 use Prim.Native.Nat.{ℕ, _%_}
 use lib.Dec.{eqb, leb}
 use lib.ListN.{length}
-use Rattle.record.specs.Record.{pick, records}
+use Rattle.record.specs.Record.{pick, File, records}
 use Rattle.derivation.specs.Derivation.{literals, Derivation}
 use Rattle.verdict.specs.Force.{usesInForce}
 use Rattle.verdict.specs.Refusal.{Reason, badLength, shortTable, reasonNumber}
 use Rattle.verdict.specs.State.{State, emptyState, derivations}
 use Rattle.verdict.specs.Step.{read, Ending, allStand, refusedAt, stateOf}
+use Rattle.record.specs.declared.Form.{Form}
+use Rattle.record.specs.declared.Form.the-variants.{Old, New}
 
 -- The verdict, with its numbers: 0 open; 1 accepted, and the clause; 2 refused, the reason and the record.
 pub data Verdict : Type 0 where
@@ -73,18 +75,22 @@ abbrev pub longEnough : Lengths → Bool
 longEnough n =
     leb (leastLengths .symbols) (n .symbols) && leb (leastLengths .rows) (n .rows) && leb (leastLengths .clauses) (n .clauses) && leb (leastLengths .bindings) (n .bindings)
 
--- The length is at most 65,536 and a multiple of 16.
-abbrev pub fittingLength : ℕ → Bool
-fittingLength n = leb n 65536 && eqb (n % 16) 0
+-- The length is at most 65,536 and a multiple of 16; in the new form (document 02, Q-11) at most 65,520 and a multiple of 20.
+abbrev pub fittingLength : Form → ℕ → Bool
+fittingLength Old n = leb n 65536 && eqb (n % 16) 0
+fittingLength New n = leb n 65520 && eqb (n % 20) 0
+
+abbrev pub fitting : File → Bool
+fitting file = fittingLength (file .form) (length (file .bytes))
 
 -- The whole file is read, also after an empty clause; only a refusal ends the reading.
-unfoldable pub ending : List ℕ → Ending
+unfoldable pub ending : File → Ending
 ending file = read emptyState 0 (records file)
 
 -- The file stands and leaves S: its length fits, and every record of it stands. Tables do not come in: the check refuses a file that
 -- stands only where a table is too short, and one that it does not refuse stands.
-pub record Stands (file : List ℕ) (S : State) : Type 0 where
-  pub fits : fittingLength (length file) ≡ true
+pub record Stands (file : File) (S : State) : Type 0 where
+  pub fits : fitting file ≡ true
   pub reads : ending file ≡ allStand S
 
 -- What becomes of a file: it is refused before any record, with 1 or 2, and nothing is touched; or its records are read.
@@ -93,9 +99,9 @@ pub data Reading : Type 0 where
   readTo : Ending → Reading
 
 -- 1 comes before 2, and both before any record.
-abbrev pub reading : List ℕ → Lengths → Reading
+abbrev pub reading : File → Lengths → Reading
 reading file lengths =
-    pick (fittingLength (length file))
+    pick (fitting file)
     (pick (longEnough lengths) (readTo (ending file)) (untouched shortTable))
     (untouched badLength)
 
@@ -108,5 +114,5 @@ abbrev pub stateGiven : Reading → State
 stateGiven (untouched reason) = emptyState
 stateGiven (readTo e) = stateOf e
 
-unfoldable pub check : ℕ → List ℕ → Lengths → Answer
+unfoldable pub check : ℕ → File → Lengths → Answer
 check day file lengths = answerOf (verdictGiven day (reading file lengths)) (stateGiven (reading file lengths))
