@@ -1,29 +1,30 @@
 -- What the day changes, and what it leaves as it was.
 use mathlib.Core.Path.{_≡_, refl, sym, ap, ap₂, _∙_, fun-ext}
 use mathlib.Core.Bool.{Bool, true, false}
-use mathlib.Core.Option.{some}
+use mathlib.Core.Option.{Option, none, some}
 use mathlib.Core.List.{List, [], _∷_, _++_}
 use Prim.Native.Nat.{ℕ, suc, _+_}
 use native.Mathlib.Omega.{arith}
 use lib.Dec.{eqb}
 use lib.ListN.{length, getD, take, drop, length-append, length-map, List·getD-append}
 use lib.Seq.{getD-append-add}
-use Rattle.record.specs.Record.{pick, Record, records, Kind, kindNumbered}
+use Rattle.record.specs.Record.{pick, File, Record, records, otherKind, Kind}
 use Rattle.unification.proofs.Tests.{some-injective}
 use Rattle.derivation.specs.Derivation.{Derivation, Use, uses}
-use Rattle.demands.specs.Days.{stepWithoutWindows, readWithoutWindows, readingWithoutWindows, everyClause, verdictWithoutDay, DaysOnlyChoose}
+use Rattle.demands.specs.Days.{stepWithoutWindows, readWithoutWindows, readingWithoutWindows, everyClause, verdictWithoutDay, Undated, DaysOnlyChoose}
+use Rattle.demands.specs.Conditions.{windowInNewForm}
 use Rattle.demands.specs.Demands.{Reached}
 use Rattle.verdict.specs.Force.{allInForce, usesInForce}
 use Rattle.verdict.specs.Readout.{LineWriter, clauseLines, readoutLines}
 use Rattle.verdict.specs.Refusal.{Reason, badKind, badLength, shortTable}
-use Rattle.verdict.specs.State.{State, Window, emptyState, withWindow, entry, derivations, clauseOf}
+use Rattle.verdict.specs.State.{State, Window, emptyState, withWindow, entry, derivations, nextClause, clauseOf}
 use Rattle.verdict.specs.Step.{stands, refused, Result, windowIn, enter, step, read, Ending, allStand, refusedAt}
 use Rattle.verdict.specs.Tables.{Tables, filledTables}
-use Rattle.verdict.specs.Verdict.{Verdict, refusal, accepted, open′, check, answerNumbers, answerOf, firstEmpty, standing, Lengths, fittingLength, longEnough, ending, Stands, Reading, untouched, readTo, reading, verdictGiven, stateGiven}
+use Rattle.verdict.specs.Verdict.{Verdict, refusal, accepted, open′, check, answerNumbers, answerOf, firstEmpty, standing, Lengths, fitting, longEnough, ending, Stands, Reading, untouched, readTo, reading, verdictGiven, stateGiven}
 use Rattle.demands.proofs.Demanded.{never-refusal}
-use Rattle.demands.proofs.InForceShown.{not-dated, step-windows}
-use Rattle.demands.proofs.Inversions.{stands-same, step-stands, entry-below}
-use Rattle.demands.proofs.RangeTests.{not-true, equal}
+use Rattle.demands.proofs.Dating.{withGiven, undated-none, step-windows}
+use Rattle.demands.proofs.Inversions.{stands-same, step-stands, never-both, entry-below}
+use Rattle.demands.proofs.RangeTests.{not-true, equal, window-kind, other-kind}
 use Rattle.verdict.proofs.Endings.{ending-stands, reading-length, reading-tables, reading-records, stands-not-refused}
 
 -- A refusal is one on every day.
@@ -42,8 +43,8 @@ counts-after v w S = by v ∙ sym (by w)
     by (refusal q k) = refl
 
 -- A reading that ends with a state is of a file that stands.
-read-whole : (file : List ℕ) (lengths : Lengths) (S : State) → reading file lengths ≡ readTo (allStand S) → Stands file S
-read-whole file lengths S e = try (fittingLength (length file)) refl (longEnough lengths) refl
+read-whole : (file : File) (lengths : Lengths) (S : State) → reading file lengths ≡ readTo (allStand S) → Stands file S
+read-whole file lengths S e = try (fitting file) refl (longEnough lengths) refl
   where
     refused-before : {q : Reason} → untouched q ≡ readTo (allStand S) → ⊥
     refused-before p = let z : _≡_ {A = ℕ} 0 1 = cc in omega arith
@@ -51,7 +52,7 @@ read-whole file lengths S e = try (fittingLength (length file)) refl (longEnough
     same-ending : {d f : Ending} → readTo d ≡ readTo f → d ≡ f
     same-ending p = cc
 
-    try : (b : Bool) → fittingLength (length file) ≡ b → (c : Bool) → longEnough lengths ≡ c → Stands file S
+    try : (b : Bool) → fitting file ≡ b → (c : Bool) → longEnough lengths ≡ c → Stands file S
     try false f c l = absurd (refused-before (sym (reading-length file lengths f) ∙ e))
     try true f false l = absurd (refused-before (sym (reading-tables file lengths f l) ∙ e))
     try true f true l = record { fits = f; reads = same-ending (sym (reading-records file lengths f l) ∙ e) }
@@ -66,7 +67,12 @@ every-clause day S e = ap (λ (test : Derivation → Bool). firstEmpty test (der
 
 -- A window leaves everything but the windows.
 window-step : (S T : State) (k : ℕ) (r : Record) → r .kind ≡ 8 → step S k r ≡ stands T → T ≡ withWindow S (windowIn r)
-window-step S T k r e q = sym (stands-same (sym (ap (λ (kind : Kind). enter S k kind r) (ap kindNumbered e)) ∙ step-stands S k r T q .1))
+window-step S T k r e q = try (r .days) refl
+  where
+    -- A record with days is of no kind 8 and does not stand.
+    try : (d : Option (ℕ × ℕ)) → r .days ≡ d → T ≡ withWindow S (windowIn r)
+    try none p = sym (stands-same (sym (ap (λ (kind : Kind). enter S k kind r) (window-kind r (e, p))) ∙ step-stands S k r T q .1))
+    try (some d) p = absurd (never-both (enter S k otherKind r) (sym (ap (λ (kind : Kind). enter S k kind r) (other-kind r (windowInNewForm e p))) ∙ step-stands S k r T q .1) refl)
 
 pub clause-lines-length : (line : LineWriter) (S : State) (cs : List Derivation) → length (clauseLines line S cs) ≡ length cs
 clause-lines-length line S [] = refl
@@ -88,17 +94,17 @@ clause-line-at line S (e ∷ ds) n d q = try (eqb n (length ds)) refl q (λ r. c
 
 -- Where reading comes to no window, it is as it was, and leaves no window.
 abbrev NoWindow : State → ℕ → List Record → Type 0
-NoWindow S k rs = (j : ℕ) (T : State) (r : Record) (after : List Record) → read S k (take j rs) ≡ allStand T → drop j rs ≡ r ∷ after → ¬ (r .kind ≡ 8)
+NoWindow S k rs = (j : ℕ) (T : State) (r : Record) (after : List Record) → read S k (take j rs) ≡ allStand T → drop j rs ≡ r ∷ after → Undated r
 
 module _ (S : State) (k : ℕ) (r : Record) (rs : List Record) (h : NoWindow S k (r ∷ rs)) where
-  no-window : ¬ (r .kind ≡ 8)
+  no-window : Undated r
   no-window = h 0 S r rs refl refl
 
   later-windows : (U : State) → step S k r ≡ stands U → NoWindow U (suc k) rs
   later-windows U e j T q after p d = h (suc j) T q after (ap (λ (o : Result). elim o [ stands W ↦ read W (suc k) (take j rs) | refused x ↦ refusedAt S x k ]) e ∙ p) d
 
   same-step : step S k r ≡ stepWithoutWindows S k r
-  same-step = sym (ap (λ (b : Bool). pick b (refused badKind) (step S k r)) (not-true (eqb (r .kind) 8) (λ t. no-window (equal (r .kind) 8 t))))
+  same-step = sym (ap (λ (b : Bool). pick b (refused badKind) (step S k r)) (not-true (eqb (r .kind) 8) (λ t. no-window .0 (equal (r .kind) 8 t))))
 
 read-alike : (S : State) (k : ℕ) (rs : List Record) → NoWindow S k rs → read S k rs ≡ readWithoutWindows S k rs
 read-alike S k [] h = refl
@@ -117,23 +123,23 @@ windows-stay S k (r ∷ rs) T h q = try (step S k r) refl q (λ U e p. windows-s
   where
     try : (o : Result) → step S k r ≡ o → elim o [ stands U ↦ read U (suc k) rs | refused p ↦ refusedAt S p k ] ≡ allStand T
         → ((U : State) → step S k r ≡ stands U → read U (suc k) rs ≡ allStand T → T .windows ≡ U .windows) → T .windows ≡ S .windows
-    try (stands U) e p ih = ih U e p ∙ step-windows S k r U e ∙ not-dated (S .windows) r (no-window S k r rs h)
+    try (stands U) e p ih = ih U e p ∙ step-windows S k r U e ∙ ap (withGiven (S .windows)) (undated-none (nextClause S) r (no-window S k r rs h .0) (no-window S k r rs h .1))
     try (refused p) e z ih = absurd (stands-not-refused (sym z))
 
-module _ (file : List ℕ) (lengths : Lengths) where
+module _ (file : File) (lengths : Lengths) where
   -- Of a file whose length fits, the records that reading comes to.
-  reached-none : fittingLength (length file) ≡ true → ((k : ℕ) (S : State) (r : Record) → Reached file k S r → ¬ (r .kind ≡ 8)) → NoWindow emptyState 0 (records file)
+  reached-none : fitting file ≡ true → ((k : ℕ) (S : State) (r : Record) → Reached file k S r → Undated r) → NoWindow emptyState 0 (records file)
   reached-none f h j T r after p d = h j T r (record { fits = f; before = p; after = after; here = d })
 
-  reading-alike : ((k : ℕ) (S : State) (r : Record) → Reached file k S r → ¬ (r .kind ≡ 8)) → reading file lengths ≡ readingWithoutWindows file lengths
+  reading-alike : ((k : ℕ) (S : State) (r : Record) → Reached file k S r → Undated r) → reading file lengths ≡ readingWithoutWindows file lengths
   unfolding ending
-  reading-alike h = try (fittingLength (length file)) refl
+  reading-alike h = try (fitting file) refl
     where
-      try : (b : Bool) → fittingLength (length file) ≡ b → pick b (pick (longEnough lengths) (readTo (ending file)) (untouched shortTable)) (untouched badLength) ≡ pick b (pick (longEnough lengths) (readTo (readWithoutWindows emptyState 0 (records file))) (untouched shortTable)) (untouched badLength)
+      try : (b : Bool) → fitting file ≡ b → pick b (pick (longEnough lengths) (readTo (ending file)) (untouched shortTable)) (untouched badLength) ≡ pick b (pick (longEnough lengths) (readTo (readWithoutWindows emptyState 0 (records file))) (untouched shortTable)) (untouched badLength)
       try true f = ap (λ (e : Ending). pick (longEnough lengths) (readTo e) (untouched shortTable)) (read-alike emptyState 0 (records file) (reached-none f h))
       try false f = refl
 
-  same-verdict : ((k : ℕ) (S : State) (r : Record) → Reached file k S r → ¬ (r .kind ≡ 8)) → (day : ℕ) → verdictGiven day (reading file lengths) ≡ verdictWithoutDay (reading file lengths)
+  same-verdict : ((k : ℕ) (S : State) (r : Record) → Reached file k S r → Undated r) → (day : ℕ) → verdictGiven day (reading file lengths) ≡ verdictWithoutDay (reading file lengths)
   unfolding ending
   same-verdict h day = by (reading file lengths) refl
     where

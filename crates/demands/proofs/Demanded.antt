@@ -9,7 +9,7 @@ use native.Mathlib.Nat.{zero-add}
 use native.Mathlib.Omega.{arith}
 use lib.Dec.{eqb, leb}
 use lib.ListN.{length, getD, take, drop, replicate, length-map, length-take, List·getD-append}
-use Rattle.record.specs.Record.{pick, Record, records, kindNumbered}
+use Rattle.record.specs.Record.{pick, File, inForm, oldFile, newFile, Record, records, kindNumbered}
 use Rattle.record.proofs.Records.{records-shaped}
 use Rattle.unification.specs.Environment.{follow, Ends}
 use Rattle.unification.specs.Row.{Expression}
@@ -23,18 +23,18 @@ use Rattle.derivation.proofs.Forms.{instances-formed}
 use Rattle.derivation.proofs.Known.{Under, known-uses}
 use Rattle.derivation.proofs.Literals.{uses-length, leb-false-lt}
 use Rattle.derivation.proofs.Values.{refutes, writes-out, writes-out-unique, values-exist, values-unique}
-use Rattle.demands.specs.Conditions.{OneOf, LengthUnfit, lengthOver, notMultiple, TableShort, symbolsShort, rowsShort, clausesShort, bindingsShort, Condition, unknownKind, outsideRange, nothingThere, fallingLiterals, crossingDays, variableAsLiteral, unfitSigns, largeResult, clashingOutlines, clashing, occurring, overworking, overfull, precedence}
+use Rattle.demands.specs.Conditions.{OneOf, LengthUnfit, lengthOver, notMultiple, newLengthOver, newNotMultiple, TableShort, symbolsShort, rowsShort, clausesShort, bindingsShort, Condition, unknownKind, outsideRange, nothingThere, fallingLiterals, crossingDays, variableAsLiteral, unfitSigns, largeResult, clashingOutlines, clashing, occurring, overworking, overfull, precedence}
 use Rattle.demands.specs.Demands.{ResolventAdded, Reached, ComesTo, TablesHold, Untouched, LeftBefore, Demand1, ConditionAt, ofLength, ofTables, ofRecord, Due, UsesInForce, LowestEmpty, NoneEmpty, Demand2, Refutation, Demand3}
 use Rattle.verdict.specs.Force.{usesInForce}
 use Rattle.verdict.specs.Refusal.{Reason, badLength, shortTable, reasonNumber}
 use Rattle.verdict.specs.State.{State, emptyState, rowsOf, derivations, arityOf, clauseOf, rowOf, termOf}
 use Rattle.verdict.specs.Step.{refused, step, read, Ending, allStand, refusedAt, stateOf}
 use Rattle.verdict.specs.Tables.{Tables, lengthsOf, clauseCells, filledTables, tablesGiven, tablesAfter}
-use Rattle.verdict.specs.Verdict.{Verdict, refusal, check, accepted, open′, Answer, firstEmpty, standing, verdictOf, answerOf, Lengths, longEnough, fittingLength, ending, Stands, Reading, verdictGiven, stateGiven}
+use Rattle.verdict.specs.Verdict.{Verdict, refusal, check, accepted, open′, Answer, firstEmpty, standing, verdictOf, answerOf, Lengths, longEnough, fittingLength, fitting, ending, Stands, Reading, verdictGiven, stateGiven}
 use Rattle.demands.proofs.Acceptance.{none-empty, first-lowest, some-first, cells-length, index-cell}
 use Rattle.demands.proofs.Added.{step-adds}
 use Rattle.demands.proofs.InForceShown.{uses-in-force, of-uses-in-force}
-use Rattle.demands.proofs.RangeTests.{resolve-kind, not-true, either-false, unequal, equal, at-most}
+use Rattle.demands.proofs.RangeTests.{kind-at, resolve-kind, not-true, either-false, unequal, equal, at-most}
 use Rattle.demands.proofs.Inversions.{entry-below}
 use Rattle.verdict.proofs.Endings.{ending-stands, reading-length, reading-tables, reading-records}
 use Rattle.demands.proofs.Reading.{read-refused, few-records, reached-shaped, reached-seven, reached-ok, reached-refused, comes-ok, stands-ok, term-of-row, one-arity}
@@ -43,6 +43,8 @@ use Rattle.demands.proofs.Resolution.{resolvent-added, factor-added, un
 use Rattle.demands.proofs.Standing.{StateOk, below, order-of, inputs-of, known-of, held-links}
 use Rattle.demands.proofs.TableCells.{sizeOf, read-size, tables-hold}
 use Rattle.demands.proofs.WrittenRows.{terms-stay}
+use Rattle.record.specs.declared.Form.{Form}
+use Rattle.record.specs.declared.Form.the-variants.{Old, New}
 
 accepted-injective : {m n : ℕ} → accepted m ≡ accepted n → m ≡ n
 accepted-injective p = cc
@@ -76,37 +78,47 @@ one-of n (m ∷ ms) q = try (eqb n m) refl q (λ z. one-of n ms z)
     try true p z k = inl (equal n m p)
     try false p z k = inr (k z)
 
-module _ (file : List ℕ) (tables : Tables) where
+-- The tests of lengths say what the conditions say, in both forms.
+unfit-in : (form : Form) (bytes : List ℕ) → fittingLength form (length bytes) ≡ false → LengthUnfit (inForm form bytes)
+unfit-in Old bytes f = try (either-false (leb (length bytes) 65536) (eqb (length bytes % 16) 0) f)
+  where
+    try : (leb (length bytes) 65536 ≡ false) ⊎ (eqb (length bytes % 16) 0 ≡ false) → LengthUnfit (oldFile bytes)
+    try (inl p) = lengthOver (leb-false-lt (length bytes) 65536 p)
+    try (inr p) = notMultiple (unequal (length bytes % 16) 0 p)
+unfit-in New bytes f = try (either-false (leb (length bytes) 65520) (eqb (length bytes % 20) 0) f)
+  where
+    try : (leb (length bytes) 65520 ≡ false) ⊎ (eqb (length bytes % 20) 0 ≡ false) → LengthUnfit (newFile bytes)
+    try (inl p) = newLengthOver (leb-false-lt (length bytes) 65520 p)
+    try (inr p) = newNotMultiple (unequal (length bytes % 20) 0 p)
+
+never-fits : {file : File} → LengthUnfit file → ¬ (fitting file ≡ true)
+never-fits (lengthOver {bytes} l) t = let z = at-most (length bytes) 65536 (both-true (leb (length bytes) 65536) (eqb (length bytes % 16) 0) t .0) in omega arith
+never-fits (notMultiple {bytes} n) t = n (equal (length bytes % 16) 0 (both-true (leb (length bytes) 65536) (eqb (length bytes % 16) 0) t .1))
+never-fits (newLengthOver {bytes} l) t = let z = at-most (length bytes) 65520 (both-true (leb (length bytes) 65520) (eqb (length bytes % 20) 0) t .0) in omega arith
+never-fits (newNotMultiple {bytes} n) t = n (equal (length bytes % 20) 0 (both-true (leb (length bytes) 65520) (eqb (length bytes % 20) 0) t .1))
+
+module _ (file : File) (tables : Tables) where
   -- The tables, by how the reading goes.
-  pub tables-length : fittingLength (length file) ≡ false → tablesAfter file tables ≡ tables
+  pub tables-length : fitting file ≡ false → tablesAfter file tables ≡ tables
   unfolding tablesAfter
   tables-length f = ap (λ (R : Reading). tablesGiven R tables) (reading-length file (lengthsOf tables) f)
 
-  pub tables-short : fittingLength (length file) ≡ true → longEnough (lengthsOf tables) ≡ false → tablesAfter file tables ≡ tables
+  pub tables-short : fitting file ≡ true → longEnough (lengthsOf tables) ≡ false → tablesAfter file tables ≡ tables
   unfolding tablesAfter
   tables-short f l = ap (λ (R : Reading). tablesGiven R tables) (reading-tables file (lengthsOf tables) f l)
 
-  pub tables-read : fittingLength (length file) ≡ true → longEnough (lengthsOf tables) ≡ true → tablesAfter file tables ≡ filledTables (stateOf (ending file)) tables
+  pub tables-read : fitting file ≡ true → longEnough (lengthsOf tables) ≡ true → tablesAfter file tables ≡ filledTables (stateOf (ending file)) tables
   unfolding tablesAfter
   tables-read f l = ap (λ (R : Reading). tablesGiven R tables) (reading-records file (lengthsOf tables) f l)
 
   pub stands-tables : (S : State) → Stands file S → longEnough (lengthsOf tables) ≡ true → tablesAfter file tables ≡ filledTables S tables
   stands-tables S st l = tables-read (st .fits) l ∙ ap (λ (e : Ending). filledTables (stateOf e) tables) (st .reads)
 
-  -- The tests of lengths say what the conditions say.
-  length-unfit : fittingLength (length file) ≡ false → LengthUnfit file
-  length-unfit f = try (either-false (leb (length file) 65536) (eqb (length file % 16) 0) f)
-    where
-      try : (leb (length file) 65536 ≡ false) ⊎ (eqb (length file % 16) 0 ≡ false) → LengthUnfit file
-      try (inl p) = lengthOver (leb-false-lt (length file) 65536 p)
-      try (inr p) = notMultiple (unequal (length file % 16) 0 p)
+  length-unfit : fitting file ≡ false → LengthUnfit file
+  length-unfit f = unfit-in (file .form) (file .bytes) f
 
-  length-fails : LengthUnfit file → fittingLength (length file) ≡ false
-  length-fails h = not-true (fittingLength (length file)) (λ t. let p = both-true (leb (length file) 65536) (eqb (length file % 16) 0) t in by h (at-most (length file) 65536 (p .0)) (equal (length file % 16) 0 (p .1)))
-    where
-      by : LengthUnfit file → length file ≤ 65536 → length file % 16 ≡ 0 → ⊥
-      by (lengthOver l) a b = omega arith
-      by (notMultiple n) a b = n b
+  length-fails : LengthUnfit file → fitting file ≡ false
+  length-fails h = not-true (fitting file) (never-fits h)
 
   abbrev four : Bool × Bool × Bool × Bool
   four = (leb 4096 (length (tables .symbols)), leb 4096 (length (tables .rows)), leb 20480 (length (tables .clauses)), leb 32768 (length (tables .bindings)))
@@ -165,7 +177,7 @@ module _ (file : List ℕ) (tables : Tables) where
       let O = order-of 4096 S H n c q in
       short-le (λ r. r < length (rowsOf S)) (rowOf S) (S .total) mostLinks (lookup c) (held-links 4096 S H) (O .chains) e l
 
-module _ (day : ℕ) (file : List ℕ) (tables : Tables) where
+module _ (day : ℕ) (file : File) (tables : Tables) where
   abbrev lengths : Lengths
   lengths = lengthsOf tables
 
@@ -173,15 +185,15 @@ module _ (day : ℕ) (file : List ℕ) (tables : Tables) where
   abbrev answerGiven : Reading → Answer
   answerGiven R = answerOf (verdictGiven day R) (stateGiven R)
 
-  pub check-length : fittingLength (length file) ≡ false → check day file (lengthsOf tables) ≡ answerOf (refusal badLength 0) emptyState
+  pub check-length : fitting file ≡ false → check day file (lengthsOf tables) ≡ answerOf (refusal badLength 0) emptyState
   unfolding check
   check-length f = ap answerGiven (reading-length file lengths f)
 
-  pub check-tables : fittingLength (length file) ≡ true → longEnough (lengthsOf tables) ≡ false → check day file (lengthsOf tables) ≡ answerOf (refusal shortTable 0) emptyState
+  pub check-tables : fitting file ≡ true → longEnough (lengthsOf tables) ≡ false → check day file (lengthsOf tables) ≡ answerOf (refusal shortTable 0) emptyState
   unfolding check
   check-tables f l = ap answerGiven (reading-tables file lengths f l)
 
-  pub check-reads : fittingLength (length file) ≡ true → longEnough (lengthsOf tables) ≡ true → check day file (lengthsOf tables) ≡ answerOf (verdictOf day (ending file)) (stateOf (ending file))
+  pub check-reads : fitting file ≡ true → longEnough (lengthsOf tables) ≡ true → check day file (lengthsOf tables) ≡ answerOf (verdictOf day (ending file)) (stateOf (ending file))
   unfolding check
   check-reads f l = ap answerGiven (reading-records file lengths f l)
 
@@ -191,13 +203,13 @@ module _ (day : ℕ) (file : List ℕ) (tables : Tables) where
 
   -- A file that is not refused stands.
   pub not-refused : ((q : Reason) (k : ℕ) → ¬ (check day file (lengthsOf tables) .verdict ≡ refusal q k)) → (longEnough (lengthsOf tables) ≡ true) × ((S : State) × Stands file S)
-  not-refused h = try (fittingLength (length file)) refl (longEnough lengths) refl
+  not-refused h = try (fitting file) refl (longEnough lengths) refl
     where
-      by : fittingLength (length file) ≡ true → longEnough (lengthsOf tables) ≡ true → (e : Ending) → ending file ≡ e → (S : State) × Stands file S
+      by : fitting file ≡ true → longEnough (lengthsOf tables) ≡ true → (e : Ending) → ending file ≡ e → (S : State) × Stands file S
       by f l (allStand S) p = (S, record { fits = f; reads = p })
       by f l (refusedAt S q k) p = absurd (h q k (ap (λ (a : Answer). a .verdict) (check-reads f l) ∙ ap (verdictOf day) p))
 
-      try : (b : Bool) → fittingLength (length file) ≡ b → (c : Bool) → longEnough (lengthsOf tables) ≡ c → (longEnough (lengthsOf tables) ≡ true) × ((S : State) × Stands file S)
+      try : (b : Bool) → fitting file ≡ b → (c : Bool) → longEnough (lengthsOf tables) ≡ c → (longEnough (lengthsOf tables) ≡ true) × ((S : State) × Stands file S)
       try false f c l = absurd (h badLength 0 (ap (λ (a : Answer). a .verdict) (check-length f)))
       try true f false l = absurd (h shortTable 0 (ap (λ (a : Answer). a .verdict) (check-tables f l)))
       try true f true l = (l, by f l (ending file) refl)
@@ -210,7 +222,7 @@ module _ (day : ℕ) (file : List ℕ) (tables : Tables) where
     refusedBy : step state k refusedRecord ≡ refused q
     isEnding : ending file ≡ refusedAt state q k
 
-  found : fittingLength (length file) ≡ true → (e : Ending) → ending file ≡ e → (q : Reason) (k : ℕ) → verdictOf day e ≡ refusal q k → Found q k
+  found : fitting file ≡ true → (e : Ending) → ending file ≡ e → (q : Reason) (k : ℕ) → verdictOf day e ≡ refusal q k → Found q k
   unfolding ending
   found f (allStand S) p q k z = absurd (never-refusal (firstEmpty (usesInForce S day) (derivations S)) z)
   found f (refusedAt S p′ j) p q k z =
@@ -228,14 +240,14 @@ module _ (day : ℕ) (file : List ℕ) (tables : Tables) where
 
   -- What a refusal is.
   data Refused (q : Reason) (k : ℕ) : Type 0 where
-    forLength : q ≡ badLength → k ≡ 0 → fittingLength (length file) ≡ false → Refused q k
-    forTables : q ≡ shortTable → k ≡ 0 → fittingLength (length file) ≡ true → longEnough (lengthsOf tables) ≡ false → Refused q k
-    forRecord : fittingLength (length file) ≡ true → longEnough (lengthsOf tables) ≡ true → Found q k → Refused q k
+    forLength : q ≡ badLength → k ≡ 0 → fitting file ≡ false → Refused q k
+    forTables : q ≡ shortTable → k ≡ 0 → fitting file ≡ true → longEnough (lengthsOf tables) ≡ false → Refused q k
+    forRecord : fitting file ≡ true → longEnough (lengthsOf tables) ≡ true → Found q k → Refused q k
 
   refused-by : (q : Reason) (k : ℕ) → check day file (lengthsOf tables) .verdict ≡ refusal q k → Refused q k
-  refused-by q k z = try (fittingLength (length file)) refl (longEnough lengths) refl
+  refused-by q k z = try (fitting file) refl (longEnough lengths) refl
     where
-      try : (b : Bool) → fittingLength (length file) ≡ b → (c : Bool) → longEnough (lengthsOf tables) ≡ c → Refused q k
+      try : (b : Bool) → fitting file ≡ b → (c : Bool) → longEnough (lengthsOf tables) ≡ c → Refused q k
       try false f c l = let w = refusal-injective (sym (ap (λ (a : Answer). a .verdict) (check-length f)) ∙ z) in forLength (sym (w .0)) (sym (w .1)) f
       try true f false l = let w = refusal-injective (sym (ap (λ (a : Answer). a .verdict) (check-tables f l)) ∙ z) in forTables (sym (w .0)) (sym (w .1)) f l
       try true f true l = forRecord f l (found f (ending file) refl q k (sym (ap (λ (a : Answer). a .verdict) (check-reads f l)) ∙ z))
@@ -244,10 +256,10 @@ module _ (day : ℕ) (file : List ℕ) (tables : Tables) where
   found-condition q k F = refused-condition k (F .state) (F .refusedRecord) file (F .reached) q (F .refusedBy)
 
   -- Reason 1 is given only for the length.
-  pub length-only : (k : ℕ) → check day file (lengthsOf tables) .verdict ≡ refusal badLength k → fittingLength (length file) ≡ false
+  pub length-only : (k : ℕ) → check day file (lengthsOf tables) .verdict ≡ refusal badLength k → fitting file ≡ false
   length-only k z = try (refused-by badLength k z)
     where
-      try : Refused badLength k → fittingLength (length file) ≡ false
+      try : Refused badLength k → fitting file ≡ false
       try (forLength a b f) = f
       try (forTables a b f l) = let y : _≡_ {A = ℕ} 1 2 = ap reasonNumber a in absurd (omega arith)
       try (forRecord f l F) = let y = condition-number 1 (found-condition badLength k F) .0 in absurd (omega arith)
@@ -299,13 +311,13 @@ module _ (day : ℕ) (file : List ℕ) (tables : Tables) where
   abbrev RefusedUpTo : ℕ → Type 0
   RefusedUpTo n = (q : Reason) × (j : ℕ) × (check day file (lengthsOf tables) .verdict ≡ refusal q j) × (precedence (reasonNumber q) ≤ precedence n)
 
-  for-length : (n : ℕ) → 1 ≤ precedence n → fittingLength (length file) ≡ false → RefusedUpTo n
+  for-length : (n : ℕ) → 1 ≤ precedence n → fitting file ≡ false → RefusedUpTo n
   for-length n l f = (badLength, 0, ap (λ (a : Answer). a .verdict) (check-length f), l)
 
   for-tables : (n : ℕ) → 2 ≤ precedence n → longEnough (lengthsOf tables) ≡ false → RefusedUpTo n
-  for-tables n m l = try (fittingLength (length file)) refl
+  for-tables n m l = try (fitting file) refl
     where
-      try : (b : Bool) → fittingLength (length file) ≡ b → RefusedUpTo n
+      try : (b : Bool) → fitting file ≡ b → RefusedUpTo n
       try true f = (shortTable, 0, ap (λ (a : Answer). a .verdict) (check-tables f l), m)
       try false f = for-length n (omega arith) f
 
@@ -415,7 +427,7 @@ module _ (day : ℕ) (file : List ℕ) (tables : Tables) where
         let K = order-of 4096 S H n c q .valid in
         (writes-out (rowOf S) (termOf S) (term-of-row S H) c K, writes-out-unique (rowOf S) (termOf S) (term-of-row S H) c K);
     resolvents = λ k S T r ns R N q. let K = resolve-kind r N in subst (λ (ms : List ℕ). ResolventAdded Y S k r ms T) (K .3) (resolvent-added S (reached-ok file k S r R) k r Y T (K .0) (K .1) (K .2) q);
-    factors = λ k S T r R e q. factor-added S (reached-ok file k S r R) k r Y T (ap kindNumbered e) q;
+    factors = λ k S T r R e q. factor-added S (reached-ok file k S r R) k r Y T (kind-at r 6 e refl) q;
     noUnifier = λ k S r q R z m pairs A. refused-no-unifier k S r file R Y q z m pairs A;
     nothingLost = λ k S r R range pairs A rises signs τ u. unifiable-stands S (reached-ok file k S r R) k r (reached-seven file k S r R) Y range pairs A rises signs τ u;
     recordDue = λ k S r q R z. (refused-condition k S r file R q z, refused-lowest k S r file R q z);

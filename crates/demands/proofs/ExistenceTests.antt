@@ -15,11 +15,11 @@ use Rattle.unification.proofs.Lists.{map-map}
 use Rattle.unification.proofs.Tests.{both-true, true-not-false, some-not-none, some-injective}
 use Rattle.derivation.specs.Derivation.{literals, input, resolve, factor, Literal, RowLiteral, literalOf, inputLiterals, Derivation, numbered, numberedAll}
 use Rattle.derivation.proofs.Literals.{numbered-cons}
-use Rattle.demands.specs.Conditions.{OneOf, fieldNumbered, RightLiterals, NamesClause, leftClause, rightClause, factoredClause, datedClause, Names, leftLiteral, rightLiteral, keptLiteral, deletedLiteral, NotThere, noSymbolThere, otherArity, noArgumentRow, noLiteralRow, noClause, noLiteral, derivedClause}
-use Rattle.verdict.specs.Refusal.{tests, resolveTests, kindOfRecord, argumentRows, literalIn, literalNamed, leftOf, rightNumbers, literalsIn, rightOf, deletedOf, isThere, isInput, hasArity, allBelow, argumentsThere, literalRowsThere, bothThere}
+use Rattle.demands.specs.Conditions.{OneOf, fieldNumbered, IsWindow, RightLiterals, NamesClause, leftClause, rightClause, factoredClause, datedClause, Names, leftLiteral, rightLiteral, keptLiteral, deletedLiteral, NotThere, noSymbolThere, otherArity, noArgumentRow, noLiteralRow, noClause, noLiteral, derivedClause}
+use Rattle.verdict.specs.Refusal.{zeroDays, tests, resolveTests, kindOfRecord, argumentRows, literalIn, literalNamed, leftOf, rightNumbers, literalsIn, rightOf, deletedOf, isThere, isInput, hasArity, allBelow, argumentsThere, literalRowsThere, bothThere}
 use Rattle.verdict.specs.State.{arities, State, entry, rowsOf, derivations, arityOf, clauseOf}
 use Rattle.demands.proofs.Inversions.{literal-named, literals-named, is-there, has-arity, all-below, entry-below, testFor}
-use Rattle.demands.proofs.RangeTests.{at-most, either-false, not-true, not-under, of-kind, unequal, IsResolve, on-one, on-several, right-literals, resolve-kind}
+use Rattle.demands.proofs.RangeTests.{at-most, either-false, second-false, not-true, not-under, of-kind, kind-at, window-kind, unequal, IsResolve, on-one, on-several, right-literals, resolve-kind}
 
 -- 5: what exists.
 pub entry-there : {A : Type 0} (xs : List A) (n : ℕ) → entry xs n ≡ none → length xs ≤ n
@@ -172,7 +172,7 @@ module _ (S : State) (r : Record) (seven : length (r .fields) ≡ 7) where
   pub window-absent : kindOfRecord r ≡ windowKind → isInput (clauseOf S (fieldA r)) ≡ false → NotThere S r
   window-absent e q = try (clauseOf S (fieldA r)) refl q
     where
-      k : r .kind ≡ 8
+      k : IsWindow r
       k = of-kind r windowKind e
 
       try : (o : Option Derivation) → clauseOf S (fieldA r) ≡ o → isInput o ≡ false → NotThere S r
@@ -183,8 +183,11 @@ module _ (S : State) (r : Record) (seven : length (r .fields) ≡ 7) where
   abbrev TestFails : ℕ → Type 0
   TestFails n = testFor (tests S (kindOfRecord r) r) n ≡ false
 
-  pub at-number : (k n : ℕ) → r .kind ≡ k → testFor (tests S (kindNumbered k) r) n ≡ false → TestFails n
-  at-number k n e q = subst (λ (kind : Kind). testFor (tests S kind r) n ≡ false) (sym (ap kindNumbered e)) q
+  pub at-number : (k n : ℕ) → r .kind ≡ k → eqb k 8 ≡ false → testFor (tests S (kindNumbered k) r) n ≡ false → TestFails n
+  at-number k n e h q = subst (λ (kind : Kind). testFor (tests S kind r) n ≡ false) (sym (kind-at r k e h)) q
+
+  pub at-window : (n : ℕ) → IsWindow r → testFor (tests S windowKind r) n ≡ false → TestFails n
+  at-window n w q = subst (λ (kind : Kind). testFor (tests S kind r) n ≡ false) (sym (window-kind r w)) q
 
   named-within : (c n : ℕ) → isThere (literalNamed S c n) ≡ true → (d : Derivation) × (clauseOf S c ≡ some d) × (c < length (S .clauses)) × (1 ≤ n) × (n ≤ length (literals d))
   named-within c n q =
@@ -206,11 +209,11 @@ module _ (S : State) (r : Record) (seven : length (r .fields) ≡ 7) where
       never (b .0) (subst (λ (ms : List ℕ). isThere (literalsIn ms (clauseOf S (fieldC r))) ≡ true) (k .3) (b .1))))
 
   factor-fails : r .kind ≡ 6 → (isThere (leftOf S r) ≡ true → isThere (deletedOf S r) ≡ true → ⊥) → TestFails 5
-  factor-fails e never = at-number 6 5 e (not-true (bothThere (leftOf S r) (deletedOf S r)) (λ t. let b = both-true (isThere (leftOf S r)) (isThere (deletedOf S r)) t in never (b .0) (b .1)))
+  factor-fails e never = at-number 6 5 e refl (not-true (bothThere (leftOf S r) (deletedOf S r)) (λ t. let b = both-true (isThere (leftOf S r)) (isThere (deletedOf S r)) t in never (b .0) (b .1)))
 
   -- The clause of a window.
-  window-fails : r .kind ≡ 8 → (isInput (clauseOf S (fieldA r)) ≡ true → ⊥) → TestFails 5
-  window-fails e never = at-number 8 5 e (not-true (isInput (clauseOf S (fieldA r))) never)
+  window-fails : IsWindow r → (isInput (clauseOf S (fieldA r)) ≡ true → ⊥) → TestFails 5
+  window-fails w never = at-window 5 w (not-true (isInput (clauseOf S (fieldA r))) never)
 
   -- A clause that does not exist.
   rights-within : (ns : List ℕ) → isThere (literalsIn ns (clauseOf S (fieldC r))) ≡ true → (d : Derivation) × (ls : List Literal) × (clauseOf S (fieldC r) ≡ some d) × (numberedAll (literals d) ns ≡ some ls) × (fieldC r < length (S .clauses))
@@ -262,7 +265,7 @@ module _ (S : State) (r : Record) (seven : length (r .fields) ≡ 7) where
   no-literal-fails d (deletedLiteral e) p h = factor-fails e (λ t u. named-outside (fieldA r) (fieldC r) d p h u)
 
   arguments-fail : r .kind ≡ 3 → ((arityOf S (fieldA r) ≡ some (r .count)) × (allBelow (length (rowsOf S)) (argumentRows r) ≡ true) → ⊥) → TestFails 5
-  arguments-fail e never = at-number 3 5 e (not-true (argumentsThere S r) (λ t.
+  arguments-fail e never = at-number 3 5 e refl (not-true (argumentsThere S r) (λ t.
       let p = both-true (hasArity (r .count) (arityOf S (fieldA r))) (allBelow (length (rowsOf S)) (argumentRows r)) t in
       never (has-arity (r .count) (arityOf S (fieldA r)) (p .0), p .1)))
 
@@ -290,12 +293,12 @@ module _ (S : State) (r : Record) (seven : length (r .fields) ≡ 7) where
     where
       try : (b : Bool) → leb (r .count) 6 ≡ b → (TestFails 4) ⊎ (TestFails 5)
       try true q = inr (arguments-fail e (λ p. let z = argument-there i a b (at-most (r .count) 6 q) (p .1) in omega arith))
-      try false q = inl (at-number 3 4 e (rw q refl))
+      try false q = inl (at-number 3 4 e refl (second-false (zeroDays (r .days)) _ (rw q refl)))
   not-there (noLiteralRow e i a l) = try (leb (r .count) 7) refl
     where
       try : (b : Bool) → leb (r .count) 7 ≡ b → (TestFails 4) ⊎ (TestFails 5)
-      try true q = inr (at-number 4 5 e (not-true (literalRowsThere S r) (λ t. let z = literal-row-there i a (at-most (r .count) 7 q) t in omega arith)))
-      try false q = inl (at-number 4 4 e (rw q refl))
+      try true q = inr (at-number 4 5 e refl (not-true (literalRowsThere S r) (λ t. let z = literal-row-there i a (at-most (r .count) 7 q) t in omega arith)))
+      try false q = inl (at-number 4 4 e refl (rw q refl))
   not-there (noClause names l) = inr (no-clause-fails names l)
   not-there (noLiteral {d = d} names p h) = inr (no-literal-fails d names p h)
   not-there (derivedClause e p n) = inr (window-fails e (λ t. let x = is-input (clauseOf S (fieldA r)) t in n (x .0) (x .1) (some-injective (sym p ∙ x .2))))

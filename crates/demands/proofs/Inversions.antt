@@ -16,7 +16,7 @@ use Rattle.unification.proofs.Rows.{Below, eqb-below}
 use Rattle.unification.proofs.Tests.{to-T, from-T, both-true, true-not-false, some-not-none, some-injective}
 use Rattle.derivation.specs.Derivation.{literals, Literal, RowLiteral, inputLiterals, Derivation, numbered, numberedAll, StrictlyRising}
 use Rattle.derivation.proofs.Literals.{leb-false-lt}
-use Rattle.verdict.specs.Refusal.{tests, outlineTests, Reason, reasonNumber, unification, kindOfRecord, inRange, literalIn, literalNamed, leftOf, rightNumbers, literalsIn, rightOf, deletedOf, isThere, isInput, hasArity, allBelow, argumentsThere, literalRowsThere, bothThere, allApplications, equalSigns, allOpposite, oppositeSigns, factorSigns, resolventFits, factorFits, rising, resolveTests}
+use Rattle.verdict.specs.Refusal.{tests, outlineTests, inOrder, Reason, reasonNumber, unification, kindOfRecord, inRange, literalIn, literalNamed, leftOf, rightNumbers, literalsIn, rightOf, deletedOf, isThere, isInput, hasArity, allBelow, argumentsThere, literalRowsThere, bothThere, allApplications, equalSigns, allOpposite, oppositeSigns, factorSigns, resolventFits, factorFits, rising, resolveTests}
 use Rattle.verdict.specs.State.{State, withClause, entry, rowsOf, clauseOf, rowOf}
 use Rattle.verdict.specs.Step.{stands, refused, Result, require, requireAll, enter, step, addClause, onNamed}
 
@@ -229,6 +229,7 @@ pub record PassedApplication (S : State) (r : Record) : Type 0 where
 pub record PassedInput (S : State) (r : Record) : Type 0 where
   pub ranged : inRange inputKind r ≡ true
   pub there : literalRowsThere S r ≡ true
+  pub days : inOrder (r .days) ≡ true
   pub applications : allApplications (rowOf S) (inputLiterals r) ≡ true
 
 pub record PassedResolve (S : State) (kind : Kind) (r : Record) : Type 0 where
@@ -286,7 +287,7 @@ tests-passed S applicationKind r a =
     record { ranged = p 4; there = p 5 }
 tests-passed S inputKind r a =
     let p = passed-for (tests S inputKind r) a in
-    record { ranged = p 4; there = p 5; applications = p 7 }
+    record { ranged = p 4; there = p 5; days = p 16; applications = p 7 }
 tests-passed S resolveKind r a = resolve-passed S resolveKind r a
 tests-passed S severalKind r a = resolve-passed S severalKind r a
 tests-passed S factorKind r a =

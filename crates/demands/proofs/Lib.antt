@@ -9,6 +9,7 @@ pub mod StepTests
 pub mod Added
 pub mod Resolution
 pub mod Refusals
+pub mod Dating
 pub mod InForceShown
 pub mod Shared
 pub mod Sources

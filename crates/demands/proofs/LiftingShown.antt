@@ -6,7 +6,7 @@ use mathlib.Core.Option.{some}
 use mathlib.Core.List.{List, [], _∷_, map}
 use Prim.Native.Nat.{ℕ}
 use native.Mathlib.Omega.{arith}
-use Rattle.record.specs.Record.{Record, fieldA, fieldB, fieldC}
+use Rattle.record.specs.Record.{File, Record, fieldA, fieldB, fieldC}
 use Rattle.unification.specs.Row.{Variable}
 use Rattle.unification.specs.Term.{Term, apply}
 use Rattle.unification.specs.Unifier.{Unifies}
@@ -34,7 +34,7 @@ use Rattle.verdict.specs.Tables.{Tables}
 abbrev noTables : Tables
 noTables = record { symbols = []; rows = []; clauses = []; bindings = [] }
 
-module _ (file : List ℕ) (k : ℕ) (S : State) (r : Record) (R : Reached file k S r) where
+module _ (file : File) (k : ℕ) (S : State) (r : Record) (R : Reached file k S r) where
   abbrev term : ℕ → Term ℕ
   term = termOf S
 
@@ -134,7 +134,7 @@ module _ (file : List ℕ) (k : ℕ) (S : State) (r : Record) (R : Reached file 
             let X = subst (λ (c : Derivation). Factor (Unit {0}) (written term c) (fieldB r) (fieldC r) (written term (A .clause))) l (A .factored) in
             (A .clause, A .added, factor-lifted (written term parent) (written term (A .clause)) (fieldB r) (fieldC r) γ E G X)
 
-pub nothing-lost : (file : List ℕ) → NothingLost file
+pub nothing-lost : (file : File) → NothingLost file
 nothing-lost file = record {
   resolvents = λ k S r ns left right R N p q γ δ E G. resolve-not-lost file k S r R ns left right N p q γ δ E G;
   factors = λ k S r parent R e p γ E G. factor-not-lost file k S r R parent e p γ E G;

@@ -2,6 +2,7 @@
 use mathlib.Core.Path.{_≡_, refl, sym, ap, _∙_, subst}
 use mathlib.Core.Logic.{_⊎_, inl, inr}
 use mathlib.Core.Bool.{Bool, true, false, _&&_}
+use mathlib.Core.Option.{Option, none, some}
 use mathlib.Core.List.{List, [], _∷_}
 use Prim.Native.Nat.{ℕ, zero, suc, _+_, _-_, _≤_, _<_}
 use native.Mathlib.Omega.{arith}
@@ -9,10 +10,10 @@ use lib.Dec.{eqb, leb, ltb, eqb→eq, eqb-refl, leb→le, nltb→le}
 use lib.ListN.{getD, drop}
 use lib.Seq.{getD-drop}
 use Rattle.record.specs.Record.{pick, Record, otherKind, Kind, symbolKind, variableKind, applicationKind, inputKind, resolveKind, factorKind, severalKind, windowKind, kindNumbered, fieldA, fieldD}
-use Rattle.unification.proofs.Tests.{to-T, from-T, both-true, true-not-false}
+use Rattle.unification.proofs.Tests.{to-T, from-T, both-true, true-not-false, some-not-none}
 use Rattle.derivation.proofs.Literals.{leb-false-lt}
-use Rattle.demands.specs.Conditions.{fieldNumbered, Layout, ofSymbol, ofVariable, ofApplication, ofInput, ofResolve, ofFactor, ofSeveral, ofWindow, OutOfRange, countOver, noRightLiteral, variableOver, unusedField, RightLiterals, ofOne, ofSome}
-use Rattle.verdict.specs.Refusal.{kindOfRecord, zeros, inRange, rightNumbers}
+use Rattle.demands.specs.Conditions.{fieldNumbered, IsWindow, UnknownKind, kindBelow, kindAbove, windowInNewForm, Layout, ofSymbol, ofVariable, ofApplication, ofInput, ofResolve, ofFactor, ofSeveral, ofWindow, OutOfRange, countOver, noRightLiteral, variableOver, unusedField, unusedDays, RightLiterals, ofOne, ofSome}
+use Rattle.verdict.specs.Refusal.{hasDays, kindOfRecord, zeros, fieldsInRange, zeroDays, daysInRange, inRange, rightNumbers}
 
 -- Tests that fail.
 pub not-true : (b : Bool) → ¬ (b ≡ true) → b ≡ false
@@ -22,6 +23,10 @@ not-true false h = refl
 pub either-false : (a b : Bool) → (a && b) ≡ false → (a ≡ false) ⊎ (b ≡ false)
 either-false true b q = inr q
 either-false false b q = inl refl
+
+pub second-false : (a b : Bool) → b ≡ false → (a && b) ≡ false
+second-false true b q = q
+second-false false b q = refl
 
 pub unequal : (a b : ℕ) → eqb a b ≡ false → ¬ (a ≡ b)
 unequal a b q e = true-not-false (subst (λ (c : ℕ). eqb a c ≡ true) e (from-T (eqb a a) (eqb-refl a))) q
@@ -92,31 +97,96 @@ kind-number n = one (eqb n 1) refl
     one true q = equal n 1 q
     one false q = two (unequal n 1 q) (eqb n 2) refl
 
-pub of-kind : (r : Record) (kind : Kind) → kindOfRecord r ≡ kind → KindNumber kind (r .kind)
-of-kind r kind e = subst (λ (k : Kind). KindNumber k (r .kind)) e (kind-number (r .kind))
+-- A record of each kind: of kind 8 are only those without days.
+abbrev pub KindOf : Kind → Record → Type 0
+KindOf symbolKind r = r .kind ≡ 1
+KindOf variableKind r = r .kind ≡ 2
+KindOf applicationKind r = r .kind ≡ 3
+KindOf inputKind r = r .kind ≡ 4
+KindOf resolveKind r = r .kind ≡ 5
+KindOf factorKind r = r .kind ≡ 6
+KindOf severalKind r = r .kind ≡ 7
+KindOf windowKind r = IsWindow r
+KindOf otherKind r = UnknownKind r
+
+outside-table : (r : Record) → (r .kind < 1) ⊎ (8 < r .kind) → UnknownKind r
+outside-table r (inl l) = kindBelow l
+outside-table r (inr l) = kindAbove l
+
+undated-kind : (r : Record) → r .days ≡ none → (kind : Kind) → KindNumber kind (r .kind) → KindOf kind r
+undated-kind r d symbolKind e = e
+undated-kind r d variableKind e = e
+undated-kind r d applicationKind e = e
+undated-kind r d inputKind e = e
+undated-kind r d resolveKind e = e
+undated-kind r d factorKind e = e
+undated-kind r d severalKind e = e
+undated-kind r d windowKind e = (e, d)
+undated-kind r d otherKind e = outside-table r e
+
+dated-kind : (r : Record) → ¬ (r .kind ≡ 8) → (kind : Kind) → KindNumber kind (r .kind) → KindOf kind r
+dated-kind r d symbolKind e = e
+dated-kind r d variableKind e = e
+dated-kind r d applicationKind e = e
+dated-kind r d inputKind e = e
+dated-kind r d resolveKind e = e
+dated-kind r d factorKind e = e
+dated-kind r d severalKind e = e
+dated-kind r d windowKind e = absurd (d e)
+dated-kind r d otherKind e = outside-table r e
+
+kind-of : (r : Record) → KindOf (kindOfRecord r) r
+kind-of r = try (r .days) refl (eqb (r .kind) 8) refl
+  where
+    try : (d : Option (ℕ × ℕ)) → r .days ≡ d → (b : Bool) → eqb (r .kind) 8 ≡ b → KindOf (pick (hasDays d && b) otherKind (kindNumbered (r .kind))) r
+    try none p b q = undated-kind r p (kindNumbered (r .kind)) (kind-number (r .kind))
+    try (some d) p true q = windowInNewForm (equal (r .kind) 8 q) p
+    try (some d) p false q = dated-kind r (unequal (r .kind) 8 q) (kindNumbered (r .kind)) (kind-number (r .kind))
+
+pub of-kind : (r : Record) (kind : Kind) → kindOfRecord r ≡ kind → KindOf kind r
+of-kind r kind e = subst (λ (k : Kind). KindOf k r) e (kind-of r)
+
+-- A record whose byte 0 is another number than 8 is of that number's kind, and one of kind 8 without days is a window.
+pub kind-at : (r : Record) (n : ℕ) → r .kind ≡ n → eqb n 8 ≡ false → kindOfRecord r ≡ kindNumbered n
+kind-at r n e h = try (hasDays (r .days)) ∙ ap kindNumbered e
+  where
+    try : (b : Bool) → pick (b && eqb (r .kind) 8) otherKind (kindNumbered (r .kind)) ≡ kindNumbered (r .kind)
+    try false = refl
+    try true = ap (λ (b : Bool). pick b otherKind (kindNumbered (r .kind))) (ap (λ (m : ℕ). eqb m 8) e ∙ h)
+
+pub window-kind : (r : Record) → IsWindow r → kindOfRecord r ≡ windowKind
+window-kind r w = ap (λ (d : Option (ℕ × ℕ)). pick (hasDays d && eqb (r .kind) 8) otherKind (kindNumbered (r .kind))) (w .1) ∙ ap kindNumbered (w .0)
 
 -- A record whose kind has no number of the table.
-pub other-kind : (r : Record) → (r .kind < 1) ⊎ (8 < r .kind) → kindOfRecord r ≡ otherKind
-other-kind r h = try (kindOfRecord r) (kind-number (r .kind)) h
-  where
-    try : (k : Kind) → KindNumber k (r .kind) → (r .kind < 1) ⊎ (8 < r .kind) → k ≡ otherKind
-    try symbolKind e (inl l) = absurd (omega arith)
-    try symbolKind e (inr l) = absurd (omega arith)
-    try variableKind e (inl l) = absurd (omega arith)
-    try variableKind e (inr l) = absurd (omega arith)
-    try applicationKind e (inl l) = absurd (omega arith)
-    try applicationKind e (inr l) = absurd (omega arith)
-    try inputKind e (inl l) = absurd (omega arith)
-    try inputKind e (inr l) = absurd (omega arith)
-    try resolveKind e (inl l) = absurd (omega arith)
-    try resolveKind e (inr l) = absurd (omega arith)
-    try factorKind e (inl l) = absurd (omega arith)
-    try factorKind e (inr l) = absurd (omega arith)
-    try severalKind e (inl l) = absurd (omega arith)
-    try severalKind e (inr l) = absurd (omega arith)
-    try windowKind e (inl l) = absurd (omega arith)
-    try windowKind e (inr l) = absurd (omega arith)
-    try otherKind e l = refl
+none-of-them : (r : Record) → (kind : Kind) → KindOf kind r → UnknownKind r → kind ≡ otherKind
+none-of-them r symbolKind e (kindBelow l) = absurd (omega arith)
+none-of-them r symbolKind e (kindAbove l) = absurd (omega arith)
+none-of-them r symbolKind e (windowInNewForm w d) = absurd (omega arith)
+none-of-them r variableKind e (kindBelow l) = absurd (omega arith)
+none-of-them r variableKind e (kindAbove l) = absurd (omega arith)
+none-of-them r variableKind e (windowInNewForm w d) = absurd (omega arith)
+none-of-them r applicationKind e (kindBelow l) = absurd (omega arith)
+none-of-them r applicationKind e (kindAbove l) = absurd (omega arith)
+none-of-them r applicationKind e (windowInNewForm w d) = absurd (omega arith)
+none-of-them r inputKind e (kindBelow l) = absurd (omega arith)
+none-of-them r inputKind e (kindAbove l) = absurd (omega arith)
+none-of-them r inputKind e (windowInNewForm w d) = absurd (omega arith)
+none-of-them r resolveKind e (kindBelow l) = absurd (omega arith)
+none-of-them r resolveKind e (kindAbove l) = absurd (omega arith)
+none-of-them r resolveKind e (windowInNewForm w d) = absurd (omega arith)
+none-of-them r factorKind e (kindBelow l) = absurd (omega arith)
+none-of-them r factorKind e (kindAbove l) = absurd (omega arith)
+none-of-them r factorKind e (windowInNewForm w d) = absurd (omega arith)
+none-of-them r severalKind e (kindBelow l) = absurd (omega arith)
+none-of-them r severalKind e (kindAbove l) = absurd (omega arith)
+none-of-them r severalKind e (windowInNewForm w d) = absurd (omega arith)
+none-of-them r windowKind e (kindBelow l) = absurd (omega (arith, e .0))
+none-of-them r windowKind e (kindAbove l) = absurd (omega (arith, e .0))
+none-of-them r windowKind e (windowInNewForm w d) = absurd (some-not-none (e .1) d)
+none-of-them r otherKind e u = refl
+
+pub other-kind : (r : Record) → UnknownKind r → kindOfRecord r ≡ otherKind
+other-kind r h = none-of-them r (kindOfRecord r) (kind-of r) h
 
 -- The two kinds of a resolve, and their right literals.
 pub data IsResolve : Kind → Type 0 where
@@ -128,8 +198,8 @@ right-literals r kind on-one e = ofOne (of-kind r resolveKind e)
 right-literals r kind on-several e = ofSome (of-kind r severalKind e)
 
 pub resolve-kind : (r : Record) {ns : List ℕ} → RightLiterals r ns → (kind : Kind) × IsResolve kind × (kindOfRecord r ≡ kind) × (rightNumbers kind r ≡ ns)
-resolve-kind r (ofOne e) = (resolveKind, on-one, ap kindNumbered e, refl)
-resolve-kind r (ofSome e) = (severalKind, on-several, ap kindNumbered e, refl)
+resolve-kind r (ofOne e) = (resolveKind, on-one, kind-at r 5 e refl, refl)
+resolve-kind r (ofSome e) = (severalKind, on-several, kind-at r 7 e refl, refl)
 
 -- 4: fields that are zero.
 zeros-false : (xs : List ℕ) → zeros xs ≡ false → (i : ℕ) × ¬ (getD xs i 0 ≡ 0)
@@ -178,7 +248,7 @@ module _ (r : Record) where
       try (inl p) = none-over a p
       try (inr p) = unused-over a p
 
-  variable-over : r .kind ≡ 2 → inRange variableKind r ≡ false → OutOfRange r
+  variable-over : r .kind ≡ 2 → fieldsInRange variableKind r ≡ false → OutOfRange r
   variable-over e q = try (either-false (eqb (r .count) 0 && leb (fieldA r) 63) (zeros (drop 1 (r .fields))) q)
     where
       first : (eqb (r .count) 0 ≡ false) ⊎ (leb (fieldA r) 63 ≡ false) → OutOfRange r
@@ -189,7 +259,7 @@ module _ (r : Record) where
       try (inl p) = first (either-false (eqb (r .count) 0) (leb (fieldA r) 63) p)
       try (inr p) = unused-over (ofVariable e) p
 
-  several-over : r .kind ≡ 7 → inRange severalKind r ≡ false → OutOfRange r
+  several-over : r .kind ≡ 7 → fieldsInRange severalKind r ≡ false → OutOfRange r
   several-over e q = try (either-false (leb 1 (r .count) && leb (r .count) 4) (zeros (drop (3 + r .count) (r .fields))) q)
     where
       first : (leb 1 (r .count) ≡ false) ⊎ (leb (r .count) 4 ≡ false) → OutOfRange r
@@ -200,15 +270,34 @@ module _ (r : Record) where
       try (inl p) = first (either-false (leb 1 (r .count)) (leb (r .count) 4) p)
       try (inr p) = unused-over (ofSeveral e) p
 
+  -- Days that are not zero, beside a record that is no input clause.
+  days-over : {most used : ℕ} → Layout r most used → ¬ (r .kind ≡ 4) → zeroDays (r .days) ≡ false → OutOfRange r
+  days-over a n q = try (r .days) refl q
+    where
+      try : (d : Option (ℕ × ℕ)) → r .days ≡ d → zeroDays d ≡ false → OutOfRange r
+      try none p z = absurd (true-not-false refl z)
+      try (some d) p z = by (either-false (eqb (d .0) 0) (eqb (d .1) 0) z)
+        where
+          by : (eqb (d .0) 0 ≡ false) ⊎ (eqb (d .1) 0 ≡ false) → OutOfRange r
+          by (inl y) = unusedDays a n p (inl (unequal (d .0) 0 y))
+          by (inr y) = unusedDays a n p (inr (unequal (d .1) 0 y))
+
+  either-over : {days fields : Bool} → (days && fields) ≡ false → (days ≡ false → OutOfRange r) → (fields ≡ false → OutOfRange r) → OutOfRange r
+  either-over {days} {fields} q f g = try (either-false days fields q)
+    where
+      try : (days ≡ false) ⊎ (fields ≡ false) → OutOfRange r
+      try (inl p) = f p
+      try (inr p) = g p
+
   -- A range test that fails, kind by kind.
   pub range-over : (kind : Kind) → kindOfRecord r ≡ kind → inRange kind r ≡ false → OutOfRange r
-  range-over symbolKind e q = up-to-over (ofSymbol (of-kind r symbolKind e)) q
-  range-over variableKind e q = variable-over (of-kind r variableKind e) q
-  range-over applicationKind e q = up-to-over (ofApplication (of-kind r applicationKind e)) q
+  range-over symbolKind e q = let k = of-kind r symbolKind e in either-over q (days-over (ofSymbol k) (λ z. omega arith)) (up-to-over (ofSymbol k))
+  range-over variableKind e q = let k = of-kind r variableKind e in either-over q (days-over (ofVariable k) (λ z. omega arith)) (variable-over k)
+  range-over applicationKind e q = let k = of-kind r applicationKind e in either-over q (days-over (ofApplication k) (λ z. omega arith)) (up-to-over (ofApplication k))
   range-over inputKind e q = up-to-over (ofInput (of-kind r inputKind e)) q
-  range-over resolveKind e q = step-over (ofResolve (of-kind r resolveKind e)) q
-  range-over factorKind e q = step-over (ofFactor (of-kind r factorKind e)) q
-  range-over severalKind e q = several-over (of-kind r severalKind e) q
+  range-over resolveKind e q = let k = of-kind r resolveKind e in either-over q (days-over (ofResolve k) (λ z. omega arith)) (step-over (ofResolve k))
+  range-over factorKind e q = let k = of-kind r factorKind e in either-over q (days-over (ofFactor k) (λ z. omega arith)) (step-over (ofFactor k))
+  range-over severalKind e q = let k = of-kind r severalKind e in either-over q (days-over (ofSeveral k) (λ z. omega arith)) (several-over k)
   range-over windowKind e q = step-over (ofWindow (of-kind r windowKind e)) q
   range-over otherKind e q = absurd (true-not-false refl q)
 
@@ -227,37 +316,62 @@ module _ (r : Record) where
       let z = equal (r .count) 0 (p .0) in
       (omega arith, unused-true used (p .1))
 
-  variable-fits : inRange variableKind r ≡ true → Fits 0 1 × (fieldA r ≤ 63)
+  variable-fits : fieldsInRange variableKind r ≡ true → Fits 0 1 × (fieldA r ≤ 63)
   variable-fits q =
       let p = both-true (eqb (r .count) 0 && leb (fieldA r) 63) (zeros (drop 1 (r .fields))) q in
       let c = both-true (eqb (r .count) 0) (leb (fieldA r) 63) (p .0) in
       let z = equal (r .count) 0 (c .0) in
       ((omega arith, unused-true 1 (p .1)), at-most (fieldA r) 63 (c .1))
 
-  pub several-fits : inRange severalKind r ≡ true → Fits 4 (3 + r .count) × (1 ≤ r .count)
+  pub several-fits : fieldsInRange severalKind r ≡ true → Fits 4 (3 + r .count) × (1 ≤ r .count)
   several-fits q =
       let p = both-true (leb 1 (r .count) && leb (r .count) 4) (zeros (drop (3 + r .count) (r .fields))) q in
       let c = both-true (leb 1 (r .count)) (leb (r .count) 4) (p .0) in
       ((at-most (r .count) 4 (c .1), unused-true (3 + r .count) (p .1)), at-most 1 (r .count) (c .0))
 
-  ranged-at : (n : ℕ) → r .kind ≡ n → inRange (kindOfRecord r) r ≡ true → inRange (kindNumbered n) r ≡ true
-  ranged-at n e q = subst (λ (k : Kind). inRange k r ≡ true) (ap kindNumbered e) q
+  -- A range test that holds is of both, the days and the fields.
+  pub fields-of : (kind : Kind) → inRange kind r ≡ true → fieldsInRange kind r ≡ true
+  fields-of kind q = both-true (daysInRange kind r) (fieldsInRange kind r) q .1
+
+  ranged-at : (n : ℕ) → r .kind ≡ n → eqb n 8 ≡ false → inRange (kindOfRecord r) r ≡ true → fieldsInRange (kindNumbered n) r ≡ true
+  ranged-at n e h q = fields-of (kindNumbered n) (subst (λ (k : Kind). inRange k r ≡ true) (kind-at r n e h) q)
 
   pub range-fits : {most used : ℕ} → Layout r most used → inRange (kindOfRecord r) r ≡ true → (r .count ≤ most) × ((i : ℕ) → used ≤ i → fieldNumbered r i ≡ 0)
-  range-fits (ofSymbol e) q = up-to-fits 6 0 (ranged-at 1 e q)
-  range-fits (ofVariable e) q = variable-fits (ranged-at 2 e q) .0
-  range-fits (ofApplication e) q = up-to-fits 6 (1 + r .count) (ranged-at 3 e q)
-  range-fits (ofInput e) q = up-to-fits 7 (r .count) (ranged-at 4 e q)
-  range-fits (ofResolve e) q = step-fits 4 (ranged-at 5 e q)
-  range-fits (ofFactor e) q = step-fits 3 (ranged-at 6 e q)
-  range-fits (ofSeveral e) q = several-fits (ranged-at 7 e q) .0
-  range-fits (ofWindow e) q = step-fits 3 (ranged-at 8 e q)
+  range-fits (ofSymbol e) q = up-to-fits 6 0 (ranged-at 1 e refl q)
+  range-fits (ofVariable e) q = variable-fits (ranged-at 2 e refl q) .0
+  range-fits (ofApplication e) q = up-to-fits 6 (1 + r .count) (ranged-at 3 e refl q)
+  range-fits (ofInput e) q = up-to-fits 7 (r .count) (ranged-at 4 e refl q)
+  range-fits (ofResolve e) q = step-fits 4 (ranged-at 5 e refl q)
+  range-fits (ofFactor e) q = step-fits 3 (ranged-at 6 e refl q)
+  range-fits (ofSeveral e) q = several-fits (ranged-at 7 e refl q) .0
+  range-fits (ofWindow w) q = step-fits 3 (fields-of windowKind (subst (λ (k : Kind). inRange k r ≡ true) (window-kind r w) q))
+
+  -- The days beside a record that is in range and no input clause are zero.
+  zero-days : {first last : ℕ} → r .days ≡ some (first, last) → zeroDays (r .days) ≡ true → (first ≡ 0) × (last ≡ 0)
+  zero-days {first} {last} p q =
+      let z = both-true (eqb first 0) (eqb last 0) (sym (ap zeroDays p) ∙ q) in
+      (equal first 0 (z .0), equal last 0 (z .1))
+
+  days-at : (n : ℕ) → r .kind ≡ n → eqb n 8 ≡ false → inRange (kindOfRecord r) r ≡ true → daysInRange (kindNumbered n) r ≡ true
+  days-at n e h q = both-true (daysInRange (kindNumbered n) r) (fieldsInRange (kindNumbered n) r) (subst (λ (k : Kind). inRange k r ≡ true) (kind-at r n e h) q) .0
+
+  days-fit : {most used : ℕ} → Layout r most used → ¬ (r .kind ≡ 4) → inRange (kindOfRecord r) r ≡ true → zeroDays (r .days) ≡ true
+  days-fit (ofSymbol e) n q = days-at 1 e refl q
+  days-fit (ofVariable e) n q = days-at 2 e refl q
+  days-fit (ofApplication e) n q = days-at 3 e refl q
+  days-fit (ofInput e) n q = absurd (n e)
+  days-fit (ofResolve e) n q = days-at 5 e refl q
+  days-fit (ofFactor e) n q = days-at 6 e refl q
+  days-fit (ofSeveral e) n q = days-at 7 e refl q
+  days-fit (ofWindow w) n q = ap zeroDays (w .1)
 
   not-in-range : OutOfRange r → ¬ (inRange (kindOfRecord r) r ≡ true)
   not-in-range (countOver a l) q = let z = range-fits a q .0 in omega arith
-  not-in-range (noRightLiteral e l) q = let z = several-fits (ranged-at 7 e q) .1 in omega arith
-  not-in-range (variableOver e l) q = let z = variable-fits (ranged-at 2 e q) .1 in omega arith
+  not-in-range (noRightLiteral e l) q = let z = several-fits (ranged-at 7 e refl q) .1 in omega arith
+  not-in-range (variableOver e l) q = let z = variable-fits (ranged-at 2 e refl q) .1 in omega arith
   not-in-range (unusedField a i l n) q = n (range-fits a q .1 i l)
+  not-in-range (unusedDays a n p (inl z)) q = z (zero-days p (days-fit a n q) .0)
+  not-in-range (unusedDays a n p (inr z)) q = z (zero-days p (days-fit a n q) .1)
 
   pub out-of-range : OutOfRange r → inRange (kindOfRecord r) r ≡ false
   out-of-range h = not-true (inRange (kindOfRecord r) r) (not-in-range h)

@@ -5,9 +5,10 @@ use mathlib.Core.List.{List, [], _∷_, _++_}
 use Prim.Native.Nat.{ℕ, zero, suc, _+_, _%_, _≤_}
 use native.Mathlib.Nat.{add-zero, add-suc, suc-add, zero-add}
 use native.Mathlib.Omega.{arith}
-use lib.Dec.{eqb, leb, leb→le}
+use lib.Dec.{eqb, leb, eqb→eq, leb→le}
 use lib.ListN.{length, take, drop, length-take, length-drop, take-append-drop}
-use Rattle.record.specs.Record.{Record, records}
+use Rattle.record.specs.Record.{File, inForm, recordCount, Record, records}
+use Rattle.record.proofs.Bytes.{WholeRecords}
 use Rattle.record.proofs.Records.{Shaped, records-length, records-shaped}
 use Rattle.unification.specs.Row.{application, noSymbol, rowTerm}
 use Rattle.unification.proofs.Rows.{term-law, row-arities}
@@ -16,11 +17,13 @@ use Rattle.demands.specs.Demands.{Reached, ComesTo, beforeRecord, lastSt
 use Rattle.verdict.specs.Refusal.{Reason}
 use Rattle.verdict.specs.State.{arities, State, emptyState, rowsOf, arityOf, rowOf, termOf}
 use Rattle.verdict.specs.Step.{stands, refused, Result, step, read, allStand, refusedAt, stateOf}
-use Rattle.verdict.specs.Verdict.{fittingLength, ending, Stands}
+use Rattle.verdict.specs.Verdict.{fittingLength, fitting, ending, Stands}
 use Rattle.verdict.proofs.Endings.{stands-not-refused, read-on}
 use Rattle.demands.proofs.Inversions.{entry-none}
 use Rattle.demands.proofs.Standing.{StateOk}
 use Rattle.demands.proofs.Steps.{step-ok}
+use Rattle.record.specs.declared.Form.{Form}
+use Rattle.record.specs.declared.Form.the-variants.{Old, New}
 
 same-state : {S T : State} {p q : Reason} {j k : ℕ} → refusedAt S p j ≡ refusedAt T q k → (S ≡ T) × (p ≡ q) × (j ≡ k)
 same-state e = (cc, cc, cc)
@@ -85,20 +88,32 @@ shaped-here zero (x ∷ rs) r rest q h = let e : x ≡ r = cc in subst (λ (y : 
 shaped-here (suc k) [] r rest q h = absurd (let z : _≡_ {A = ℕ} 0 1 = cc in omega arith)
 shaped-here (suc k) (x ∷ rs) r rest q h = shaped-here k rs r rest q (h .1)
 
--- A file of fitting length.
-module _ (file : List ℕ) (fit : fittingLength (length file) ≡ true) where
+-- A file of fitting length has whole records.
+pub whole-records : (form : Form) (bytes : List ℕ) → fittingLength form (length bytes) ≡ true → WholeRecords form bytes
+whole-records Old bytes fit = eqb→eq (length bytes % 16) 0 (to-T (eqb (length bytes % 16) 0) (both-true (leb (length bytes) 65536) (eqb (length bytes % 16) 0) fit .1))
+whole-records New bytes fit = eqb→eq (length bytes % 20) 0 (to-T (eqb (length bytes % 20) 0) (both-true (leb (length bytes) 65520) (eqb (length bytes % 20) 0) fit .1))
+
+-- A file of fitting length has at most 4,096 records.
+few-in : (form : Form) (bytes : List ℕ) → fittingLength form (length bytes) ≡ true → recordCount (inForm form bytes) ≤ 4096
+few-in Old bytes fit =
+    let p = both-true (leb (length bytes) 65536) (eqb (length bytes % 16) 0) fit in
+    let l : length bytes ≤ 65536 = leb→le (length bytes) 65536 (to-T (leb (length bytes) 65536) (p .0)) in
+    omega arith
+few-in New bytes fit =
+    let p = both-true (leb (length bytes) 65520) (eqb (length bytes % 20) 0) fit in
+    let l : length bytes ≤ 65520 = leb→le (length bytes) 65520 (to-T (leb (length bytes) 65520) (p .0)) in
+    omega arith
+
+module _ (file : File) (fit : fitting file ≡ true) where
   pub few-records : length (records file) ≤ 4096
-  few-records =
-      let p = both-true (leb (length file) 65536) (eqb (length file % 16) 0) fit in
-      let l : length file ≤ 65536 = leb→le (length file) 65536 (to-T (leb (length file) 65536) (p .0)) in
-      rw (records-length file) (omega arith)
+  few-records = rw (records-length file) (few-in (file .form) (file .bytes) fit)
 
   pub ending-ok : StateOk 4096 (stateOf (ending file))
   unfolding ending
   ending-ok = state-more (0 + length (records file)) 4096 (stateOf (ending file)) (omega (arith, few-records)) (read-ok 0 emptyState 0 (records file) (records-shaped file) start-ok)
 
 -- A record that reading comes to.
-module _ (file : List ℕ) (k : ℕ) (S : State) (r : Record) (R : Reached file k S r) where
+module _ (file : File) (k : ℕ) (S : State) (r : Record) (R : Reached file k S r) where
   pub reached-shaped : Shaped (take k (records file))
   reached-shaped = shaped-take k (records file) (records-shaped file)
 
@@ -121,11 +136,11 @@ module _ (file : List ℕ) (k : ℕ) (S : State) (r : Record) (R : Reached file 
       ∙ ap (λ (i : ℕ). read S i (r ∷ R .after)) (zero-add (length (take k (records file))) ∙ n)
       ∙ ap (λ (o : Result). elim o [ stands U ↦ read U (suc k) (R .after) | refused p ↦ refusedAt S p k ]) z
 
-pub comes-ok : (file : List ℕ) (S : State) → ComesTo file S → StateOk 4096 S
+pub comes-ok : (file : File) (S : State) → ComesTo file S → StateOk 4096 S
 comes-ok file S (beforeRecord {k} {S = U} {r} R) = reached-ok file k U r R
 comes-ok file S (lastState f) = ending-ok file f
 
-pub stands-ok : (file : List ℕ) (S : State) → Stands file S → StateOk 4096 S
+pub stands-ok : (file : File) (S : State) → Stands file S → StateOk 4096 S
 stands-ok file S st = subst (StateOk 4096) (ap stateOf (st .reads)) (ending-ok file (st .fits))
 
 -- A state in order: its terms, and one number of arguments for each symbol.

@@ -9,7 +9,7 @@ use native.Mathlib.Omega.{arith}
 use lib.Dec.{eqb, leb, eqb→eq}
 use lib.ListN.{length, take}
 use borrow.Author.Tests.{not-false}
-use Rattle.record.specs.Record.{pick, Record, records, otherKind, Kind, kindNumbered, symbolKind, variableKind, applicationKind, inputKind, resolveKind, factorKind, severalKind, windowKind, fieldB, fieldC}
+use Rattle.record.specs.Record.{pick, File, Record, records, otherKind, Kind, kindNumbered, symbolKind, variableKind, applicationKind, inputKind, resolveKind, factorKind, severalKind, windowKind, fieldB, fieldC}
 use Rattle.unification.specs.Environment.{Binding, Environment}
 use Rattle.unification.specs.Failing.{Failing}
 use Rattle.unification.specs.Outlines.{outlinesClash}
@@ -28,9 +28,9 @@ use Rattle.demands.specs.Demands.{Reached, atomOf, StepAtoms, resolveAto
 use Rattle.verdict.specs.Refusal.{tests, resolveTests, outlineTests, outlinesOfResolve, outlinesAgree, onBoth, Reason, unification, reasonNumber, kindOfRecord, inRange, leftOf, rightNumbers, rightOf, deletedOf}
 use Rattle.verdict.specs.State.{State, emptyState, rowsOf, rowOf, nextClause}
 use Rattle.verdict.specs.Step.{stands, refused, Result, require, requireAll, step, addClause, atoms, unifyResolve, unifyFactor, enterResolvent, enter}
-use Rattle.demands.proofs.RangeTests.{not-true, either-false, of-kind, other-kind, range-over, out-of-range, IsResolve, on-one, on-several}
+use Rattle.demands.proofs.RangeTests.{not-true, either-false, of-kind, kind-at, other-kind, range-over, out-of-range, IsResolve, on-one, on-several}
 use Rattle.demands.proofs.ExistenceTests.{arguments-absent, literal-rows-absent, resolve-absent, factor-absent, window-absent, not-there}
-use Rattle.demands.proofs.StepTests.{literal-on-variable, on-variable-fails, not-rising, rising-fails, days-cross, days-fail, kind-of-resolve, resolves-left, factors-kept, factors-deleted, resolves, factors, both-named, resolve-signs, factor-signs, signs-fail, resolvent-over, factor-over, result-fails}
+use Rattle.demands.proofs.StepTests.{literal-on-variable, on-variable-fails, not-rising, rising-fails, days-cross, beside-cross, days-fail, kind-of-resolve, resolves-left, factors-kept, factors-deleted, resolves, factors, both-named, resolve-signs, factor-signs, signs-fail, resolvent-over, factor-over, result-fails}
 use Rattle.demands.proofs.Inversions.{FirstFailing, failsHere, passesHere, AllPass, all-refused, all-passed, clause-refused, never-both, refused-injective, PassedResolve, Passed, tests-passed, testFor}
 use Rattle.demands.proofs.Reading.{reached-seven, reached-ok}
 use Rattle.demands.proofs.Resolution.{at-kind, enter-resolve, enter-factor, resolvePairs, resolve-no-unifier, factor-no-unifier, resolve-outlines-apart, factor-outlines-apart, resolve-not-endless, factor-not-endless}
@@ -48,7 +48,7 @@ pub tests-rising : (S : State) (kind : Kind) (r : Record) → Rising 3 (tests S 
 tests-rising S symbolKind r = (omega arith, omega arith, tt)
 tests-rising S variableKind r = (omega arith, omega arith, tt)
 tests-rising S applicationKind r = (omega arith, omega arith, (omega arith, omega arith, tt))
-tests-rising S inputKind r = (omega arith, omega arith, (omega arith, omega arith, (omega arith, omega arith, tt)))
+tests-rising S inputKind r = (omega arith, omega arith, (omega arith, omega arith, (omega arith, omega arith, (omega arith, omega arith, tt))))
 tests-rising S resolveKind r = (omega arith, omega arith, (omega arith, omega arith, (omega arith, omega arith, (omega arith, omega arith, (omega arith, omega arith, tt)))))
 tests-rising S severalKind r = (omega arith, omega arith, (omega arith, omega arith, (omega arith, omega arith, (omega arith, omega arith, (omega arith, omega arith, tt)))))
 tests-rising S factorKind r = (omega arith, omega arith, (omega arith, omega arith, (omega arith, omega arith, (omega arith, omega arith, tt))))
@@ -267,7 +267,7 @@ module _ (k : ℕ) (S : State) (r : Record) where
       resolve-outlines-fail (K .kind) (K .isResolve) (K .isKind) z
   outlines-fail (factorOutlines {l = c} {m = d} N f) =
       let z : onBoth (λ x y. outlinesAgree (rowOf S) (x .1) (y .1 ∷ [])) (leftOf S r) (deletedOf S r) ≡ false = rw (factors-kept S r N, factors-deleted S r N) (not-true (outlinesAgree (rowOf S) c (d ∷ [])) (not-agreeing c (d ∷ []) d (inl refl) (found-clash (rowOf S) (c .1 .0) (d .1 .0) f))) in
-      subst (λ (kind : Kind). FirstFailing (outlineTests S kind r) (unification clash)) (sym (ap kindNumbered (N .isFactor))) (failsHere z)
+      subst (λ (kind : Kind). FirstFailing (outlineTests S kind r) (unification clash)) (sym (kind-at r 6 (N .isFactor) refl)) (failsHere z)
 
   outlines-refuse : OutlinesClash S r → RefusedUpTo 10
   outlines-refuse c =
@@ -288,12 +288,12 @@ module _ (k : ℕ) (S : State) (r : Record) where
       ∙ ap (addClause S k (resolve (nextClause S) left (fieldB r) right (rightNumbers (K .kind) r))) (failing-fails (rowOf S) mostLinks (noRoom (S .total)) ρ mostWork (unifying [] ps) f (unstated S ρ ps f h))
       ∙ enter-refused S k (resolve (nextClause S) left (fieldB r) right (rightNumbers (K .kind) r)) f))
   failure-refuses n least f g (factorFails {parent} {l = c} {m = d} N h) =
-      outlines-or n least factorKind (ap kindNumbered (N .isFactor)) f g
+      outlines-or n least factorKind (kind-at r 6 (N .isFactor) refl) f g
       (enter-factor S k r (parent, c) (parent, d) (factors-kept S r N) (factors-deleted S r N)
       ∙ ap (addClause S k (factor (nextClause S) parent (fieldB r) (fieldC r))) (failing-fails (rowOf S) mostLinks (noRoom (S .total)) (lookup parent) mostWork (unifying [] ((c .1, d .1) ∷ [])) f (unstated S (lookup parent) ((c .1, d .1) ∷ []) f h))
       ∙ enter-refused S k (factor (nextClause S) parent (fieldB r) (fieldC r)) f)
 
-  module _ (file : List ℕ) (R : Reached file k S r) where
+  module _ (file : File) (R : Reached file k S r) where
     seven : length (r .fields) ≡ 7
     seven = reached-seven file k S r R
 
@@ -326,7 +326,7 @@ module _ (k : ℕ) (S : State) (r : Record) where
     tests-sound symbolKind e = (λ p. outsideRange (range-over r symbolKind e p), λ ranged. tt)
     tests-sound variableKind e = (λ p. outsideRange (range-over r variableKind e p), λ ranged. tt)
     tests-sound applicationKind e = (λ p. outsideRange (range-over r applicationKind e p), λ ranged. (λ p. nothingThere (arguments-absent S r seven e p), λ there. tt))
-    tests-sound inputKind e = (λ p. outsideRange (range-over r inputKind e p), λ ranged. (λ p. nothingThere (literal-rows-absent S r seven e p), λ there. (λ p. variableAsLiteral (literal-on-variable S r seven e p), λ _. tt)))
+    tests-sound inputKind e = (λ p. outsideRange (range-over r inputKind e p), λ ranged. (λ p. nothingThere (literal-rows-absent S r seven e p), λ there. (λ p. crossingDays (beside-cross S r seven e p), λ days. (λ p. variableAsLiteral (literal-on-variable S r seven e p), λ _. tt))))
     tests-sound resolveKind e = resolve-sound resolveKind on-one e
     tests-sound severalKind e = resolve-sound severalKind on-several e
     tests-sound factorKind e = (λ p. outsideRange (range-over r factorKind e p), λ ranged. (λ p. nothingThere (factor-absent S r seven e p), λ there. (λ p. unfitSigns (factor-signs S r seven e there p), λ signs. (λ p. largeResult (factor-over S r seven e there p), λ fits. tt))))

@@ -6,7 +6,7 @@ use mathlib.Core.List.{List, []}
 use Prim.Native.Nat.{ℕ, _+_, _%_, _<_}
 use lib.Dec.{eqb, leb, eqb→eq}
 use lib.ListN.{length, take}
-use Rattle.record.specs.Record.{pick, records}
+use Rattle.record.specs.Record.{pick, File, records}
 use Rattle.record.proofs.Records.{records-shaped}
 use Rattle.unification.specs.Repeated.{IsEarliest}
 use Rattle.unification.specs.Row.{Expression, Variable}
@@ -19,17 +19,17 @@ use Rattle.verdict.specs.Refusal.{badLength, shortTable}
 use Rattle.demands.specs.Repeats.{writtenRows, numberTerm, termByNumbers, NoRepeats, readingAsWritten, replacedFile, RepeatedRows}
 use Rattle.verdict.specs.State.{State, emptyState, rowsOf, derivations, clauseOf, rowOf, earliestOf}
 use Rattle.verdict.specs.Step.{read, Ending, allStand}
-use Rattle.verdict.specs.Verdict.{Lengths, fittingLength, longEnough, ending, untouched, readTo, reading}
+use Rattle.verdict.specs.Verdict.{Lengths, fittingLength, fitting, longEnough, ending, untouched, readTo, reading}
 use Rattle.demands.proofs.Replacing.{replaced-length, replaced-ending}
 use Rattle.demands.proofs.Inversions.{entry-each}
-use Rattle.demands.proofs.Reading.{read-ok, start-ok, shaped-take}
+use Rattle.demands.proofs.Reading.{whole-records, read-ok, start-ok, shaped-take}
 use Rattle.demands.proofs.Shared.{shared-start, shared-arguments}
 use Rattle.demands.proofs.Standing.{StateOk, order-of}
 use Rattle.demands.proofs.Unrepeated.{read-as-written}
 use Rattle.demands.proofs.WrittenRows.{number-law, equal-terms, ReadSame, no-rows, read-same}
 
 -- Over a state that reading comes to.
-module _ (file : List ℕ) (k : ℕ) (S : State) (q : read emptyState 0 (take k (records file)) ≡ allStand S) where
+module _ (file : File) (k : ℕ) (S : State) (q : read emptyState 0 (take k (records file)) ≡ allStand S) where
   abbrev written : ℕ → Term ℕ
   written = termByNumbers (writtenRows (take k (records file)))
 
@@ -56,18 +56,17 @@ module _ (file : List ℕ) (k : ℕ) (S : State) (q : read emptyState 0 (take k 
       c (order-of (0 + length (take k (records file))) S ok n c p .valid) (entry-each (KnownRows (IsEarliest (rowsOf S))) (derivations S) (H .clausesShared) n c p)
 
 -- What becomes of a file, where its reading comes to one ending.
-unrepeated : (file : List ℕ) → NoRepeats (records file) → (lengths : Lengths) → reading file lengths ≡ readingAsWritten file lengths
+unrepeated : (file : File) → NoRepeats (records file) → (lengths : Lengths) → reading file lengths ≡ readingAsWritten file lengths
 unfolding ending
 unrepeated file n lengths =
-    ap (λ (e : Ending). pick (fittingLength (length file)) (pick (longEnough lengths) (readTo e) (untouched shortTable)) (untouched badLength)) (read-as-written emptyState 0 (records file) n)
+    ap (λ (e : Ending). pick (fitting file) (pick (longEnough lengths) (readTo e) (untouched shortTable)) (untouched badLength)) (read-as-written emptyState 0 (records file) n)
 
-replacing : (file : List ℕ) → fittingLength (length file) ≡ true → (lengths : Lengths) → reading (replacedFile file) lengths ≡ reading file lengths
+replacing : (file : File) → fitting file ≡ true → (lengths : Lengths) → reading (replacedFile file) lengths ≡ reading file lengths
 replacing file f lengths =
-    let p = both-true (leb (length file) 65536) (eqb (length file % 16) 0) f in
-    let whole : length file % 16 ≡ 0 = eqb→eq (length file % 16) 0 (to-T (eqb (length file % 16) 0) (p .1)) in
-    ap₂ (λ (n : ℕ) (e : Ending). pick (fittingLength n) (pick (longEnough lengths) (readTo e) (untouched shortTable)) (untouched badLength)) (replaced-length file whole) (replaced-ending file)
+    let whole = whole-records (file .form) (file .bytes) f in
+    ap₂ (λ (n : ℕ) (e : Ending). pick (fittingLength (file .form) n) (pick (longEnough lengths) (readTo e) (untouched shortTable)) (untouched badLength)) (replaced-length file whole) (replaced-ending file)
 
-pub repeats-shown : (file : List ℕ) → RepeatedRows file
+pub repeats-shown : (file : File) → RepeatedRows file
 repeats-shown file = record {
   asMany = λ k S q. there file k S q .same .sameLength;
   asWritten = λ k S q. there file k S q .same .terms;

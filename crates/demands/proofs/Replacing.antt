@@ -7,20 +7,22 @@ use native.Mathlib.Omega.{arith}
 use lib.Dec.{eqb, leb, ltb, ltb→lt, lt→ltb}
 use lib.ListN.{length, take, drop, length-drop}
 use lib.Seq.{drop-drop}
-use Rattle.record.specs.Record.{Record, records, otherKind, Kind, symbolKind, variableKind, applicationKind, inputKind, resolveKind, factorKind, severalKind, windowKind, fieldA}
-use Rattle.record.proofs.Bytes.{file-length, file-records}
-use Rattle.record.proofs.Records.{Shaped, records-length, records-shaped}
+use Rattle.record.specs.Record.{File, inForm, recordLength, recordCount, Record, records, otherKind, Kind, symbolKind, variableKind, applicationKind, inputKind, resolveKind, factorKind, severalKind, windowKind, fieldA}
+use Rattle.record.proofs.Bytes.{file-length, file-records, WholeRecords}
+use Rattle.record.proofs.Records.{Shaped, HaveDays, records-length, records-shaped, records-days}
 use Rattle.unification.specs.Repeated.{earliestRow}
 use Rattle.unification.specs.Row.{Row, application, rowAt}
 use Rattle.unification.proofs.Repeats.{earliest-equal, earliest-itself, earliest-absent}
 use Rattle.unification.proofs.Tests.{to-T, from-T}
 use Rattle.derivation.specs.Derivation.{input, RowLiteral, literalOf, inputLiterals}
-use Rattle.verdict.specs.Refusal.{tests, outlineTests, outOfRange, notThere, variableLiteral, kindOfRecord, zeros, argumentRows, hasArity, allBelow, isApplication, allApplications}
+use Rattle.verdict.specs.Refusal.{tests, outlineTests, outOfRange, notThere, crossedDays, variableLiteral, kindOfRecord, zeros, zeroDays, inOrder, argumentRows, hasArity, allBelow, isApplication, allApplications}
 use Rattle.demands.specs.Repeats.{replacedFields, replaced, replacedFrom, replacedFile}
-use Rattle.verdict.specs.State.{State, emptyState, withClause, rowsOf, arityOf, rowOf, earliestOf, nextClause}
+use Rattle.verdict.specs.State.{State, emptyState, withClause, withDaysBeside, rowsOf, arityOf, rowOf, earliestOf, nextClause}
 use Rattle.verdict.specs.Step.{stands, refused, Result, requireAll, enterRow, enter, step, read, Ending, refusedAt}
 use Rattle.verdict.specs.Verdict.{ending}
 use Rattle.demands.proofs.Inversions.{not-below}
+use Rattle.record.specs.declared.Form.{Form}
+use Rattle.record.specs.declared.Form.the-variants.{Old, New}
 
 -- ── The earliest row of any number ──
 
@@ -112,7 +114,7 @@ module _ (S : State) (k : ℕ) (r : Record) where
 
   -- The record with the fields that a kind gives it, and the step of a kind.
   abbrev changed : Kind → Record
-  changed kind = record { kind = r .kind; count = r .count; fields = replacedFields S kind r }
+  changed kind = record { kind = r .kind; count = r .count; fields = replacedFields S kind r; days = r .days }
 
   abbrev stepOf : Kind → Record → Result
   stepOf kind q = requireAll (tests S kind q) (requireAll (outlineTests S kind q) (enter S k kind q))
@@ -136,7 +138,7 @@ module _ (S : State) (k : ℕ) (r : Record) where
   application-alike =
       let below : allBelow (length ws) (argumentRows (changed applicationKind)) ≡ allBelow (length ws) (argumentRows r) = ap (allBelow (length ws)) changed-arguments ∙ rows-there ws (argumentRows r) in
       let rows : map (earliestOf S) (argumentRows (changed applicationKind)) ≡ map (earliestOf S) (argumentRows r) = ap (map (earliestOf S)) changed-arguments ∙ rows-twice ws (argumentRows r) in
-      λ i. requireAll ((leb (r .count) 6 && zeros (changed-rest i), outOfRange) ∷ (hasArity (r .count) (arityOf S (fieldA r)) && below i, notThere) ∷ []) (enterRow S k (application (fieldA r) (rows i)))
+      λ i. requireAll ((zeroDays (r .days) && (leb (r .count) 6 && zeros (changed-rest i)), outOfRange) ∷ (hasArity (r .count) (arityOf S (fieldA r)) && below i, notThere) ∷ []) (enterRow S k (application (fieldA r) (rows i)))
 
   changed-literals : inputLiterals (changed inputKind) ≡ map (taken ws) (inputLiterals r)
   changed-literals = ap (map literalOf) (first-taken (replacedNumber ws) (r .count) (r .fields)) ∙ literals-replaced ws (take (r .count) (r .fields))
@@ -149,7 +151,7 @@ module _ (S : State) (k : ℕ) (r : Record) where
       in
       let applied : allApplications (rowOf S) (inputLiterals (changed inputKind)) ≡ allApplications (rowOf S) (inputLiterals r) = ap (allApplications (rowOf S)) changed-literals ∙ literals-apply ws (inputLiterals r) in
       let new : map (taken ws) (inputLiterals (changed inputKind)) ≡ map (taken ws) (inputLiterals r) = ap (map (taken ws)) changed-literals ∙ literals-twice ws (inputLiterals r) in
-      λ i. requireAll ((leb (r .count) 7 && zeros (rest i), outOfRange) ∷ (there i, notThere) ∷ (applied i, variableLiteral) ∷ []) (stands (withClause S k (input (nextClause S) (new i))))
+      λ i. requireAll ((leb (r .count) 7 && zeros (rest i), outOfRange) ∷ (there i, notThere) ∷ (inOrder (r .days), crossedDays) ∷ (applied i, variableLiteral) ∷ []) (stands (withDaysBeside (withClause S k (input (nextClause S) (new i))) (nextClause S) (r .days)))
 
   kind-alike : (kind : Kind) → stepOf kind (changed kind) ≡ stepOf kind r
   kind-alike symbolKind = refl
@@ -202,6 +204,14 @@ from-shaped S k (r ∷ rs) h = (changed-seven S k r (h .0) (kindOfRecord r), try
     try (stands T) ih = ih T
     try (refused reason) ih = h .1
 
+from-days : (form : Form) (S : State) (k : ℕ) (rs : List Record) → HaveDays form rs → HaveDays form (replacedFrom S k rs)
+from-days form S k [] h = tt
+from-days form S k (r ∷ rs) h = (h .0, try (step S k r) (λ T. from-days form T (suc k) rs (h .1)))
+  where
+    try : (o : Result) → ((T : State) → HaveDays form (replacedFrom T (suc k) rs)) → HaveDays form (elim o [ stands T ↦ replacedFrom T (suc k) rs | refused reason ↦ rs ])
+    try (stands T) ih = ih T
+    try (refused reason) ih = h .1
+
 from-length : (S : State) (k : ℕ) (rs : List Record) → length (replacedFrom S k rs) ≡ length rs
 from-length S k [] = refl
 from-length S k (r ∷ rs) = ap suc (try (step S k r) (λ T. from-length T (suc k) rs))
@@ -211,12 +221,17 @@ from-length S k (r ∷ rs) = ap suc (try (step S k r) (λ T. from-length T (suc 
     try (refused reason) ih = refl
 
 -- ── The file ──
-module _ (file : List ℕ) where
-  pub replaced-length : length file % 16 ≡ 0 → length (replacedFile file) ≡ length file
+whole-length : (form : Form) (bytes : List ℕ) → WholeRecords form bytes → recordLength form * recordCount (inForm form bytes) ≡ length bytes
+whole-length Old bytes e = omega arith
+whole-length New bytes e = omega arith
+
+module _ (file : File) where
+  pub replaced-length : WholeRecords (file .form) (file .bytes) → length (replacedFile file .bytes) ≡ length (file .bytes)
   replaced-length e =
-      file-length (replacedFrom emptyState 0 (records file)) ∙ ap (λ (n : ℕ). 16 * n) (from-length emptyState 0 (records file) ∙ records-length file) ∙ omega arith
+      file-length (file .form) (replacedFrom emptyState 0 (records file)) ∙ ap (λ (n : ℕ). recordLength (file .form) * n) (from-length emptyState 0 (records file) ∙ records-length file)
+      ∙ whole-length (file .form) (file .bytes) e
 
   pub replaced-ending : ending (replacedFile file) ≡ ending file
   unfolding ending
   replaced-ending =
-      ap (read emptyState 0) (file-records (replacedFrom emptyState 0 (records file)) (from-shaped emptyState 0 (records file) (records-shaped file))) ∙ read-replaced emptyState 0 (records file)
+      ap (read emptyState 0) (file-records (file .form) (replacedFrom emptyState 0 (records file)) (from-shaped emptyState 0 (records file) (records-shaped file)) (from-days (file .form) emptyState 0 (records file) (records-days file))) ∙ read-replaced emptyState 0 (records file)

@@ -26,7 +26,7 @@ use Rattle.demands.specs.Demands.{atomOf, StepAtoms, resolveAtoms, facto
 use Rattle.verdict.specs.Refusal.{tests, outlineTests, outlinesAgree, onBoth, Reason, outOfRange, notThere, notRising, wrongSigns, tooLarge, unification, kindOfRecord, inRange, leftOf, rightNumbers, rightOf, deletedOf, bothThere, rising, oppositeSigns, factorSigns, resolventFits, factorFits}
 use Rattle.verdict.specs.State.{State, rowOf, termOf, nextClause}
 use Rattle.verdict.specs.Step.{stands, refused, Result, require, requireAll, step, addClause, atoms, unifyResolve, unifyFactor, enterResolvent, enter}
-use Rattle.demands.proofs.RangeTests.{either-false, range-over, IsResolve, on-one, on-several}
+use Rattle.demands.proofs.RangeTests.{either-false, kind-at, range-over, IsResolve, on-one, on-several}
 use Rattle.demands.proofs.StepTests.{resolves-left, kind-of-resolve, factors-kept, factors-deleted, not-rising, resolve-signs, factor-signs}
 use Rattle.demands.proofs.Inversions.{AllPass, PassedResolve, tests-passed, step-stands, named-stands, literal-named, literals-named, clause-added}
 use Rattle.demands.proofs.Reading.{term-of-row, one-arity}
@@ -252,7 +252,7 @@ module _ (S : State) (H : StateOk 4096 S) (k : ℕ) (r : Record) where
         (holds (rising (rightNumbers (K .kind) r)) (λ w. rises (not-rising S r seven (K .kind) (K .isResolve) e ranged w)))
         (holds (oppositeSigns S (K .kind) r) (λ w. signs (resolve-signs S r seven (K .kind) (K .isResolve) e (rw (p, q) refl) w))) τ z
     unifiable-stands Y range pairs (factorAtoms {parent} {l} {m} N) rises signs τ z =
-        let e : kindOfRecord r ≡ factorKind = ap kindNumbered (N .isFactor) in
+        let e : kindOfRecord r ≡ factorKind = kind-at r 6 (N .isFactor) refl in
         let p = factors-kept S r N in
         let q = factors-deleted S r N in
         factor-stands Y (parent, l) (parent, m) e p q (holds (inRange factorKind r) (λ w. range (range-over r factorKind e w)))

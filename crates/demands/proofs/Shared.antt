@@ -84,7 +84,9 @@ module _ (S : State) (k : ℕ) (r : Record) (T : State) (H : Shared S) where
   entered-shared applicationKind a q =
       let t = both-true (hasArity (r .count) (arityOf S (fieldA r))) (allBelow (length ws) (argumentRows r)) (a .there) in
       subst Shared (stands-same q) (row-shared (recordOfRow S k (newApplication S r)) (newApplication S r) (all-earliest ws (argumentRows r) (all-below (length ws) (argumentRows r) (t .1))))
-  entered-shared inputKind a q = subst Shared (stands-same q) (clause-shared (input (nextClause S) (newLiterals S r)) (literals-earliest (inputLiterals r) (rows-below (length ws) (inputLiterals r) (a .there))))
+  entered-shared inputKind a q =
+      let h = clause-shared (input (nextClause S) (newLiterals S r)) (literals-earliest (inputLiterals r) (rows-below (length ws) (inputLiterals r) (a .there))) in
+      subst Shared (stands-same q) (record { rowsShared = h .rowsShared; clausesShared = h .clausesShared })
   entered-shared resolveKind a q = resolvent-shared resolveKind q
   entered-shared severalKind a q = resolvent-shared severalKind q
   entered-shared factorKind a q =

@@ -14,12 +14,12 @@ use Rattle.unification.specs.Row.{variable, Row, application}
 use Rattle.unification.proofs.Tests.{to-T, from-T, both-true, true-not-false}
 use Rattle.derivation.specs.Derivation.{literals, Literal, RowLiteral, literalOf, inputLiterals, Derivation, resolve, factor, numbered, without, withoutAll, raiseLiteral, maximumIndex}
 use Rattle.derivation.proofs.Literals.{leb-false-lt}
-use Rattle.demands.specs.Conditions.{OneOf, fieldNumbered, LiteralOnVariable, NotRising, DaysCrossed, Resolves, Factors, SignsUnfit, equalInResolve, oppositeInFactor, oneLiteralTwice, ResultOver, resolventLiterals, resolventIndex, factorLiterals, factorIndex}
-use Rattle.verdict.specs.Refusal.{tests, mostLiterals, mostIndex, kindOfRecord, inRange, literalIn, literalNamed, leftOf, rightNumbers, literalsIn, rightOf, deletedOf, isThere, bothThere, isApplication, allApplications, equalSigns, allOpposite, rising, onBoth, oppositeSigns, factorSigns, resultFits, resolventFits, factorFits}
+use Rattle.demands.specs.Conditions.{OneOf, fieldNumbered, LiteralOnVariable, NotRising, DaysCrossed, inWindow, besideClause, Resolves, Factors, SignsUnfit, equalInResolve, oppositeInFactor, oneLiteralTwice, ResultOver, resolventLiterals, resolventIndex, factorLiterals, factorIndex}
+use Rattle.verdict.specs.Refusal.{tests, mostLiterals, mostIndex, kindOfRecord, inRange, literalIn, literalNamed, leftOf, rightNumbers, literalsIn, rightOf, deletedOf, isThere, bothThere, isApplication, allApplications, equalSigns, allOpposite, rising, inOrder, onBoth, oppositeSigns, factorSigns, resultFits, resolventFits, factorFits}
 use Rattle.verdict.specs.State.{State, clauseOf, rowOf, nextClause}
-use Rattle.demands.proofs.ExistenceTests.{at-number, resolve-test, literal-row-at}
+use Rattle.demands.proofs.ExistenceTests.{at-number, at-window, resolve-test, literal-row-at}
 use Rattle.demands.proofs.Inversions.{literal-named, literals-named, is-there, testFor}
-use Rattle.demands.proofs.RangeTests.{at-most, either-false, equal, not-true, not-under, of-kind, several-fits, IsResolve, on-one, on-several, right-literals, resolve-kind}
+use Rattle.demands.proofs.RangeTests.{at-most, either-false, equal, not-true, not-under, of-kind, fields-of, several-fits, IsResolve, on-one, on-several, right-literals, resolve-kind}
 use Rattle.demands.proofs.Steps.{same-parent}
 
 -- 7: literals on variables.
@@ -117,9 +117,9 @@ module _ (S : State) (r : Record) (seven : length (r .fields) ≡ 7) where
       try true q =
           let h = at-most (r .count) 7 q in
           let n : L .literal < length (inputLiterals r) = let a = L .isLiteral in simp (length-map, length-take) (omega arith) in
-          inr (at-number S r seven 4 7 (L .isInput) (not-true (allApplications (rowOf S) (inputLiterals r)) (λ t.
+          inr (at-number S r seven 4 7 (L .isInput) refl (not-true (allApplications (rowOf S) (inputLiterals r)) (λ t.
           applications-only (rowOf S) (inputLiterals r) t (L .literal) (L .number) n (ap (rowOf S) (literal-row-at S r seven (L .literal) (L .isLiteral)) ∙ L .onVariable))))
-      try false q = inl (at-number S r seven 4 4 (L .isInput) (rw q refl))
+      try false q = inl (at-number S r seven 4 4 (L .isInput) refl (rw q refl))
 
   -- 8: signs.
   signs-equal : (s t : Bool) → not (equalSigns s t) ≡ false → s ≡ t
@@ -164,12 +164,12 @@ module _ (S : State) (r : Record) (seven : length (r .fields) ≡ 7) where
 
   pub few-rights : (kind : Kind) → IsResolve kind → inRange kind r ≡ true → (1 ≤ length (rightNumbers kind r)) × (length (rightNumbers kind r) ≤ 4)
   few-rights kind on-one q = (omega arith, omega arith)
-  few-rights kind on-several q = let f = several-fits r q in let c = right-count (f .0 .0) in (omega arith, omega arith)
+  few-rights kind on-several q = let f = several-fits r (fields-of r severalKind q) in let c = right-count (f .0 .0) in (omega arith, omega arith)
 
   pub not-rising : (kind : Kind) → IsResolve kind → kindOfRecord r ≡ kind → inRange kind r ≡ true → rising (rightNumbers kind r) ≡ false → NotRising r
   not-rising kind on-one e q z = absurd (true-not-false refl z)
   not-rising kind on-several k q z =
-      let f = several-fits r q in
+      let f = several-fits r (fields-of r severalKind q) in
       let w = falls-at (rightNumbers severalKind r) z in
       let c = right-count (f .0 .0) in
       let l : 1 + w .0 < r .count = let y = w .1 in omega arith in
@@ -184,22 +184,31 @@ module _ (S : State) (r : Record) (seven : length (r .fields) ≡ 7) where
   rising-fails F = try (inRange severalKind r) refl
     where
       try : (b : Bool) → inRange severalKind r ≡ b → (testFor (tests S (kindOfRecord r) r) 4 ≡ false) ⊎ (testFor (tests S (kindOfRecord r) r) 14 ≡ false)
-      try false q = inl (at-number S r seven 7 4 (F .isSeveral) q)
+      try false q = inl (at-number S r seven 7 4 (F .isSeveral) refl q)
       try true q =
-          let c = right-count (several-fits r q .0 .0) in
+          let c = right-count (several-fits r (fields-of r severalKind q) .0 .0) in
           let k = F .isPlace in
           let a = right-at (F .place) (omega arith) in
           let b = right-at (suc (F .place)) (omega arith) in
           let e : 3 + suc (F .place) ≡ 4 + F .place = omega arith in
           let x : fieldNumbered r (3 + suc (F .place)) ≡ fieldNumbered r (4 + F .place) = ap (fieldNumbered r) e in
-          inr (at-number S r seven 7 14 (F .isSeveral) (not-true (rising (rightNumbers severalKind r)) (λ t. let z = rises-at (rightNumbers severalKind r) t (F .place) (omega arith) in let y = F .falls in omega arith)))
+          inr (at-number S r seven 7 14 (F .isSeveral) refl (not-true (rising (rightNumbers severalKind r)) (λ t. let z = rises-at (rightNumbers severalKind r) t (F .place) (omega arith) in let y = F .falls in omega arith)))
 
-  -- 16: crossed days.
+  -- 16: crossed days, of a window and beside a clause.
   pub days-cross : kindOfRecord r ≡ windowKind → leb (fieldB r) (fieldC r) ≡ false → DaysCrossed r
-  days-cross e q = record { isWindow = of-kind r windowKind e; crossed = leb-false-lt (fieldB r) (fieldC r) q }
+  days-cross e q = inWindow (of-kind r windowKind e) (leb-false-lt (fieldB r) (fieldC r) q)
+
+  pub beside-cross : kindOfRecord r ≡ inputKind → inOrder (r .days) ≡ false → DaysCrossed r
+  beside-cross e q = try (r .days) refl q
+    where
+      try : (d : Option (ℕ × ℕ)) → r .days ≡ d → inOrder d ≡ false → DaysCrossed r
+      try none p z = absurd (true-not-false refl z)
+      try (some d) p z = besideClause (of-kind r inputKind e) p (leb-false-lt (d .0) (d .1) z)
 
   pub days-fail : DaysCrossed r → testFor (tests S (kindOfRecord r) r) 16 ≡ false
-  days-fail D = at-number S r seven 8 16 (D .isWindow) (not-true (leb (fieldB r) (fieldC r)) (λ t. let l = at-most (fieldB r) (fieldC r) t in let z = D .crossed in omega arith))
+  days-fail (inWindow w l) = at-window S r seven 16 w (not-true (leb (fieldB r) (fieldC r)) (λ t. let z = at-most (fieldB r) (fieldC r) t in omega arith))
+  days-fail (besideClause {first} {last} e d l) =
+      at-number S r seven 4 16 e refl (ap inOrder d ∙ not-true (leb first last) (λ t. let z = at-most first last t in omega arith))
 
   -- 8, of a resolve: one of the right signs equals the left one.
   one-equal : (s : Bool) (ms : List Literal) → allOpposite s ms ≡ false → (m : Literal) × OneOf m ms × (s ≡ m .0)
@@ -243,14 +252,14 @@ module _ (S : State) (r : Record) (seven : length (r .fields) ≡ 7) where
   signs-fail (equalInResolve {left} {right} {l} {ns} {ms} N m o e) =
       let K = kind-of-resolve S r N in
       resolve-test S r seven (K .kind) (K .isResolve) (K .isKind) 8 (rw (resolves-left S r N, K .named) (not-true (allOpposite (l .0) ms) (not-opposite (l .0) ms m o e)))
-  signs-fail (oppositeInFactor {parent} {l} {m} N n) = at-number S r seven 6 8 (N .isFactor) (rw (factors-kept S r N, factors-deleted S r N) (ap (λ (b : Bool). b && not (eqb (fieldB r) (fieldC r))) (not-true (equalSigns (l .0) (m .0)) (λ t. n (same-signs (l .0) (m .0) t)))))
+  signs-fail (oppositeInFactor {parent} {l} {m} N n) = at-number S r seven 6 8 (N .isFactor) refl (rw (factors-kept S r N, factors-deleted S r N) (ap (λ (b : Bool). b && not (eqb (fieldB r) (fieldC r))) (not-true (equalSigns (l .0) (m .0)) (λ t. n (same-signs (l .0) (m .0) t)))))
     where
       same-signs : (s t : Bool) → equalSigns s t ≡ true → s ≡ t
       same-signs true true q = refl
       same-signs true false q = sym q
       same-signs false true q = q
       same-signs false false q = refl
-  signs-fail (oneLiteralTwice e q) = at-number S r seven 6 8 e (not-true (factorSigns S r) (λ t. different t))
+  signs-fail (oneLiteralTwice e q) = at-number S r seven 6 8 e refl (not-true (factorSigns S r) (λ t. different t))
     where
       one : eqb (fieldB r) (fieldC r) ≡ true
       one = subst (λ (n : ℕ). eqb (fieldB r) n ≡ true) q (from-T (eqb (fieldB r) (fieldB r)) (eqb-refl (fieldB r)))
@@ -315,7 +324,7 @@ module _ (S : State) (r : Record) (seven : length (r .fields) ≡ 7) where
       (λ t. n (subst (λ (xs : List ℕ). resultFits (resolve (nextClause S) left (fieldB r) right xs []) ≡ true) (K .numbers) t))))
 
   factor-fails : {parent : Derivation} {l m : Literal} → Factors S r parent l m → ¬ (resultFits (factor (nextClause S) parent (fieldB r) (fieldC r) []) ≡ true) → testFor (tests S (kindOfRecord r) r) 9 ≡ false
-  factor-fails {parent} {l} {m} N n = at-number S r seven 6 9 (N .isFactor) (rw (factors-kept S r N, factors-deleted S r N) (not-true (resultFits (factor (nextClause S) parent (fieldB r) (fieldC r) [])) n))
+  factor-fails {parent} {l} {m} N n = at-number S r seven 6 9 (N .isFactor) refl (rw (factors-kept S r N, factors-deleted S r N) (not-true (resultFits (factor (nextClause S) parent (fieldB r) (fieldC r) [])) n))
 
   pub result-fails : ResultOver S r → testFor (tests S (kindOfRecord r) r) 9 ≡ false
   result-fails (resolventLiterals {left} {right} {ns = ns} N l) = resolvent-fails N (λ t. let z = fit (resolve (nextClause S) left (fieldB r) right ns []) t .0 in let y = resolvent-length left right ns in omega arith)

@@ -22,6 +22,7 @@ use Rattle.derivation.proofs.Validity.{Valid, signed}
 use Rattle.verdict.specs.Refusal.{tests, mostLiterals, mostIndex, kindOfRecord, zeros, argumentRows, leftOf, rightNumbers, rightOf, deletedOf, hasArity, allBelow, equalSigns, oppositeSigns, factorSigns, resultFits}
 use Rattle.verdict.specs.State.{State, rowsOf, derivations, arityOf, clauseOf, rowOf, earliestOf, recordOfRow, nextClause}
 use Rattle.verdict.specs.Step.{windowIn, stands, step, addClause, atoms, unifyResolve, unifyFactor, newApplication, newLiterals, enterResolvent, enter}
+use Rattle.demands.proofs.RangeTests.{fields-of}
 use Rattle.demands.proofs.Inversions.{tests-passed, stands-same, step-stands, named-stands, literal-named, literals-named, has-arity, all-below, rows-below, all-opposite, strictly-rising, equal-signs, not-equal, entry-new, clause-added, PassedResolve, PassedFactor, Passed}
 use Rattle.demands.proofs.Standing.{window-added, StateOk, literals-enough, index-enough, inputs-append, inputs-kept, no-chains, symbol-added, row-added, clause-entered, order-of, inputs-of, ChainsAfter, resolve-chains, factor-chains}
 
@@ -147,7 +148,7 @@ module _ (n : ℕ) (S : State) (H : StateOk n S) (k : ℕ) (r : Record) (T : Sta
   entered symbolKind l a q = subst (StateOk (suc n)) (stands-same q) (symbol-added n S H k (r .count))
   entered variableKind l a q = subst (StateOk (suc n)) (stands-same q) (row-added n S H (recordOfRow S k (variable (fieldA r))) (variable (fieldA r)) tt)
   entered applicationKind l a q =
-      let c = both-true (leb (r .count) 6) (zeros (drop (1 + r .count) (r .fields))) (a .ranged) in
+      let c = both-true (leb (r .count) 6) (zeros (drop (1 + r .count) (r .fields))) (fields-of r applicationKind (a .ranged)) in
       let t = both-true (hasArity (r .count) (arityOf S (fieldA r))) (allBelow (length ws) (argumentRows r)) (a .there) in
       let z = argument-count l (leb→le (r .count) 6 (to-T (leb (r .count) 6) (c .0))) in
       subst (StateOk (suc n)) (stands-same q) (row-added n S H (recordOfRow S k (newApplication S r)) (newApplication S r)
@@ -156,9 +157,11 @@ module _ (n : ℕ) (S : State) (H : StateOk n S) (k : ℕ) (r : Record) (T : Sta
       let c = both-true (leb (r .count) 7) (zeros (drop (r .count) (r .fields))) (a .ranged) in
       let f = few-literals (leb→le (r .count) 7 (to-T (leb (r .count) 7) (c .0))) in
       let h = H .heldOk in
-      subst (StateOk (suc n)) (stands-same q) (clause-entered n S H k (input (nextClause S) (newLiterals S r)) (omega arith)
+      let ok = clause-entered n S H k (input (nextClause S) (newLiterals S r)) (omega arith)
       (record { valid = tt; known = literals-below (inputLiterals r) (rows-below (length ws) (inputLiterals r) (a .there)); chains = no-chains ws (S .total + 0) (lookup (input (nextClause S) (newLiterals S r))) (λ x. refl); literalsFit = omega (arith, literals-enough, f); indexFits = index-enough })
-      (entry-new (input (nextClause S) (newLiterals S r)) (derivations S), tt))
+      (entry-new (input (nextClause S) (newLiterals S r)) (derivations S), tt)
+      in
+      subst (StateOk (suc n)) (stands-same q) (record { rowsOk = ok .rowsOk; few = ok .few; totalOk = ok .totalOk; heldOk = ok .heldOk; clausesOk = ok .clausesOk; inputsOk = ok .inputsOk })
   entered resolveKind l a q = resolvent-entered resolveKind a q
   entered severalKind l a q = resolvent-entered severalKind a q
   entered factorKind l a q =

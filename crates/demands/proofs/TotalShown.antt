@@ -6,14 +6,14 @@ use Prim.Native.Nat.{ℕ, _+_, _*_}
 use native.Mathlib.Omega.{arith}
 use lib.ListN.{length, getD, take}
 use lib.Seq.{getD-append-add, take-length}
-use Rattle.record.specs.Record.{Record, records}
+use Rattle.record.specs.Record.{File, Record, records}
 use Rattle.record.proofs.Records.{records-shaped}
 use Rattle.derivation.specs.Derivation.{Derivation, ownBindings}
 use Rattle.verdict.specs.State.{State, emptyState}
 use Rattle.verdict.specs.Step.{read, stateOf}
 use Rattle.verdict.specs.Tables.{Tables, lengthsOf, cellsOfClause, clauseCells, filledTables, tablesAfter, bindingsOf}
 use Rattle.demands.specs.Total.{stateAfter, totalAfter, fifthCells, BindingsHeld}
-use Rattle.verdict.specs.Verdict.{check, Answer, longEnough, fittingLength, ending}
+use Rattle.verdict.specs.Verdict.{check, Answer, longEnough, fitting, ending}
 use Rattle.demands.proofs.Acceptance.{cells-length}
 use Rattle.demands.proofs.Demanded.{check-length, check-tables, check-reads, tables-read}
 use Rattle.demands.proofs.Reading.{read-ok, start-ok, shaped-take}
@@ -24,7 +24,7 @@ use Rattle.demands.proofs.TableCells.{fifth-sum}
 pub total-sum : (n : ℕ) (S : State) → StateOk n S → (t : Tables) → S .total ≡ fifthCells (filledTables S t .clauses) (length (S .clauses))
 total-sum n S H t = H .totalOk ∙ sym (fifth-sum (S .clauses) _)
 
-module _ (day : ℕ) (file : List ℕ) (tables : Tables) where
+module _ (day : ℕ) (file : File) (tables : Tables) where
   after-ok : (k : ℕ) → StateOk (0 + length (take k (records file))) (stateAfter file k)
   after-ok k = read-ok 0 emptyState 0 (take k (records file)) (shaped-take k (records file) (records-shaped file)) start-ok
 
@@ -36,17 +36,17 @@ module _ (day : ℕ) (file : List ℕ) (tables : Tables) where
   unfolding ending
   after-all = ap (λ (rs : List Record). stateOf (read emptyState 0 rs)) (take-length (records file))
 
-  at-end : fittingLength (length file) ≡ true → longEnough (lengthsOf tables) ≡ true → check day file (lengthsOf tables) .bindings ≡ totalAfter file (length (records file))
+  at-end : fitting file ≡ true → longEnough (lengthsOf tables) ≡ true → check day file (lengthsOf tables) .bindings ≡ totalAfter file (length (records file))
   at-end f l = ap (λ (a : Answer). a .bindings) (check-reads day file tables f l) ∙ ap (λ (S : State). S .total) (sym after-all)
 
   in-table : check day file (lengthsOf tables) .bindings ≡ fifthCells (tablesAfter file tables .clauses) (check day file (lengthsOf tables) .clauses)
-  in-table = try (fittingLength (length file)) refl (longEnough (lengthsOf tables)) refl
+  in-table = try (fitting file) refl (longEnough (lengthsOf tables)) refl
     where
-      try : (b : Bool) → fittingLength (length file) ≡ b → (d : Bool) → longEnough (lengthsOf tables) ≡ d
+      try : (b : Bool) → fitting file ≡ b → (d : Bool) → longEnough (lengthsOf tables) ≡ d
           → check day file (lengthsOf tables) .bindings ≡ fifthCells (tablesAfter file tables .clauses) (check day file (lengthsOf tables) .clauses)
       try false f d l = rw (check-length day file tables f) refl
       try true f false l = rw (check-tables day file tables f l) refl
       try true f true l = rw (check-reads day file tables f l, tables-read file tables f l, ← after-all) (after-each (length (records file)))
 
-pub bindings-held : (day : ℕ) (file : List ℕ) (tables : Tables) → BindingsHeld day file tables
+pub bindings-held : (day : ℕ) (file : File) (tables : Tables) → BindingsHeld day file tables
 bindings-held day file tables = record { afterEach = after-each day file tables; atEnd = at-end day file tables; inTable = in-table day file tables }

@@ -15,7 +15,7 @@ use Rattle.unification.proofs.Tests.{to-T}
 use Rattle.derivation.specs.Derivation.{input, RowLiteral, inputLiterals}
 use Rattle.verdict.specs.Refusal.{tests, outlineTests, kindOfRecord, argumentRows}
 use Rattle.demands.specs.Repeats.{withWritten, writtenAfter, enterAsWritten, stepAsWritten, readAsWritten}
-use Rattle.verdict.specs.State.{State, withRow, withClause, entry, rowsOf, recordOfRow, nextClause}
+use Rattle.verdict.specs.State.{State, withRow, withClause, withDaysBeside, entry, rowsOf, recordOfRow, nextClause}
 use Rattle.verdict.specs.Step.{stands, refused, Result, requireAll, step, newApplication, enterRow, enter, read, refusedAt, Ending}
 use Rattle.demands.proofs.Inversions.{step-stands, not-below}
 use Rattle.demands.proofs.WrittenRows.{rowsEntered, entered-rows}
@@ -84,7 +84,7 @@ module _ (S : State) (k : ℕ) where
   entered-as-written r variableKind d = own-record (variable (fieldA r)) d
   entered-as-written r applicationKind d =
       ap (enterRow S k) (own-arguments r (distinct-with (rowsOf S) r applicationKind d)) ∙ own-record (application (fieldA r) (argumentRows r)) d
-  entered-as-written r inputKind d = ap (λ (ls : List RowLiteral). stands (withClause S k (input (nextClause S) ls))) (own-literals (rowsOf S) d (inputLiterals r))
+  entered-as-written r inputKind d = ap (λ (ls : List RowLiteral). stands (withDaysBeside (withClause S k (input (nextClause S) ls)) (nextClause S) (r .days))) (own-literals (rowsOf S) d (inputLiterals r))
   entered-as-written r symbolKind d = refl
   entered-as-written r resolveKind d = refl
   entered-as-written r severalKind d = refl

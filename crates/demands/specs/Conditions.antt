@@ -4,12 +4,12 @@
 -- found within 4,096 pairs by the turns of the comparison (`Compares`).
 use mathlib.Core.Path.{_≡_}
 use mathlib.Core.Logic.{_⊎_}
-use mathlib.Core.Option.{some}
+use mathlib.Core.Option.{none, some}
 use mathlib.Core.List.{List, [], _∷_, map}
 use Prim.Native.Nat.{ℕ, _+_, _/_, _%_, _≤_, _<_}
 use lib.Dec.{eqb, leb}
 use lib.ListN.{length, getD, take, drop}
-use Rattle.record.specs.Record.{pick, Record, fieldA, fieldB, fieldC, fieldD}
+use Rattle.record.specs.Record.{pick, File, oldFile, newFile, Record, fieldA, fieldB, fieldC, fieldD}
 use Rattle.unification.specs.Environment.{Environment}
 use Rattle.unification.specs.Failing.{Failing}
 use Rattle.unification.specs.Outlines.{ClashFound}
@@ -28,10 +28,12 @@ OneOf x (y ∷ ys) = (x ≡ y) ⊎ OneOf x ys
 abbrev pub fieldNumbered : Record → ℕ → ℕ
 fieldNumbered r i = getD (r .fields) i 0
 
--- 1: length over 65,536 or not a multiple of 16.
-pub data LengthUnfit (file : List ℕ) : Type 0 where
-  lengthOver : 65536 < length file → LengthUnfit file
-  notMultiple : ¬ (length file % 16 ≡ 0) → LengthUnfit file
+-- 1: length over 65,536 or not a multiple of 16; document 02, Q-11: in the new form over 65,520, which is 3,276 records, or not a multiple of 20.
+pub data LengthUnfit : File → Type 0 where
+  lengthOver : {bytes : List ℕ} → 65536 < length bytes → LengthUnfit (oldFile bytes)
+  notMultiple : {bytes : List ℕ} → ¬ (length bytes % 16 ≡ 0) → LengthUnfit (oldFile bytes)
+  newLengthOver : {bytes : List ℕ} → 65520 < length bytes → LengthUnfit (newFile bytes)
+  newNotMultiple : {bytes : List ℕ} → ¬ (length bytes % 20 ≡ 0) → LengthUnfit (newFile bytes)
 
 -- 2: a table too short.
 pub data TableShort (tables : Tables) : Type 0 where
@@ -39,6 +41,10 @@ pub data TableShort (tables : Tables) : Type 0 where
   rowsShort : length (tables .rows) < 4096 → TableShort tables
   clausesShort : length (tables .clauses) < 20480 → TableShort tables
   bindingsShort : length (tables .bindings) < 32768 → TableShort tables
+
+-- A window, which is of kind 8 and only in the old form: a record that has days of its own is none (document 02, Q-11).
+abbrev pub IsWindow : Record → Type 0
+IsWindow r = (r .kind ≡ 8) × (r .days ≡ none)
 
 -- "The file", the table of kinds: byte 1 goes up to `most`, and fields from number `used` on are unused.
 pub data Layout (r : Record) : (most used : ℕ) → Type 0 where
@@ -49,14 +55,21 @@ pub data Layout (r : Record) : (most used : ℕ) → Type 0 where
   ofResolve : r .kind ≡ 5 → Layout r 0 4
   ofFactor : r .kind ≡ 6 → Layout r 0 3
   ofSeveral : r .kind ≡ 7 → Layout r 4 (3 + r .count)
-  ofWindow : r .kind ≡ 8 → Layout r 0 3
+  ofWindow : IsWindow r → Layout r 0 3
 
--- 4: byte 1 or variable number out of its range, or an unused field not zero.
+-- 3: kind not 1 to 8; document 02, Q-11: in the new form not 1 to 7.
+pub data UnknownKind (r : Record) : Type 0 where
+  kindBelow : r .kind < 1 → UnknownKind r
+  kindAbove : 8 < r .kind → UnknownKind r
+  windowInNewForm : {days : ℕ × ℕ} → r .kind ≡ 8 → r .days ≡ some days → UnknownKind r
+
+-- 4: byte 1 or variable number out of its range, or an unused field not zero; document 02, Q-11: or days beside a record that is no input clause.
 pub data OutOfRange (r : Record) : Type 0 where
   countOver : {most used : ℕ} → Layout r most used → most < r .count → OutOfRange r
   noRightLiteral : r .kind ≡ 7 → r .count ≡ 0 → OutOfRange r
   variableOver : r .kind ≡ 2 → 63 < fieldA r → OutOfRange r
   unusedField : {most used : ℕ} → Layout r most used → (i : ℕ) → used ≤ i → ¬ (fieldNumbered r i ≡ 0) → OutOfRange r
+  unusedDays : {most used first last : ℕ} → Layout r most used → ¬ (r .kind ≡ 4) → r .days ≡ some (first, last) → ¬ (first ≡ 0) ⊎ ¬ (last ≡ 0) → OutOfRange r
 
 -- The right literals of a resolve: field d in kind 5; in kind 7 (document 02, Q-3) as many as byte 1 says, from field d on.
 pub data RightLiterals (r : Record) : List ℕ → Type 0 where
@@ -69,7 +82,7 @@ pub data NamesClause (r : Record) : ℕ → Type 0 where
   leftClause : {ns : List ℕ} → RightLiterals r ns → NamesClause r (fieldA r)
   rightClause : {ns : List ℕ} → RightLiterals r ns → NamesClause r (fieldC r)
   factoredClause : r .kind ≡ 6 → NamesClause r (fieldA r)
-  datedClause : r .kind ≡ 8 → NamesClause r (fieldA r)
+  datedClause : IsWindow r → NamesClause r (fieldA r)
 
 pub data Names (r : Record) : (clause literal : ℕ) → Type 0 where
   leftLiteral : {ns : List ℕ} → RightLiterals r ns → Names r (fieldA r) (fieldB r)
@@ -86,7 +99,7 @@ pub data NotThere (S : State) (r : Record) : Type 0 where
   noLiteralRow : r .kind ≡ 4 → (i : ℕ) → i < r .count → length (S .rows) ≤ fieldNumbered r i / 2 → NotThere S r
   noClause : {c : ℕ} → NamesClause r c → length (S .clauses) ≤ c → NotThere S r
   noLiteral : {c n : ℕ} {d : Derivation} → Names r c n → clauseOf S c ≡ some d → (n ≡ 0) ⊎ (length (literals d) < n) → NotThere S r
-  derivedClause : {d : Derivation} → r .kind ≡ 8 → clauseOf S (fieldA r) ≡ some d → ((number : ℕ) (ls : List RowLiteral) → ¬ (d ≡ input number ls)) → NotThere S r
+  derivedClause : {d : Derivation} → IsWindow r → clauseOf S (fieldA r) ≡ some d → ((number : ℕ) (ls : List RowLiteral) → ¬ (d ≡ input number ls)) → NotThere S r
 
 -- 7: a literal whose row is a variable.
 pub record LiteralOnVariable (S : State) (r : Record) : Type 0 where
@@ -103,10 +116,10 @@ pub record NotRising (r : Record) : Type 0 where
   pub isPlace : 1 + place < r .count
   pub falls : fieldNumbered r (4 + place) ≤ fieldNumbered r (3 + place)
 
--- 16, document 02, Q-6: first day after last.
-pub record DaysCrossed (r : Record) : Type 0 where
-  pub isWindow : r .kind ≡ 8
-  pub crossed : fieldC r < fieldB r
+-- 16, document 02, Q-6: first day after last; Q-11: also of the days beside an input clause.
+pub data DaysCrossed (r : Record) : Type 0 where
+  inWindow : IsWindow r → fieldC r < fieldB r → DaysCrossed r
+  besideClause : {first last : ℕ} → r .kind ≡ 4 → r .days ≡ some (first, last) → last < first → DaysCrossed r
 
 -- A resolve on literals that exist, and a factor on such.
 pub record Resolves (S : State) (r : Record) (left right : Derivation) (l : Literal) (ns : List ℕ) (ms : List Literal) : Type 0 where
@@ -153,15 +166,14 @@ pub data StepFails (S : State) (r : Record) (f : Failure) : Type 0 where
   factorFails : {parent : Derivation} {l m : Literal} → Factors S r parent l m → Fails S (lookup parent) ((l .1, m .1) ∷ []) f → StepFails S r f
 
 -- The order in which numbers are given, as the papers have it: 1 before 2, and both before any record; lower numbers come first within a record; but 14
--- (document 02, Q-3) comes after 5 and before 8, and 16 (Q-6) after 5. Both get the place of 6, which is not given any more. Only a resolve can have 14
--- and only a window 16.
+-- (document 02, Q-3) comes after 5 and before 8, and 16 (Q-6, Q-11) after 5 and before 7. Both get the place of 6, which is not given any more. Only a resolve can have 14
+-- and only a window or an input clause 16.
 abbrev pub precedence : ℕ → ℕ
 precedence n = pick (eqb n 14) 6 (pick (eqb n 16) 6 n)
 
 -- The conditions of a record, by their numbers; S is the state that the records before it leave. There is none for 6 (document 02, Q-2).
 pub data Condition (S : State) (r : Record) : ℕ → Type 0 where
-  -- kind not 1 to 8
-  unknownKind : (r .kind < 1) ⊎ (8 < r .kind) → Condition S r 3
+  unknownKind : UnknownKind r → Condition S r 3
   outsideRange : OutOfRange r → Condition S r 4
   nothingThere : NotThere S r → Condition S r 5
   fallingLiterals : NotRising r → Condition S r 14

@@ -2,12 +2,12 @@
 -- demands 2 (e) and 3.
 use mathlib.Core.Path.{_≡_}
 use mathlib.Core.Bool.{Bool, true}
-use mathlib.Core.Option.{some}
+use mathlib.Core.Option.{none, some}
 use mathlib.Core.List.{List, [], _∷_}
 use Prim.Native.Nat.{ℕ, suc, _+_}
 use lib.Dec.{eqb}
 use lib.ListN.{length, getD, drop}
-use Rattle.record.specs.Record.{pick, Record, records}
+use Rattle.record.specs.Record.{pick, File, Record, records}
 use Rattle.derivation.specs.Derivation.{Derivation}
 use Rattle.demands.specs.Demands.{Reached}
 use Rattle.verdict.specs.Readout.{LineWriter, readoutLines}
@@ -15,7 +15,7 @@ use Rattle.verdict.specs.Refusal.{Reason, badKind, badLength, shortTable}
 use Rattle.verdict.specs.State.{State, emptyState, derivations, clauseOf}
 use Rattle.verdict.specs.Step.{stands, refused, Result, step, Ending, allStand, refusedAt}
 use Rattle.verdict.specs.Tables.{Tables, filledTables}
-use Rattle.verdict.specs.Verdict.{Verdict, refusal, check, answerNumbers, firstEmpty, standing, Lengths, fittingLength, longEnough, Reading, untouched, readTo, reading, stateGiven}
+use Rattle.verdict.specs.Verdict.{Verdict, refusal, check, answerNumbers, firstEmpty, standing, Lengths, fitting, longEnough, Reading, untouched, readTo, reading, stateGiven}
 
 -- ── The check as it was ──
 -- No file is read or answered so any more; what stays is stated against it.
@@ -28,9 +28,9 @@ abbrev pub readWithoutWindows : State → ℕ → List Record → Ending
 readWithoutWindows S k [] = allStand S
 readWithoutWindows S k (r ∷ rs) = elim (stepWithoutWindows S k r) [ stands T ↦ readWithoutWindows T (suc k) rs | refused reason ↦ refusedAt S reason k ]
 
-abbrev pub readingWithoutWindows : List ℕ → Lengths → Reading
+abbrev pub readingWithoutWindows : File → Lengths → Reading
 readingWithoutWindows file lengths =
-    pick (fittingLength (length file))
+    pick (fitting file)
     (pick (longEnough lengths) (readTo (readWithoutWindows emptyState 0 (records file))) (untouched shortTable))
     (untouched badLength)
 
@@ -44,8 +44,13 @@ verdictWithoutDay (readTo (allStand S)) = standing (firstEmpty everyClause (deri
 verdictWithoutDay (readTo (refusedAt S reason k)) = refusal reason k
 
 -- ── What is shown ──
+
+-- A record that gives no clause any days.
+abbrev pub Undated : Record → Type 0
+Undated r = ¬ (r .kind ≡ 8) × (r .days ≡ none)
+
 -- The tables are `tablesAfter`, which goes by `reading` and of which the day is no argument.
-pub record DaysOnlyChoose (file : List ℕ) (lengths : Lengths) : Type 0 where
+pub record DaysOnlyChoose (file : File) (lengths : Lengths) : Type 0 where
   -- A record of kind 8 is no clause and takes no number: none of the four counts and tables knows it.
   pub noClause : (S T : State) (k : ℕ) (r : Record) → r .kind ≡ 8 → step S k r ≡ stands T
       → (T .symbols ≡ S .symbols) × (T .rows ≡ S .rows) × (T .clauses ≡ S .clauses) × (T .total ≡ S .total) × ((t : Tables) → filledTables T t ≡ filledTables S t)
@@ -58,7 +63,7 @@ pub record DaysOnlyChoose (file : List ℕ) (lengths : Lengths) : Type 0 where
   pub allListed : (line : LineWriter) (day : ℕ) → length (readoutLines line day file lengths) ≡ 1 + check day file lengths .clauses
   -- so that the lines after the first do not depend on the day.
   pub clauseLines : (line : LineWriter) (day other : ℕ) → drop 1 (readoutLines line day file lengths) ≡ drop 1 (readoutLines line other file lengths)
-  -- A file in which reading comes to no record of kind 8 is read as it was, and gets on every day the verdict that it got: and with these the answer,
-  -- the tables and the readout.
-  pub readAlike : ((k : ℕ) (S : State) (r : Record) → Reached file k S r → ¬ (r .kind ≡ 8)) → reading file lengths ≡ readingWithoutWindows file lengths
-  pub sameVerdict : ((k : ℕ) (S : State) (r : Record) → Reached file k S r → ¬ (r .kind ≡ 8)) → (day : ℕ) → check day file lengths .verdict ≡ verdictWithoutDay (reading file lengths)
+  -- A file in which reading comes to no record of kind 8, and to none with days beside it, is read as it was, and gets on every day the verdict that it got: and with
+  -- these the answer, the tables and the readout.
+  pub readAlike : ((k : ℕ) (S : State) (r : Record) → Reached file k S r → Undated r) → reading file lengths ≡ readingWithoutWindows file lengths
+  pub sameVerdict : ((k : ℕ) (S : State) (r : Record) → Reached file k S r → Undated r) → (day : ℕ) → check day file lengths .verdict ≡ verdictWithoutDay (reading file lengths)

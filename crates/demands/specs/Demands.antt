@@ -1,13 +1,13 @@
 -- The mission's three demands, stated of the definitions, for every file, every four tables and, since document 02's Q-6, every day.
 use mathlib.Core.Path.{_≡_}
 use mathlib.Core.Logic.{_⊎_}
-use mathlib.Core.Bool.{true}
+use mathlib.Core.Bool.{true, _&&_}
 use mathlib.Core.Option.{some}
 use mathlib.Core.List.{List, [], _∷_, map}
 use Prim.Native.Nat.{ℕ, _+_, _*_, _≤_, _<_}
 use lib.Dec.{leb}
 use lib.ListN.{length, getD, take, drop}
-use Rattle.record.specs.Record.{pick, Record, records, fieldA, fieldB, fieldC}
+use Rattle.record.specs.Record.{pick, File, Record, records, fieldA, fieldB, fieldC}
 use Rattle.unification.specs.Bindings.{bindingAt}
 use Rattle.unification.specs.Environment.{follow, Binding, Environment, Ends}
 use Rattle.unification.specs.Repeated.{IsEarliest}
@@ -19,30 +19,30 @@ use Rattle.derivation.specs.Derivation.{literals, input, Literal, RowLiteral, D
 use Rattle.derivation.specs.Ground.{instances, Ground, Values, valueIn, WellFormedInstances, Assignment, AllTrue}
 use Rattle.derivation.specs.Textbook.{Resolvent, Factor}
 use Rattle.derivation.specs.Written.{written, substitution, renamed, WritesOut}
-use Rattle.demands.specs.Conditions.{OneOf, fieldNumbered, LengthUnfit, TableShort, OutOfRange, RightLiterals, NotRising, Resolves, Factors, SignsUnfit, Condition, precedence}
+use Rattle.demands.specs.Conditions.{OneOf, fieldNumbered, LengthUnfit, TableShort, IsWindow, OutOfRange, RightLiterals, NotRising, Resolves, Factors, SignsUnfit, Condition, precedence}
 use Rattle.verdict.specs.Refusal.{Reason, reasonNumber}
-use Rattle.verdict.specs.State.{State, emptyState, withSymbol, withRow, withClause, withWindow, entry, rowsOf, derivations, nextClause, arityOf, clauseOf, rowOf, termOf}
+use Rattle.verdict.specs.State.{State, emptyState, withSymbol, withRow, withClause, withWindow, withDaysBeside, entry, rowsOf, derivations, nextClause, arityOf, clauseOf, rowOf, termOf}
 use Rattle.verdict.specs.Step.{stands, refused, step, read, allStand, stateOf}
 use Rattle.verdict.specs.Tables.{Tables, lengthsOf, tablesAfter}
 use Rattle.demands.specs.Total.{fifthCells}
-use Rattle.verdict.specs.Verdict.{refusal, check, accepted, open′, fittingLength, ending, Stands}
+use Rattle.verdict.specs.Verdict.{refusal, check, accepted, open′, fitting, ending, Stands}
 
 -- Reading comes to record k, which is r: the file's length fits, and the records before it stand and leave the state S.
-pub record Reached (file : List ℕ) (k : ℕ) (S : State) (r : Record) : Type 0 where
-  pub fits : fittingLength (length file) ≡ true
+pub record Reached (file : File) (k : ℕ) (S : State) (r : Record) : Type 0 where
+  pub fits : fitting file ≡ true
   pub before : read emptyState 0 (take k (records file)) ≡ allStand S
   pub after : List Record
   pub here : drop k (records file) ≡ r ∷ after
 
 -- Record k of a file.
-pub record RecordAt (file : List ℕ) (k : ℕ) (r : Record) : Type 0 where
+pub record RecordAt (file : File) (k : ℕ) (r : Record) : Type 0 where
   pub after : List Record
   pub here : drop k (records file) ≡ r ∷ after
 
 -- A state that reading comes to: before a record, or the one that it leaves.
-pub data ComesTo (file : List ℕ) : State → Type 0 where
+pub data ComesTo (file : File) : State → Type 0 where
   beforeRecord : {k : ℕ} {S : State} {r : Record} → Reached file k S r → ComesTo file S
-  lastState : fittingLength (length file) ≡ true → ComesTo file (stateOf (ending file))
+  lastState : fitting file ≡ true → ComesTo file (stateOf (ending file))
 
 -- ── Demand 1: an honest verdict on every file ──
 -- That the program ends, stays inside what it was lent and answers by `check` and `tablesAfter` is its contract. Here: what these say
@@ -75,14 +75,14 @@ pub record TablesHold (S : State) (before after : Tables) : Type 0 where
   pub bindingsTo : FilledTo 32768 (4 * fifthCells (after .clauses) (length (S .clauses))) (before .bindings) (after .bindings)
 
 -- Refused with 1 or 2, for its length or the tables' lengths: record 0, counts 0, tables untouched.
-pub record Untouched (day : ℕ) (file : List ℕ) (tables : Tables) (reason : Reason) (k : ℕ) : Type 0 where
+pub record Untouched (day : ℕ) (file : File) (tables : Tables) (reason : Reason) (k : ℕ) : Type 0 where
   pub number : OneOf (reasonNumber reason) (1 ∷ 2 ∷ [])
   pub record0 : k ≡ 0
   pub counts : check day file (lengthsOf tables) ≡ record { verdict = refusal reason 0; symbols = 0; rows = 0; clauses = 0; bindings = 0 }
   pub tablesKept : tablesAfter file tables ≡ tables
 
 -- Refused at a record, with 3 or more: counts and tables are those of the state that the records before it leave, and of nothing else.
-pub record LeftBefore (day : ℕ) (file : List ℕ) (tables : Tables) (reason : Reason) (k : ℕ) : Type 0 where
+pub record LeftBefore (day : ℕ) (file : File) (tables : Tables) (reason : Reason) (k : ℕ) : Type 0 where
   pub number : 3 ≤ reasonNumber reason
   pub state : State
   pub refusedRecord : Record
@@ -97,7 +97,7 @@ pub record LeftBefore (day : ℕ) (file : List ℕ) (tables : Tables) (reason : 
   pub tablesHold : TablesHold state tables (tablesAfter file tables)
 
 -- Not refused: counts and tables are those of the state that all records leave.
-pub record LeftByAll (day : ℕ) (file : List ℕ) (tables : Tables) (S : State) : Type 0 where
+pub record LeftByAll (day : ℕ) (file : File) (tables : Tables) (S : State) : Type 0 where
   pub counts : check day file (lengthsOf tables) ≡ record {
     verdict = check day file (lengthsOf tables) .verdict;
     symbols = length (S .symbols);
@@ -107,7 +107,7 @@ pub record LeftByAll (day : ℕ) (file : List ℕ) (tables : Tables) (S : State)
   }
   pub tablesHold : TablesHold S tables (tablesAfter file tables)
 
-pub record Demand1 (day : ℕ) (file : List ℕ) (tables : Tables) : Type 0 where
+pub record Demand1 (day : ℕ) (file : File) (tables : Tables) : Type 0 where
   -- A file that stands, with tables long enough, leaves the tables with exactly its records.
   pub tablesOfStanding : (S : State) → Stands file S → ¬ TableShort tables → LeftByAll day file tables S
   -- A refusal leaves the tables with exactly the records before it, or for reasons 1 and 2 untouched.
@@ -134,7 +134,7 @@ pub record Binds (S : State) (ρ : Environment) (pairs : List Pair) (bs : List B
   pub comesTo : Reaches (rowOf S) mostLinks (λ made. leb 8192 (S .total + length made)) ρ work (unifying [] pairs) (unifying bs [])
 
 -- What a record that stands adds to the state, as the table of kinds has it: a symbol with its arity; a row; an input clause with its
--- literals, each 2 × row, plus 1 if positive; the clause of a step, over its parents, with the bindings of its unification; the window of a clause, and no
+-- literals, each 2 × row, plus 1 if positive, and with the days beside it as its window; the clause of a step, over its parents, with the bindings of its unification; the window of a clause, and no
 -- clause. Arguments and literals are on earliest rows.
 pub data Adds (S : State) (k : ℕ) (r : Record) (T : State) : Type 0 where
   addsSymbol : r .kind ≡ 1 → T ≡ withSymbol S k (r .count) → Adds S k r T
@@ -143,13 +143,13 @@ pub data Adds (S : State) (k : ℕ) (r : Record) (T : State) : Type 0 where
       → RecordOfRow S k (application (fieldA r) xs) j → T ≡ withRow S j (application (fieldA r) xs) → Adds S k r T
   addsInput : {ls : List RowLiteral} → r .kind ≡ 4 → length ls ≡ r .count
       → ((i : ℕ) (l : RowLiteral) → numbered ls (1 + i) ≡ some l → (row : ℕ) × (2 * row + pick (l .0) 1 0 ≡ fieldNumbered r i) × EarliestEqual S row (l .1))
-      → T ≡ withClause S k (input (nextClause S) ls) → Adds S k r T
+      → T ≡ withDaysBeside (withClause S k (input (nextClause S) ls)) (nextClause S) (r .days) → Adds S k r T
   addsResolvent : {left right : Derivation} {l : Literal} {ns : List ℕ} {ms : List Literal} {bs : List Binding} → Resolves S r left right l ns ms
       → Binds S (joined (maximumIndex left) (lookup left) (lookup right)) (pairsWith (maximumIndex left) (l .1) (map (λ m. m .1) ms)) bs
       → T ≡ withClause S k (resolve (nextClause S) left (fieldB r) right ns bs) → Adds S k r T
   addsFactor : {parent : Derivation} {l m : Literal} {bs : List Binding} → Factors S r parent l m
       → Binds S (lookup parent) ((l .1, m .1) ∷ []) bs → T ≡ withClause S k (factor (nextClause S) parent (fieldB r) (fieldC r) bs) → Adds S k r T
-  addsWindow : r .kind ≡ 8 → T ≡ withWindow S (record { clause = fieldA r; first = fieldB r; last = fieldC r }) → Adds S k r T
+  addsWindow : IsWindow r → T ≡ withWindow S (record { clause = fieldA r; first = fieldB r; last = fieldC r }) → Adds S k r T
 
 -- An atom of a clause, written out.
 abbrev pub atomOf : State → Derivation → Literal → Term Variable
@@ -186,30 +186,46 @@ pub data StandsOrLimit (S : State) (k : ℕ) (r : Record) : Type 0 where
   limitMet : {reason : Reason} → step S k r ≡ refused reason → OneOf (reasonNumber reason) (9 ∷ 12 ∷ 13 ∷ []) → StandsOrLimit S k r
 
 -- (d) The condition stated for a number holds of the file, of the tables, or of a record that reading comes to.
-pub data ConditionAt (file : List ℕ) (tables : Tables) : (number k : ℕ) → Type 0 where
+pub data ConditionAt (file : File) (tables : Tables) : (number k : ℕ) → Type 0 where
   ofLength : LengthUnfit file → ConditionAt file tables 1 0
   ofTables : TableShort tables → ConditionAt file tables 2 0
   ofRecord : {number k : ℕ} {S : State} {r : Record} → Reached file k S r → Condition S r number → ConditionAt file tables number k
 
 -- It does, and that of no number that is given before it holds, of whatever it may be.
-pub record Due (file : List ℕ) (tables : Tables) (number k : ℕ) : Type 0 where
+pub record Due (file : File) (tables : Tables) (number k : ℕ) : Type 0 where
   pub holds : ConditionAt file tables number k
   pub first : (other j : ℕ) → ConditionAt file tables other j → precedence number ≤ precedence other
 
--- (e) Document 02, Q-6. Record k is the one that has the days of clause n: the last record of kind 8 for it, wherever steps that use the clause stand.
-pub record DaysOf (file : List ℕ) (n k : ℕ) (r : Record) : Type 0 where
-  pub here : RecordAt file k r
-  pub isWindow : r .kind ≡ 8
-  pub forClause : fieldA r ≡ n
-  pub last : (j : ℕ) (q : Record) → k < j → RecordAt file j q → q .kind ≡ 8 → ¬ (fieldA q ≡ n)
+-- (e) Document 02, Q-6 and Q-11. The clauses that records make: an input clause and every step takes a number.
+abbrev pub clausesOf : Record → ℕ
+clausesOf r = pick (leb 4 (r .kind) && leb (r .kind) 7) 1 0
+
+abbrev pub clausesIn : List Record → ℕ
+clausesIn [] = 0
+clausesIn (r ∷ rs) = clausesOf r + clausesIn rs
+
+-- A record gives a clause its first and last day: one of kind 8 the clause that it names, and an input clause with days beside it itself, which has the number `before`, that of
+-- the clauses before it.
+pub data Dates (before : ℕ) (r : Record) : (clause first last : ℕ) → Type 0 where
+  byWindow : IsWindow r → Dates before r (fieldA r) (fieldB r) (fieldC r)
+  besideClause : {first last : ℕ} → r .kind ≡ 4 → r .days ≡ some (first, last) → Dates before r before first last
+
+abbrev pub DatesAt : File → ℕ → Record → (clause first last : ℕ) → Type 0
+DatesAt file k r clause first last = RecordAt file k r × Dates (clausesIn (take k (records file))) r clause first last
+
+-- Record k is the one that has the days of clause n: the last that gives it some, wherever steps that use the clause stand.
+pub record DaysOf (file : File) (n k first last : ℕ) : Type 0 where
+  pub dating : Record
+  pub dates : DatesAt file k dating n first last
+  pub noneLater : (j : ℕ) (q : Record) (f l : ℕ) → k < j → ¬ DatesAt file j q n f l
 
 -- A clause is in force from its first day to its last, both included, and without such a record always.
-pub data InForce (file : List ℕ) (day n : ℕ) : Type 0 where
-  always : ((k : ℕ) (r : Record) → RecordAt file k r → r .kind ≡ 8 → ¬ (fieldA r ≡ n)) → InForce file day n
-  onDay : {k : ℕ} {r : Record} → DaysOf file n k r → fieldB r ≤ day → day ≤ fieldC r → InForce file day n
+pub data InForce (file : File) (day n : ℕ) : Type 0 where
+  always : ((k : ℕ) (r : Record) (f l : ℕ) → ¬ DatesAt file k r n f l) → InForce file day n
+  onDay : {k first last : ℕ} → DaysOf file n k first last → first ≤ day → day ≤ last → InForce file day n
 
 -- A derivation uses only clauses in force on the day.
-abbrev pub UsesInForce : List ℕ → ℕ → Derivation → Type 0
+abbrev pub UsesInForce : File → ℕ → Derivation → Type 0
 UsesInForce file day c = (u : Use) → OneOf u (uses c) → InForce file day (u .0)
 
 -- Clause n is empty, and no clause with a lower number is. Only clauses whose derivation is admitted are looked at.
@@ -225,7 +241,7 @@ abbrev pub NoneEmpty : (Derivation → Type 0) → State → Type 0
 NoneEmpty Admitted S = (n : ℕ) (c : Derivation) → clauseOf S n ≡ some c → Admitted c → ¬ (literals c ≡ [])
 
 -- Unifiers have values that are terms over Y; the textbook's own are those with Y = Variable. It is proved for every Y.
-pub record Demand2 (Y : Type 0) (day : ℕ) (file : List ℕ) (tables : Tables) : Type 0 where
+pub record Demand2 (Y : Type 0) (day : ℕ) (file : File) (tables : Tables) : Type 0 where
   -- What stands is what the file says.
   pub declared : (k : ℕ) (S T : State) (r : Record) → Reached file k S r → step S k r ≡ stands T → Adds S k r T
   -- Terms stay: a row that there is before a record has the same term after it. So what is said of a clause in the state that its step came to holds in the
@@ -275,7 +291,7 @@ InputsOf cs [] = Unit {0}
 InputsOf cs (u ∷ us) = (entry cs (u .0) ≡ some (input (u .0) (u .1))) × InputsOf cs us
 
 -- What holds of the first empty clause that is admitted, clause n, of a file that stands and leaves S; m is the number of its uses.
-pub record Refutation (Admitted : Derivation → Type 0) (file : List ℕ) (tables : Tables) (S : State) (n : ℕ) : Type 0 where
+pub record Refutation (Admitted : Derivation → Type 0) (file : File) (tables : Tables) (S : State) (n : ℕ) : Type 0 where
   pub first : LowestEmpty Admitted S n
   -- The uses are input clauses of the file, each counted as often as it is used.
   pub inputs : InputsOf (derivations S) (uses (first .clause))
@@ -290,7 +306,7 @@ pub record Refutation (Admitted : Derivation → Type 0) (file : List ℕ) (tabl
   pub formed : WellFormedInstances (arityOf S) (instances (termOf S) (valueIn (termOf S) (first .clause)) 1 (uses (first .clause)))
   pub unsatisfiable : (A : Assignment) → ¬ AllTrue A (instances (termOf S) (valueIn (termOf S) (first .clause)) 1 (uses (first .clause)))
 
-pub record Demand3 (day : ℕ) (file : List ℕ) (tables : Tables) : Type 0 where
+pub record Demand3 (day : ℕ) (file : File) (tables : Tables) : Type 0 where
   pub refuted : (n : ℕ) → check day file (lengthsOf tables) .verdict ≡ accepted n → (S : State) × Stands file S × Refutation (UsesInForce file day) file tables S n
   -- All uses of the accepted clause are in force on the day. It follows from `refuted`, whose clause is admitted, and is stated by itself because document 02,
   -- Q-6, asks for it by name.

@@ -3,7 +3,7 @@ use mathlib.Core.Path.{_≡_}
 use mathlib.Core.Option.{some}
 use mathlib.Core.List.{List, [], _∷_}
 use Prim.Native.Nat.{ℕ}
-use Rattle.record.specs.Record.{Record, fieldA, fieldB, fieldC}
+use Rattle.record.specs.Record.{File, Record, fieldA, fieldB, fieldC}
 use Rattle.unification.specs.Row.{Variable}
 use Rattle.derivation.specs.Derivation.{Derivation}
 use Rattle.derivation.specs.Ground.{Ground}
@@ -23,7 +23,7 @@ pub record NotLost (S : State) (k : ℕ) (r : Record) (E : GroundClause) : Type 
   pub instanceMade : (T : State) → step S k r ≡ stands T → (clause : Derivation) × (T ≡ withClause S k clause) × InstanceOf E (written (termOf S) clause)
 
 -- Of every file, every record that reading comes to, and any values for the parents' variables.
-pub record NothingLost (file : List ℕ) : Type 0 where
+pub record NothingLost (file : File) : Type 0 where
   -- If two parents have variable-free instances, with values of their own each, that resolve on the named literals, in kind 7 on all of them.
   pub resolvents : (k : ℕ) (S : State) (r : Record) (ns : List ℕ) (left right : Derivation) → Reached file k S r → RightLiterals r ns
       → clauseOf S (fieldA r) ≡ some left → clauseOf S (fieldC r) ≡ some right → (γ δ : Variable → Ground) (E : GroundClause)

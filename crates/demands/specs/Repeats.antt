@@ -6,16 +6,16 @@ use mathlib.Core.List.{List, [], _∷_, _++_, map}
 use Prim.Native.Nat.{ℕ, suc, _+_, _*_, _/_, _%_, _<_}
 use lib.Dec.{eqb}
 use lib.ListN.{length, take, drop}
-use Rattle.record.specs.Bytes.{fileBytes}
-use Rattle.record.specs.Record.{pick, Record, records, otherKind, Kind, symbolKind, variableKind, applicationKind, inputKind, resolveKind, factorKind, severalKind, windowKind, fieldA}
+use Rattle.record.specs.Bytes.{bytesIn}
+use Rattle.record.specs.Record.{pick, File, inForm, Record, records, otherKind, Kind, symbolKind, variableKind, applicationKind, inputKind, resolveKind, factorKind, severalKind, windowKind, fieldA}
 use Rattle.unification.specs.Repeated.{IsEarliest}
 use Rattle.unification.specs.Row.{variable, Expression, Variable, Row, application, noSymbol, rowAt, argumentTerms}
 use Rattle.unification.specs.Term.{Term, var, app, nil}
 use Rattle.derivation.specs.Derivation.{input, inputLiterals, Derivation, lookup}
 use Rattle.verdict.specs.Refusal.{tests, outlineTests, kindOfRecord, argumentRows}
-use Rattle.verdict.specs.State.{State, emptyState, withRow, withClause, rowsOf, earliestOf, nextClause, clauseOf}
+use Rattle.verdict.specs.State.{State, emptyState, withRow, withClause, withDaysBeside, rowsOf, earliestOf, nextClause, clauseOf}
 use Rattle.verdict.specs.Step.{stands, refused, Result, requireAll, enter, step, read, Ending, allStand, refusedAt}
-use Rattle.verdict.specs.Verdict.{Lengths, fittingLength, longEnough, ending, Reading, untouched, readTo, reading}
+use Rattle.verdict.specs.Verdict.{Lengths, fitting, longEnough, ending, Reading, untouched, readTo, reading}
 use Rattle.verdict.specs.Refusal.{badLength, shortTable}
 
 -- ── Rows as the file writes them ──
@@ -54,7 +54,7 @@ termByNumbers (w ∷ ws) r = pick (eqb r (length ws)) (numberTerm (termByNumbers
 abbrev pub enterAsWritten : State → ℕ → Kind → Record → Result
 enterAsWritten S k variableKind r = stands (withRow S k (variable (fieldA r)))
 enterAsWritten S k applicationKind r = stands (withRow S k (application (fieldA r) (argumentRows r)))
-enterAsWritten S k inputKind r = stands (withClause S k (input (nextClause S) (inputLiterals r)))
+enterAsWritten S k inputKind r = stands (withDaysBeside (withClause S k (input (nextClause S) (inputLiterals r))) (nextClause S) (r .days))
 enterAsWritten S k symbolKind r = enter S k symbolKind r
 enterAsWritten S k resolveKind r = enter S k resolveKind r
 enterAsWritten S k severalKind r = enter S k severalKind r
@@ -69,9 +69,9 @@ abbrev pub readAsWritten : State → ℕ → List Record → Ending
 readAsWritten S k [] = allStand S
 readAsWritten S k (r ∷ rs) = elim (stepAsWritten S k r) [ stands T ↦ readAsWritten T (suc k) rs | refused reason ↦ refusedAt S reason k ]
 
-abbrev pub readingAsWritten : List ℕ → Lengths → Reading
+abbrev pub readingAsWritten : File → Lengths → Reading
 readingAsWritten file lengths =
-    pick (fittingLength (length file))
+    pick (fitting file)
     (pick (longEnough lengths) (readTo (readAsWritten emptyState 0 (records file))) (untouched shortTable))
     (untouched badLength)
 
@@ -94,19 +94,19 @@ replacedFields S windowKind r = r .fields
 replacedFields S otherKind r = r .fields
 
 abbrev pub replaced : State → Record → Record
-replaced S r = record { kind = r .kind; count = r .count; fields = replacedFields S (kindOfRecord r) r }
+replaced S r = record { kind = r .kind; count = r .count; fields = replacedFields S (kindOfRecord r) r; days = r .days }
 
 -- The records of a file, each replaced in the state that those before it leave, as far as they stand.
 abbrev pub replacedFrom : State → ℕ → List Record → List Record
 replacedFrom S k [] = []
 replacedFrom S k (r ∷ rs) = replaced S r ∷ elim (step S k r) [ stands T ↦ replacedFrom T (suc k) rs | refused reason ↦ rs ]
 
-abbrev pub replacedFile : List ℕ → List ℕ
-replacedFile file = fileBytes (replacedFrom emptyState 0 (records file))
+abbrev pub replacedFile : File → File
+replacedFile file = inForm (file .form) (bytesIn (file .form) (replacedFrom emptyState 0 (records file)))
 
 -- ── What is shown ──
 -- The tables are a function of what becomes of a file (`reading`), and the answer and the readout of that and the day.
-pub record RepeatedRows (file : List ℕ) : Type 0 where
+pub record RepeatedRows (file : File) : Type 0 where
   -- In every state that reading comes to there is a row for each that the file writes, and it has the term that the file writes.
   pub asMany : (k : ℕ) (S : State) → read emptyState 0 (take k (records file)) ≡ allStand S → length (rowsOf S) ≡ length (writtenRows (take k (records file)))
   pub asWritten : (k : ℕ) (S : State) → read emptyState 0 (take k (records file)) ≡ allStand S → (p : ℕ) → termByNumbers (rowsOf S) p ≡ termByNumbers (writtenRows (take k (records file))) p
@@ -121,4 +121,4 @@ pub record RepeatedRows (file : List ℕ) : Type 0 where
   -- A file without repeated rows gets what it had.
   pub unrepeated : NoRepeats (records file) → (lengths : Lengths) → reading file lengths ≡ readingAsWritten file lengths
   -- A file in which repeated rows are replaced wherever they are named gets the same.
-  pub replacing : fittingLength (length file) ≡ true → (lengths : Lengths) → reading (replacedFile file) lengths ≡ reading file lengths
+  pub replacing : fitting file ≡ true → (lengths : Lengths) → reading (replacedFile file) lengths ≡ reading file lengths

@@ -8,7 +8,7 @@ use lib.ListN.{length, getD, take, drop, take-append-drop, length-append, length
 use lib.Seq.{length-take-le, drop-cons, getD-drop, take-at, drop-at}
 use Rattle.record.specs.Bytes.{lowThenHigh, fieldBytes, dayBytes, recordBytes, bytesIn, DaysFit, Fits, AllFit, Bytes}
 use Rattle.record.specs.Record.{Record, File, inForm, recordLength, recordCount, kindOf, countOf, fieldsOf, decodedIn, parts, records}
-use Rattle.record.proofs.Records.{HasDays, ShapedRecord, Shaped}
+use Rattle.record.proofs.Records.{HasDays, Shaped, HaveDays}
 use Rattle.record.specs.declared.Form.{Form}
 use Rattle.record.specs.declared.Form.the-variants.{Old, New}
 
@@ -42,14 +42,14 @@ high-byte : (l h : ℕ) → l < 256 → (l + 256 * h) / 256 ≡ h
 high-byte l h b = omega arith
 
 -- Decoding the bytes of a record gives the record back.
-pub record-decoded : (form : Form) (r : Record) → ShapedRecord form r → decodedIn form (recordBytes form r) ≡ r
+pub record-decoded : (form : Form) (r : Record) → length (r .fields) ≡ 7 → HasDays form (r .days) → decodedIn form (recordBytes form r) ≡ r
 unfolding recordBytes
-record-decoded Old r h =
-    let same : decodedIn Old (recordBytes Old r) .fields ≡ r .fields = simp rejoined (seven-elements (r .fields) (h .seven)) in
-    λ i. record { kind = r .kind; count = r .count; fields = same i; days = sym (h .days) i }
-record-decoded New r h =
-    let same : decodedIn New (recordBytes New r) .fields ≡ r .fields = simp rejoined (seven-elements (r .fields) (h .seven)) in
-    let days : decodedIn New (recordBytes New r) .days ≡ r .days = rw (h .days .2) (simp rejoined refl) in
+record-decoded Old r h d =
+    let same : decodedIn Old (recordBytes Old r) .fields ≡ r .fields = simp rejoined (seven-elements (r .fields) h) in
+    λ i. record { kind = r .kind; count = r .count; fields = same i; days = sym d i }
+record-decoded New r h d =
+    let same : decodedIn New (recordBytes New r) .fields ≡ r .fields = simp rejoined (seven-elements (r .fields) h) in
+    let days : decodedIn New (recordBytes New r) .days ≡ r .days = rw (d .2) (simp rejoined refl) in
     λ i. record { kind = r .kind; count = r .count; fields = same i; days = days i }
 
 -- The bytes of a decoded part of a record's length are that part.
@@ -122,9 +122,13 @@ days-shaped : (form : Form) (days : Option (ℕ × ℕ)) → DaysFit form days �
 days-shaped Old days f = f
 days-shaped New days f = (f .0, f .1, f .2)
 
-pub fits-shaped : (form : Form) (rs : List Record) → AllFit form rs → Shaped form rs
+pub fits-shaped : (form : Form) (rs : List Record) → AllFit form rs → Shaped rs
 fits-shaped form [] f = tt
-fits-shaped form (r ∷ rs) f = (record { seven = f .0 .sevenFields; days = days-shaped form (r .days) (f .0 .daysFit) }, fits-shaped form rs (f .1))
+fits-shaped form (r ∷ rs) f = (f .0 .sevenFields, fits-shaped form rs (f .1))
+
+pub fits-days : (form : Form) (rs : List Record) → AllFit form rs → HaveDays form rs
+fits-days form [] f = tt
+fits-days form (r ∷ rs) f = (days-shaped form (r .days) (f .0 .daysFit), fits-days form rs (f .1))
 
 pub file-length : (form : Form) (rs : List Record) → length (bytesIn form rs) ≡ recordLength form * length rs
 unfolding bytesIn
@@ -146,20 +150,20 @@ file-parts form (r ∷ rs) =
     rw (take-at (recordBytes form r) (bytesIn form rs) (recordLength form) (record-whole form r), drop-at (recordBytes form r) (bytesIn form rs) (recordLength form) (record-whole form r))
     (ap (λ (k : List (List ℕ)). recordBytes form r ∷ k) (file-parts form rs))
 
-all-decoded : (form : Form) (rs : List Record) → Shaped form rs → map (decodedIn form) (map (recordBytes form) rs) ≡ rs
-all-decoded form [] s = refl
-all-decoded form (r ∷ rs) s = λ i. record-decoded form r (s .0) i ∷ all-decoded form rs (s .1) i
+all-decoded : (form : Form) (rs : List Record) → Shaped rs → HaveDays form rs → map (decodedIn form) (map (recordBytes form) rs) ≡ rs
+all-decoded form [] s d = refl
+all-decoded form (r ∷ rs) s d = λ i. record-decoded form r (s .0) (d .0) i ∷ all-decoded form rs (s .1) (d .1) i
 
 pub file-counted : (form : Form) (rs : List Record) → recordCount (inForm form (bytesIn form rs)) ≡ length rs
 file-counted Old rs = omega (arith, file-length Old rs)
 file-counted New rs = omega (arith, file-length New rs)
 
 -- Its records are those that it was made of.
-pub file-records : (form : Form) (rs : List Record) → Shaped form rs → records (inForm form (bytesIn form rs)) ≡ rs
+pub file-records : (form : Form) (rs : List Record) → Shaped rs → HaveDays form rs → records (inForm form (bytesIn form rs)) ≡ rs
 unfolding records
-file-records form rs s =
+file-records form rs s d =
     ap (λ (n : ℕ). map (decodedIn form) (parts (recordLength form) n (bytesIn form rs))) (file-counted form rs)
-    ∙ ap (map (decodedIn form)) (file-parts form rs) ∙ all-decoded form rs s
+    ∙ ap (map (decodedIn form)) (file-parts form rs) ∙ all-decoded form rs s d
 
 pub file-bytes : (form : Form) (rs : List Record) → AllFit form rs → Bytes (bytesIn form rs)
 unfolding bytesIn

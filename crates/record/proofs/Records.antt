@@ -9,7 +9,7 @@ use native.Mathlib.Omega.{arith}
 use borrow.Author.Tests.{lt-ltb}
 use lib.ListN.{length, take, drop, length-append, length-drop, length-map}
 use lib.Seq.{drop-drop, take-append-le, drop-append-le}
-use Rattle.record.specs.Record.{Record, File, inForm, oldFile, recordLength, recordCount, recordPart, decodedIn, recordAt, parts, records}
+use Rattle.record.specs.Record.{Record, File, inForm, oldFile, recordLength, recordCount, recordPart, kindOf, countOf, fieldsOf, decodedIn, recordAt, parts, records}
 use Rattle.record.specs.declared.Form.{Form}
 use Rattle.record.specs.declared.Form.the-variants.{Old, New}
 
@@ -18,14 +18,14 @@ abbrev pub HasDays : Form → Option (ℕ × ℕ) → Type 0
 HasDays Old days = days ≡ none
 HasDays New days = (first : ℕ) × (last : ℕ) × (days ≡ some (first, last))
 
--- Every record of the list has exactly seven fields, and the days of the form.
-pub record ShapedRecord (form : Form) (r : Record) : Type 0 where
-  pub seven : length (r .fields) ≡ 7
-  pub days : HasDays form (r .days)
+-- Every record of the list has exactly seven fields; and each has the days of a form.
+abbrev pub Shaped : List Record → Type 0
+Shaped [] = Unit {0}
+Shaped (r ∷ rs) = (length (r .fields) ≡ 7) × Shaped rs
 
-abbrev pub Shaped : Form → List Record → Type 0
-Shaped form [] = Unit {0}
-Shaped form (r ∷ rs) = ShapedRecord form r × Shaped form rs
+abbrev pub HaveDays : Form → List Record → Type 0
+HaveDays form [] = Unit {0}
+HaveDays form (r ∷ rs) = HasDays form (r .days) × HaveDays form rs
 
 parts-length : (size n : ℕ) (bytes : List ℕ) → length (parts size n bytes) ≡ n
 parts-length size zero bytes = refl
@@ -36,17 +36,42 @@ unfolding records
 records-length file =
     length-map (parts (recordLength (file .form)) (recordCount file) (file .bytes)) (decodedIn (file .form)) ∙ parts-length (recordLength (file .form)) (recordCount file) (file .bytes)
 
-pub decoded-shaped : (form : Form) (part : List ℕ) → ShapedRecord form (decodedIn form part)
-decoded-shaped Old part = record { seven = refl; days = refl }
-decoded-shaped New part = record { seven = refl; days = (_, _, refl) }
+pub decoded-seven : (form : Form) (part : List ℕ) → length (decodedIn form part .fields) ≡ 7
+decoded-seven Old part = refl
+decoded-seven New part = refl
 
-all-shaped : (form : Form) (ps : List (List ℕ)) → Shaped form (map (decodedIn form) ps)
-all-shaped form [] = tt
-all-shaped form (p ∷ ps) = (decoded-shaped form p, all-shaped form ps)
+-- Byte 0, byte 1 and the fields are read alike in both forms.
+pub decoded-kind : (form : Form) (part : List ℕ) → decodedIn form part .kind ≡ kindOf part
+decoded-kind Old part = refl
+decoded-kind New part = refl
 
-pub records-shaped : (file : File) → Shaped (file .form) (records file)
+pub decoded-count : (form : Form) (part : List ℕ) → decodedIn form part .count ≡ countOf part
+decoded-count Old part = refl
+decoded-count New part = refl
+
+pub decoded-fields : (form : Form) (part : List ℕ) → decodedIn form part .fields ≡ fieldsOf part
+decoded-fields Old part = refl
+decoded-fields New part = refl
+
+decoded-days : (form : Form) (part : List ℕ) → HasDays form (decodedIn form part .days)
+decoded-days Old part = refl
+decoded-days New part = (_, _, refl)
+
+all-seven : (form : Form) (ps : List (List ℕ)) → Shaped (map (decodedIn form) ps)
+all-seven form [] = tt
+all-seven form (p ∷ ps) = (decoded-seven form p, all-seven form ps)
+
+all-days : (form : Form) (ps : List (List ℕ)) → HaveDays form (map (decodedIn form) ps)
+all-days form [] = tt
+all-days form (p ∷ ps) = (decoded-days form p, all-days form ps)
+
+pub records-shaped : (file : File) → Shaped (records file)
 unfolding records
-records-shaped file = all-shaped (file .form) (parts (recordLength (file .form)) (recordCount file) (file .bytes))
+records-shaped file = all-seven (file .form) (parts (recordLength (file .form)) (recordCount file) (file .bytes))
+
+pub records-days : (file : File) → HaveDays (file .form) (records file)
+unfolding records
+records-days file = all-days (file .form) (parts (recordLength (file .form)) (recordCount file) (file .bytes))
 
 -- The part after k starts one record further.
 next : (form : Form) (k : ℕ) (bytes : List ℕ) → drop (recordLength form * suc k) bytes ≡ drop (recordLength form * k) (drop (recordLength form) bytes)

@@ -43,10 +43,13 @@ withClause S k c = record { symbols = S .symbols; rows = S .rows; clauses = (k, 
 abbrev pub withWindow : State → Window → State
 withWindow S w = record { symbols = S .symbols; rows = S .rows; clauses = S .clauses; total = S .total; windows = w ∷ S .windows }
 
--- Document 02, Q-11: the window that the days beside an input clause give it, if there are any.
+-- Document 02, Q-11: the days beside an input clause, if there are any, are its window.
+abbrev pub windowsWith : ℕ → Option (ℕ × ℕ) → List Window → List Window
+windowsWith n none ws = ws
+windowsWith n (some days) ws = record { clause = n; first = days .0; last = days .1 } ∷ ws
+
 abbrev pub withDaysBeside : State → ℕ → Option (ℕ × ℕ) → State
-withDaysBeside S n none = S
-withDaysBeside S n (some days) = withWindow S (record { clause = n; first = days .0; last = days .1 })
+withDaysBeside S n days = record { symbols = S .symbols; rows = S .rows; clauses = S .clauses; total = S .total; windows = windowsWith n days (S .windows) }
 
 -- The element numbered n of a list that has the newest first.
 abbrev pub entry {ℓ} : {A : Type ℓ} → List A → ℕ → Option A
