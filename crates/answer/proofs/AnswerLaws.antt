@@ -9,7 +9,7 @@ use native.Mathlib.Omega.{arith}
 use lib.Dec.{eqb, ltb, ltb→lt}
 use lib.ListN.{getD}
 use borrow.Author.Tests.{eq-eqb, ne-eqb}
-use Rattle.record.specs.Record.{pick}
+use Rattle.record.specs.Record.{pick, File}
 use Rattle.unification.proofs.Tests.{to-T}
 use Rattle.derivation.specs.Stored.{literalsCell}
 use Rattle.answer.specs.Given.{verdictCoded, answerGiven, numbersWith, untouchedNumbers, accepts, firstAccepted, standingNumbers, allSet, endedNumbers}
@@ -60,10 +60,10 @@ none-found C L c count q l m =
 abbrev made : Verdict → Counts → Answer
 made v n = record { verdict = v; symbols = n .symbols; rows = n .rows; clauses = n .clauses; bindings = n .bindings }
 
-pub all-numbers : (day : ℕ) (F : List ℕ) (e : Ended) (n : Counts) (C O : List ℕ) (v : Verdict) (a : Answer) → e ≡ All n → verdictCoded v ≡ standingNumbers C (flagsInForce day F O (n .clauses) allSet) (n .clauses) → a ≡ made v n → answerGiven a ≡ endedNumbers day F e C O
+pub all-numbers : (day : ℕ) (F : File) (e : Ended) (n : Counts) (C O : List ℕ) (v : Verdict) (a : Answer) → e ≡ All n → verdictCoded v ≡ standingNumbers C (flagsInForce day F O (n .clauses) allSet) (n .clauses) → a ≡ made v n → answerGiven a ≡ endedNumbers day F e C O
 all-numbers day F e n C O v a p q r = ap answerGiven r ∙ ap (λ (x : List ℕ). numbersWith x n) q ∙ sym (ap (λ (x : Ended). endedNumbers day F x C O) p)
 
-pub refused-numbers : (day : ℕ) (F : List ℕ) (e : Ended) (q k : ℕ) (n : Counts) (C O : List ℕ) (a : Answer) → e ≡ Refused q k n → a ≡ made (verdict.Refused q k) n → answerGiven a ≡ endedNumbers day F e C O
+pub refused-numbers : (day : ℕ) (F : File) (e : Ended) (q k : ℕ) (n : Counts) (C O : List ℕ) (a : Answer) → e ≡ Refused q k n → a ≡ made (verdict.Refused q k) n → answerGiven a ≡ endedNumbers day F e C O
 refused-numbers day F e q k n C O a p r = ap answerGiven r ∙ sym (ap (λ (x : Ended). endedNumbers day F x C O) p)
 
 pub untouched-numbers : (q : ℕ) (a : Answer) → a ≡ made (verdict.Refused q 0) (record { symbols = 0; rows = 0; clauses = 0; bindings = 0 }) → answerGiven a ≡ untouchedNumbers q

@@ -6,6 +6,7 @@ use mathlib.Core.List.{List, [], _∷_, _++_}
 use Prim.Native.Nat.{ℕ}
 use native.Mathlib.Omega.{arith}
 use lib.ListN.{length, getD, drop}
+use Rattle.record.specs.Record.{File}
 use Rattle.unification.proofs.Tests.{true-not-false}
 use Rattle.verdict.specs.Refusal.{Reason, reasonNumber}
 use Rattle.verdict.specs.State.{State}
@@ -43,7 +44,7 @@ three-numbers (accepted n) xs = refl
 three-numbers open′ xs = refl
 three-numbers (refusal reason k) xs = refl
 
-module _ (day : ℕ) (F : List ℕ) (lengths : Lengths) (a : Answer) (isAnswer : answerGiven a ≡ answerNumbers (check day F lengths)) where
+module _ (day : ℕ) (F : File) (lengths : Lengths) (a : Answer) (isAnswer : answerGiven a ≡ answerNumbers (check day F lengths)) where
   pub verdict-given : verdictCoded (a .verdict) ≡ verdictNumbers (check day F lengths .verdict)
   verdict-given =
       sym (three-given (a .verdict) (a .symbols ∷ a .rows ∷ a .clauses ∷ a .bindings ∷ []))

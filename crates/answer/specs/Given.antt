@@ -54,6 +54,6 @@ unfoldable pub allSet : List ℕ
 allSet = replicate 4096 1
 
 -- How the reading of the file F ended, in numbers, on a day.
-abbrev pub endedNumbers : ℕ → List ℕ → Ended → List ℕ → List ℕ → List ℕ
+abbrev pub endedNumbers : ℕ → File → Ended → List ℕ → List ℕ → List ℕ
 endedNumbers day F (All n) C O = numbersWith (standingNumbers C (flagsInForce day F O (n .clauses) allSet) (n .clauses)) n
 endedNumbers day F (Refused q k n) C O = numbersWith (2 ∷ q ∷ k ∷ []) n

@@ -13,7 +13,7 @@ use Rattle.derivation.specs.Stored.{originTableOf}
 use Rattle.entry.specs.Progress.{nodeTableOf}
 use Rattle.inference.proofs.KeptClauses.{nodes-room, origins-room}
 use Rattle.verdict.specs.Tables.{Tables, lengthsOf, tablesAfter}
-use Rattle.verdict.specs.Verdict.{check, answerNumbers, longEnough, fittingLength, Reading, untouched, readTo, reading}
+use Rattle.verdict.specs.Verdict.{check, answerNumbers, longEnough, fitting, Reading, untouched, readTo, reading}
 use Rattle.verdict.specs.Verdict as verdicts
 use Rattle.demands.proofs.OutlinesShown.{outlines-shown}
 use Rattle.demands.proofs.RepeatsShown.{repeats-shown}
@@ -23,10 +23,11 @@ use Rattle.demands.proofs.DaysShown.{days-only-choose}
 use Rattle.demands.proofs.LiftingShown.{nothing-lost}
 use Rattle.demands.proofs.Demanded.{check-length, check-tables, check-reads, tables-length, tables-short, tables-read, demand1, demand2, demand3}
 use borrow.Author.Tests.{not-false, not-true}
+use Rattle.record.specs.Record.{File}
 use Rattle.answer.specs.declared.Answer.{Answer}
 use Rattle.answer.specs.declared.Verdict.the-variants as verdict
 
-module _ (day : ℕ) (F : List ℕ) (t : Tables) (a : Answer) (here : Tables) (isAnswer : answerGiven a ≡ answerNumbers (check day F (lengthsOf t))) (isTables : here ≡ tablesAfter F t) where
+module _ (day : ℕ) (F : File) (t : Tables) (a : Answer) (here : Tables) (isAnswer : answerGiven a ≡ answerNumbers (check day F (lengthsOf t))) (isTables : here ≡ tablesAfter F t) where
   pub checked : Checked day F t a here
   checked = record {
     answer = isAnswer;
@@ -45,18 +46,18 @@ module _ (day : ℕ) (F : List ℕ) (t : Tables) (a : Answer) (here : Tables) (i
     days = days-only-choose F (lengthsOf t);
   }
 
-pub readable : (F : List ℕ) (t : Tables) (b : Bool) → b ≡ fittingLength (length F) → not b ≡ false → (d : Bool) → d ≡ longEnough (lengthsOf t) → not d ≡ false → Readable F t
+pub readable : (F : File) (t : Tables) (b : Bool) → b ≡ fitting F → not b ≡ false → (d : Bool) → d ≡ longEnough (lengthsOf t) → not d ≡ false → Readable F t
 readable F t b p f d q l = record { fit = sym p ∙ not-false b f; long = sym q ∙ not-false d l }
 
 -- The three ways, by the tests of the program.
-module _ (day : ℕ) (F : List ℕ) (t : Tables) (a : Answer) (b : Bool) (isFitting : b ≡ fittingLength (length F)) where
+module _ (day : ℕ) (F : File) (t : Tables) (a : Answer) (b : Bool) (isFitting : b ≡ fitting F) where
   pub checked-length : not b ≡ true → answerGiven a ≡ untouchedNumbers 1 → Checked day F t a t
   checked-length q p =
-      let f : fittingLength (length F) ≡ false = sym isFitting ∙ not-true b q in
+      let f : fitting F ≡ false = sym isFitting ∙ not-true b q in
       checked day F t a t (p ∙ sym (ap answerNumbers (check-length day F t f))) (sym (tables-length F t f))
 
   module _ (fit : not b ≡ false) (d : Bool) (isLong : d ≡ longEnough (lengthsOf t)) where
-    fits : fittingLength (length F) ≡ true
+    fits : fitting F ≡ true
     fits = sym isFitting ∙ not-false b fit
 
     pub checked-tables : not d ≡ true → answerGiven a ≡ untouchedNumbers 2 → Checked day F t a t
@@ -75,15 +76,15 @@ isRead (untouched reason) = false
 isRead (readTo e) = true
 
 -- The same with a lent workspace, in each of the three ways.
-module _ (day : ℕ) (F : List ℕ) (t : Tables) (w : Workspace) (a : Answer) (b : Bool) (isFitting : b ≡ fittingLength (length F))
+module _ (day : ℕ) (F : File) (t : Tables) (w : Workspace) (a : Answer) (b : Bool) (isFitting : b ≡ fitting F)
     (nodes : length (w .nodes) ≡ 32768) (origins : length (w .origins) ≡ 32768) (values : length (w .values) ≡ 524416) where
   pub checked-length-with : not b ≡ true → answerGiven a ≡ untouchedNumbers 1 → CheckedWith day F t w a t w
   checked-length-with q p =
-      let f : fittingLength (length F) ≡ false = sym isFitting ∙ not-true b q in
+      let f : fitting F ≡ false = sym isFitting ∙ not-true b q in
       record { checked = checked-length day F t a b isFitting q p; nodes = rw f refl; origins = rw f refl; nodeRoom = nodes; originRoom = origins; values = values; valuesLeft = λ reason m. refl; read = λ g l. absurd (true-not-false g f) }
 
   module _ (fit : not b ≡ false) (d : Bool) (isLong : d ≡ longEnough (lengthsOf t)) where
-    isFit : fittingLength (length F) ≡ true
+    isFit : fitting F ≡ true
     isFit = sym isFitting ∙ not-false b fit
 
     pub checked-tables-with : not d ≡ true → answerGiven a ≡ untouchedNumbers 2 → CheckedWith day F t w a t w

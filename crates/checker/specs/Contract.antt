@@ -4,6 +4,7 @@ use mathlib.Core.Bool.{true}
 use mathlib.Core.List.{List}
 use Prim.Native.Nat.{ℕ}
 use lib.ListN.{length}
+use Rattle.record.specs.Record.{File}
 use Rattle.unification.specs.Row.{Variable}
 use Rattle.derivation.specs.Stored.{originTableOf}
 use Rattle.demands.specs.Days.{DaysOnlyChoose}
@@ -19,10 +20,10 @@ use Rattle.entry.specs.Progress.{nodeTableOf, ReadTo}
 use Rattle.verdict.specs.State.{rowsOf, derivations}
 use Rattle.verdict.specs.Step.{stateOf}
 use Rattle.verdict.specs.Tables.{Tables, lengthsOf, tablesAfter}
-use Rattle.verdict.specs.Verdict.{check, answerNumbers, longEnough, fittingLength, ending, Reading, untouched, readTo, reading}
+use Rattle.verdict.specs.Verdict.{check, answerNumbers, longEnough, fitting, ending, Reading, untouched, readTo, reading}
 use Rattle.answer.specs.declared.Answer.{Answer}
 
-pub record Checked (day : ℕ) (file : List ℕ) (before : Tables) (a : Answer) (after : Tables) : Type 0 where
+pub record Checked (day : ℕ) (file : File) (before : Tables) (a : Answer) (after : Tables) : Type 0 where
   -- The seven numbers of the answer, and each table at exit, cell by cell.
   pub answer : answerGiven a ≡ answerNumbers (check day file (lengthsOf before))
   pub symbols : after .symbols ≡ tablesAfter file before .symbols
@@ -66,7 +67,7 @@ originsGiven (readTo e) O = originTableOf (derivations (stateOf e))
 
 -- The same promise with a workspace that the caller lends. Where records were read, the node table and the table of origins then have the
 -- rows and the clauses of the state left, and what the array holds is left to the program; for reasons 1 and 2 all three are untouched.
-pub record CheckedWith (day : ℕ) (file : List ℕ) (before : Tables) (lent : Workspace) (a : Answer) (after : Tables) (left : Workspace) : Type 0 where
+pub record CheckedWith (day : ℕ) (file : File) (before : Tables) (lent : Workspace) (a : Answer) (after : Tables) (left : Workspace) : Type 0 where
   pub checked : Checked day file before a after
   pub nodes : left .nodes ≡ nodesGiven (reading file (lengthsOf before)) (lent .nodes)
   pub origins : left .origins ≡ originsGiven (reading file (lengthsOf before)) (lent .origins)
@@ -75,4 +76,4 @@ pub record CheckedWith (day : ℕ) (file : List ℕ) (before : Tables) (lent : W
   pub values : length (left .values) ≡ 524416
   pub valuesLeft : (reason : Reason) → reading file (lengthsOf before) ≡ untouched reason → left .values ≡ lent .values
   -- Where records were read, what the program keeps of them: the readout goes on from there.
-  pub read : fittingLength (length file) ≡ true → longEnough (lengthsOf before) ≡ true → ReadTo file before (stateOf (ending file)) after (left .nodes) (left .origins) (left .values)
+  pub read : fitting file ≡ true → longEnough (lengthsOf before) ≡ true → ReadTo file before (stateOf (ending file)) after (left .nodes) (left .origins) (left .values)

@@ -94,7 +94,7 @@ whole-records Old bytes fit = eqb→eq (length bytes % 16) 0 (to-T (eqb (length 
 whole-records New bytes fit = eqb→eq (length bytes % 20) 0 (to-T (eqb (length bytes % 20) 0) (both-true (leb (length bytes) 65520) (eqb (length bytes % 20) 0) fit .1))
 
 -- A file of fitting length has at most 4,096 records.
-few-in : (form : Form) (bytes : List ℕ) → fittingLength form (length bytes) ≡ true → recordCount (inForm form bytes) ≤ 4096
+pub few-in : (form : Form) (bytes : List ℕ) → fittingLength form (length bytes) ≡ true → recordCount (inForm form bytes) ≤ 4096
 few-in Old bytes fit =
     let p = both-true (leb (length bytes) 65536) (eqb (length bytes % 16) 0) fit in
     let l : length bytes ≤ 65536 = leb→le (length bytes) 65536 (to-T (leb (length bytes) 65536) (p .0)) in

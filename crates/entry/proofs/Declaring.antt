@@ -11,7 +11,8 @@ use lib.Dec.{eqb, leb, ltb, eqb→eq, leb→le, ltb→lt}
 use lib.ListN.{length, getD, take, drop, set, length-take, length-map, List·getD-append, length-reverse}
 use lib.Seq.{length-take-le, getD-at}
 use borrow.Author.Tests.{eq-eqb}
-use Rattle.record.specs.Record.{pick, Record, recordCount, recordPart, countOf, fieldOf, fieldsOf, decoded, symbolKind, variableKind, applicationKind, inputKind, fieldA}
+use Rattle.record.specs.Record.{pick, File, Record, recordCount, recordPart, kindOf, countOf, fieldOf, fieldsOf, decoded, recordAt, symbolKind, variableKind, applicationKind, inputKind, fieldA}
+use Rattle.record.proofs.Records.{decoded-parts}
 use Rattle.unification.specs.Repeated.{earliestEqual, orSame}
 use Rattle.unification.specs.Row.{variable, Row}
 use Rattle.unification.proofs.Lists.{Each}
@@ -23,9 +24,9 @@ use Rattle.distinct.specs.Rows.{withNode, rowWithCells}
 use Rattle.entry.specs.Program.{repeatCells, takenArguments, takenLiterals, rowFound, noVariable, moreSymbols, moreRows, moreClauses, SymbolLeft, symbolLeft, symbolEntered, RowLeft, rowLeft, rowEntered, variableEntered, applicationThere, applicationEntered, InputLeft, inputLeft, inputEntered}
 use Rattle.tables.specs.Cells.{withClauseCells}
 use Rattle.fields.specs.Fields.{arityIn}
-use Rattle.entry.specs.Progress.{cellsOfRow, cellsAfter, countsOf, Kept, Next}
-use Rattle.verdict.specs.Refusal.{outOfRange, notThere, variableLiteral, reasonNumber, kindOfRecord, zeros, inRange, argumentRows, hasArity, allBelow, argumentsThere, allApplications}
-use Rattle.verdict.specs.State.{arities, State, withSymbol, withRow, withClause, entry, rowsOf, derivations, arityOf, rowOf, earliestOf, recordOfRow, nextClause}
+use Rattle.entry.specs.Progress.{cellsOfRow, cellsAfter, countsOf, Kept, Plain, Next}
+use Rattle.verdict.specs.Refusal.{outOfRange, notThere, crossedDays, variableLiteral, reasonNumber, kindOfRecord, inOrder, zeros, inRange, argumentRows, hasArity, allBelow, argumentsThere, allApplications}
+use Rattle.verdict.specs.State.{arities, State, withSymbol, withRow, withClause, withDaysBeside, entry, rowsOf, derivations, arityOf, rowOf, earliestOf, recordOfRow, nextClause}
 use Rattle.verdict.specs.Step.{stands, Result, require, newApplication, newLiterals, step}
 use Rattle.verdict.specs.Tables.{Tables, symbolCells, rowCells, clauseCells, bindingCells, filled, filledTables, bindingsOf}
 use Rattle.demands.proofs.Acceptance.{cells-length}
@@ -34,6 +35,7 @@ use Rattle.entry.proofs.Entering.{row-found, variable-tests, row-writte
 use Rattle.entry.proofs.Filling.{filled-set, filled-five, filled-low}
 use Rattle.demands.proofs.Inversions.{all-below, rows-below, not-equal, entry-below, entry-more, entry-none, entry-some, not-below}
 use Rattle.entry.proofs.Kept.{stand, Sizes, sizes, few-records, same-rows, few-symbols, few-rows, few-clauses, rows-fit, kept-next}
+use Rattle.demands.proofs.RangeTests.{kind-at}
 use Rattle.demands.proofs.Resolution.{at-kind}
 use Rattle.entry.specs.declared.entry.Counts.{Counts}
 use Rattle.entry.specs.declared.entry.Entered.{Entered}
@@ -87,7 +89,7 @@ symbol-cell (x ∷ xs) P h s l = try (eqb s (length xs)) refl (λ m. symbol-cell
         let r = ih m in
         (r .0, entry-more (x .1) (map (λ (y : ℕ × ℕ). y .1) xs) s (r .0 .1) (r .1), ap (λ (l : List ℕ). getD l s 0) more ∙ List·getD-append front (x .0 ∷ []) 0 s (omega (arith, size)) ∙ r .2, r .3)
 
-module _ (F : List ℕ) (t : Tables) (k : ℕ) (S : State) (n : Counts) (here : Tables) (N O A : List ℕ) (K : Kept F t k S n here N O A) (l : k < recordCount F) where
+module _ (F : File) (t : Tables) (k : ℕ) (S : State) (n : Counts) (here : Tables) (N O A : List ℕ) (K : Kept F t k S n here N O A) (l : k < recordCount F) where
   abbrev rec : Record
   rec = decoded (recordPart F k)
 
@@ -131,13 +133,13 @@ module _ (F : List ℕ) (t : Tables) (k : ℕ) (S : State) (n : Counts) (here : 
   abbrev withSymbols : List ℕ → Tables
   withSymbols x = record { symbols = x; rows = here .rows; clauses = here .clauses; bindings = here .bindings }
 
-  pub symbol-read : kindOfRecord rec ≡ symbolKind → (e : Entered) (symbols′ : List ℕ) → symbolLeft e symbols′ ≡ symbolEntered (recordPart F k) k n (here .symbols)
+  pub symbol-read : Plain F k → kindOfRecord rec ≡ symbolKind → (e : Entered) (symbols′ : List ℕ) → symbolLeft e symbols′ ≡ symbolEntered (recordPart F k) k n (here .symbols)
       → Next F t k S (record { symbols = symbols′; rows = here .rows; clauses = here .clauses; bindings = here .bindings }) N O A e
   unfolding symbolEntered require
-  symbol-read kd e symbols′ E = subst (λ (x : SymbolLeft). Next F t k S (withSymbols (x .symbols)) N O A (x .answer)) (sym E) (try (inRange symbolKind rec) refl)
+  symbol-read plain kd e symbols′ E = subst (λ (x : SymbolLeft). Next F t k S (withSymbols (x .symbols)) N O A (x .answer)) (sym E) (try (inRange symbolKind rec) refl)
     where
-      at : step S k rec ≡ require (inRange symbolKind rec) outOfRange (stands (withSymbol S k (rec .count)))
-      at = at-kind S k rec symbolKind kd
+      at : step S k (recordAt F k) ≡ require (inRange symbolKind rec) outOfRange (stands (withSymbol S k (rec .count)))
+      at = plain S ∙ at-kind S k rec symbolKind kd
 
       made : here ≡ filledTables S t → withSymbols (set (here .symbols) (n .symbols) k) ≡ filledTables (withSymbol S k (rec .count)) t
       made h = λ i. record { symbols = symbol-table (rec .count) i; rows = rows-here i; clauses = clauses-here i; bindings = bindings-here i }
@@ -184,14 +186,14 @@ module _ (F : List ℕ) (t : Tables) (k : ℕ) (S : State) (n : Counts) (here : 
   few = omega (arith, many)
 
   -- A row that is entered, with its cells or as a repeat.
-  row-entered : (w : Row) (code : ℕ) (ns : List ℕ) → code ∷ ns ≡ cellsOfRow w → step S k rec ≡ stands (withRow S (recordOfRow S k w) w) → RowNext (rowEntered ns k code n (here .rows) N)
+  row-entered : (w : Row) (code : ℕ) (ns : List ℕ) → code ∷ ns ≡ cellsOfRow w → step S k (recordAt F k) ≡ stands (withRow S (recordOfRow S k w) w) → RowNext (rowEntered ns k code n (here .rows) N)
   unfolding rowEntered
   row-entered w code ns c at = subst (λ (o : Option ℕ). RowNext (rowFound o ns k code n (here .rows) N)) (sym found) (try (earliestEqual w (rowsOf S)) refl)
     where
       found : rowWithCells N (n .rows) (code ∷ ns) ≡ earliestEqual w (rowsOf S)
       found = ap (λ (i : ℕ). rowWithCells N i (code ∷ ns)) rows-count ∙ row-found (rowsOf S) fitting few N (K .nodes) w (code ∷ ns) c
 
-      next : (j : ℕ) → step S k rec ≡ stands (withRow S j w) → (cells : List ℕ) → cells ≡ cellsAfter (rowsOf S) w → RowNext (rowLeft (Stands (moreRows n)) (set (here .rows) (n .rows) j) (withNode N (n .rows) cells))
+      next : (j : ℕ) → step S k (recordAt F k) ≡ stands (withRow S j w) → (cells : List ℕ) → cells ≡ cellsAfter (rowsOf S) w → RowNext (rowLeft (Stands (moreRows n)) (set (here .rows) (n .rows) j) (withNode N (n .rows) cells))
       next j s cells e = (
         withRow S j w,
         s,
@@ -214,13 +216,13 @@ module _ (F : List ℕ) (t : Tables) (k : ℕ) (S : State) (n : Counts) (here : 
           next (getD (here .rows) p 0) (at ∙ ap (λ (o : Option ℕ). stands (withRow S (elim o [ none ↦ k | some q ↦ orSame k (entry (map (λ (u : ℕ × Row). u .0) (S .rows)) q) ]) w)) q ∙ ap (λ (j : ℕ). stands (withRow S j w)) (ap (orSame k) (e .1) ∙ sym r)) (repeatCells p)
           (sym (ap (λ (o : Option ℕ). elim o [ none ↦ cellsOfRow w | some q ↦ repeatCells q ]) q))
 
-  pub variable-read : kindOfRecord rec ≡ variableKind → (e : Entered) (rows′ N′ : List ℕ) → rowLeft e rows′ N′ ≡ variableEntered (recordPart F k) k n (here .rows) N
+  pub variable-read : Plain F k → kindOfRecord rec ≡ variableKind → (e : Entered) (rows′ N′ : List ℕ) → rowLeft e rows′ N′ ≡ variableEntered (recordPart F k) k n (here .rows) N
       → Next F t k S (record { symbols = here .symbols; rows = rows′; clauses = here .clauses; bindings = here .bindings }) N′ O A e
   unfolding variableEntered require
-  variable-read kd e rows′ N′ E = subst RowNext (sym E) (try (inRange variableKind rec) refl)
+  variable-read plain kd e rows′ N′ E = subst RowNext (sym E) (try (inRange variableKind rec) refl)
     where
-      at : step S k rec ≡ require (inRange variableKind rec) outOfRange (stands (withRow S (recordOfRow S k (variable (fieldA rec))) (variable (fieldA rec))))
-      at = at-kind S k rec variableKind kd
+      at : step S k (recordAt F k) ≡ require (inRange variableKind rec) outOfRange (stands (withRow S (recordOfRow S k (variable (fieldA rec))) (variable (fieldA rec))))
+      at = plain S ∙ at-kind S k rec variableKind kd
 
       try : (b : Bool) → inRange variableKind rec ≡ b → RowNext (pick b (rowEntered (fieldsOf part) k 1 n (here .rows) N) (rowLeft (Refused (reasonNumber outOfRange)) (here .rows) N))
       try true q = row-entered (variable (fieldA rec)) 1 (fieldsOf part) (variable-cells part q) (at ∙ ap (λ (b : Bool). require b outOfRange (stands (withRow S (recordOfRow S k (variable (fieldA rec))) (variable (fieldA rec))))) q)
@@ -243,16 +245,16 @@ module _ (F : List ℕ) (t : Tables) (k : ℕ) (S : State) (n : Counts) (here : 
           let c : length (arities S) ≡ length (S .symbols) = length-map (S .symbols) (λ (x : ℕ × ℕ). x .1) in
           sym (entry-none (arities S) s (omega arith))
 
-  pub application-read : kindOfRecord rec ≡ applicationKind → (e : Entered) (rows′ N′ : List ℕ) → rowLeft e rows′ N′ ≡ applicationEntered F (recordPart F k) k n (here .symbols) (here .rows) N
+  pub application-read : Plain F k → kindOfRecord rec ≡ applicationKind → (e : Entered) (rows′ N′ : List ℕ) → rowLeft e rows′ N′ ≡ applicationEntered F (recordPart F k) k n (here .symbols) (here .rows) N
       → Next F t k S (record { symbols = here .symbols; rows = rows′; clauses = here .clauses; bindings = here .bindings }) N′ O A e
   unfolding applicationEntered applicationThere require
-  application-read kd e rows′ N′ E = subst RowNext (sym E) (try (inRange applicationKind rec) refl)
+  application-read plain kd e rows′ N′ E = subst RowNext (sym E) (try (inRange applicationKind rec) refl)
     where
       last : Result
       last = stands (withRow S (recordOfRow S k (newApplication S rec)) (newApplication S rec))
 
-      at : step S k rec ≡ require (inRange applicationKind rec) outOfRange (require (argumentsThere S rec) notThere (stands (withRow S (recordOfRow S k (newApplication S rec)) (newApplication S rec))))
-      at = at-kind S k rec applicationKind kd
+      at : step S k (recordAt F k) ≡ require (inRange applicationKind rec) outOfRange (require (argumentsThere S rec) notThere (stands (withRow S (recordOfRow S k (newApplication S rec)) (newApplication S rec))))
+      at = plain S ∙ at-kind S k rec applicationKind kd
 
       there : applicationThere F part n (here .symbols) ≡ argumentsThere S rec
       there = ap₂ (λ (o : Option ℕ) (m : ℕ). hasArity (countOf part) o && allBelow m (argumentRows rec)) (arity-read (fieldOf part 0)) rows-count
@@ -289,15 +291,40 @@ module _ (F : List ℕ) (t : Tables) (k : ℕ) (S : State) (n : Counts) (here : 
   abbrev InputNext : InputLeft → Type 0
   InputNext x = Next F t k S (withClauses (x .clauses)) N (x .origins) A (x .answer)
 
-  pub input-read : kindOfRecord rec ≡ inputKind → (e : Entered) (clauses′ O′ : List ℕ) → inputLeft e clauses′ O′ ≡ inputEntered (recordPart F k) k n (here .clauses) N O
+  -- The state with the clause that the record makes, and its step.
+  abbrev days : Option (ℕ × ℕ)
+  days = recordAt F k .days
+
+  abbrev made : Derivation
+  made = input (nextClause S) (newLiterals S rec)
+
+  abbrev withMade : State
+  withMade = withDaysBeside (withClause S k made) (nextClause S) days
+
+  abbrev rowsThere : Bool
+  rowsThere = allBelow (length (rowsOf S)) (map (λ (x : RowLiteral). x .1) (inputLiterals rec))
+
+  abbrev inputTests : Bool → Bool → Bool → Bool → Result
+  inputTests ranged there ordered applied = require ranged outOfRange (require there notThere (require ordered crossedDays (require applied variableLiteral (stands withMade))))
+
+  input-step : kindOf (recordPart F k) ≡ 4 → step S k (recordAt F k) ≡ inputTests (inRange inputKind rec) rowsThere (inOrder days) (allApplications (rowOf S) (inputLiterals rec))
+  input-step four =
+      ap (step S k) (decoded-parts (F .form) part)
+      ∙ at-kind S k (record { kind = kindOf part; count = countOf part; fields = fieldsOf part; days = days }) inputKind (kind-at (record { kind = kindOf part; count = countOf part; fields = fieldsOf part; days = days }) 4 four refl)
+
+  -- The cells of the clause, and what is left of a record that stands.
+  abbrev inputStands : InputLeft
+  inputStands = inputLeft (Stands (moreClauses n)) (withClauseCells (here .clauses) (n .clauses) k (countOf part) 1 (n .bindings) 0) (withNode O (n .clauses) (1 ∷ takenLiterals N (fieldsOf part)))
+
+  abbrev inputRefused : ℕ → InputLeft
+  inputRefused q = inputLeft (Refused q) (here .clauses) O
+
+  pub input-read : kindOf (recordPart F k) ≡ 4 → (e : Entered) (clauses′ O′ : List ℕ) → inputLeft e clauses′ O′ ≡ inputEntered (F .form) (recordPart F k) k n (here .clauses) N O
       → Next F t k S (record { symbols = here .symbols; rows = here .rows; clauses = clauses′; bindings = here .bindings }) N O′ A e
   unfolding inputEntered require
-  input-read kd e clauses′ O′ E = subst InputNext (sym E) (try (inRange inputKind rec) refl)
+  input-read four e clauses′ O′ E = subst InputNext (sym E) (try (inRange inputKind rec) refl)
     where
-      at : step S k rec ≡ require (inRange inputKind rec) outOfRange (require (allBelow (length (rowsOf S)) (map (λ (x : RowLiteral). x .1) (inputLiterals rec))) notThere (require (allApplications (rowOf S) (inputLiterals rec)) variableLiteral (stands (withClause S k (input (nextClause S) (newLiterals S rec))))))
-      at = at-kind S k rec inputKind kd
-
-      rows : allBelow (n .rows) (map (λ (x : RowLiteral). x .1) (inputLiterals rec)) ≡ allBelow (length (rowsOf S)) (map (λ (x : RowLiteral). x .1) (inputLiterals rec))
+      rows : allBelow (n .rows) (map (λ (x : RowLiteral). x .1) (inputLiterals rec)) ≡ rowsThere
       rows = ap (λ (m : ℕ). allBelow m (map (λ (x : RowLiteral). x .1) (inputLiterals rec))) rows-count
 
       small : inRange inputKind rec ≡ true → countOf part ≡ length (placed 1 (newLiterals S rec))
@@ -306,33 +333,40 @@ module _ (F : List ℕ) (t : Tables) (k : ℕ) (S : State) (n : Counts) (here : 
           let m : rec .count ≤ 7 = leb→le (rec .count) 7 (to-T (leb (rec .count) 7) (d .0)) in
           sym (length-map (newLiterals S rec) (λ (x : RowLiteral). (x .0, (x .1, 1))) ∙ length-map (inputLiterals rec) (λ (x : RowLiteral). (x .0, earliestOf S (x .1))) ∙ length-map (take (rec .count) (rec .fields)) literalOf ∙ length-take-le (rec .count) (rec .fields) m)
 
-      counts : moreClauses n ≡ countsOf (withClause S k (input (nextClause S) (newLiterals S rec)))
+      counts : moreClauses n ≡ countsOf withMade
       counts = ap moreClauses (K .counts) ∙ (λ i. record { symbols = length (S .symbols); rows = length (S .rows); clauses = add-one (length (S .clauses)) i; bindings = sym (add-zero (S .total)) i })
 
-      made : inRange inputKind rec ≡ true → withClauses (withClauseCells (here .clauses) (n .clauses) k (countOf part) 1 (n .bindings) 0) ≡ filledTables (withClause S k (input (nextClause S) (newLiterals S rec))) t
-      made q = λ i. record { symbols = symbols-here i; rows = rows-here i; clauses = clause-table (input (nextClause S) (newLiterals S rec)) (countOf part) 1 (n .bindings) 0 (small q) refl (ap (λ (x : Counts). x .bindings) (K .counts) ∙ stand F t k S n here N O A K l .ok .totalOk) refl i; bindings = (bindings-here ∙ ap (λ (x : List ℕ). filled 32768 x (t .bindings)) (sym (append-nil (bindingCells (derivations S))))) i }
+      tables : inRange inputKind rec ≡ true → withClauses (inputStands .clauses) ≡ filledTables withMade t
+      tables q = λ i. record { symbols = symbols-here i; rows = rows-here i; clauses = clause-table made (countOf part) 1 (n .bindings) 0 (small q) refl (ap (λ (x : Counts). x .bindings) (K .counts) ∙ stand F t k S n here N O A K l .ok .totalOk) refl i; bindings = (bindings-here ∙ ap (λ (x : List ℕ). filled 32768 x (t .bindings)) (sym (append-nil (bindingCells (derivations S))))) i }
 
-      origin : inRange inputKind rec ≡ true → Each (λ (x : RowLiteral). x .1 < length (rowsOf S)) (inputLiterals rec) → withNode O (n .clauses) (1 ∷ takenLiterals N (fieldsOf part)) ≡ originTableOf (derivations (withClause S k (input (nextClause S) (newLiterals S rec))))
-      origin q h = clause-origin (input (nextClause S) (newLiterals S rec)) (1 ∷ takenLiterals N (fieldsOf part)) (input-cells (rowsOf S) fitting few N (K .nodes) part (nextClause S) q h)
+      below-all : allBelow (n .rows) (map (λ (x : RowLiteral). x .1) (inputLiterals rec)) ≡ true → Each (λ (x : RowLiteral). x .1 < length (rowsOf S)) (inputLiterals rec)
+      below-all p = rows-below (length (rowsOf S)) (inputLiterals rec) (sym rows ∙ p)
 
-      third : inRange inputKind rec ≡ true → allBelow (n .rows) (map (λ (x : RowLiteral). x .1) (inputLiterals rec)) ≡ true → (b : Bool) → noVariable N (inputLiterals rec) ≡ b
-          → InputNext (pick b (inputLeft (Stands (moreClauses n)) (withClauseCells (here .clauses) (n .clauses) k (countOf part) 1 (n .bindings) 0) (withNode O (n .clauses) (1 ∷ takenLiterals N (fieldsOf part)))) (inputLeft (Refused (reasonNumber variableLiteral)) (here .clauses) O))
-      third q p b v = by b v (sym (variable-tests (rowsOf S) (rows-fit F t k S n here N O A K l) (omega (arith, many)) N (K .nodes) (inputLiterals rec) (rows-below (length (rowsOf S)) (inputLiterals rec) (sym rows ∙ p))) ∙ v)
+      origin : inRange inputKind rec ≡ true → Each (λ (x : RowLiteral). x .1 < length (rowsOf S)) (inputLiterals rec) → inputStands .origins ≡ originTableOf (derivations withMade)
+      origin q h = clause-origin made (1 ∷ takenLiterals N (fieldsOf part)) (input-cells (rowsOf S) fitting few N (K .nodes) part (nextClause S) q h)
+
+      fourth : inRange inputKind rec ≡ true → allBelow (n .rows) (map (λ (x : RowLiteral). x .1) (inputLiterals rec)) ≡ true → inOrder days ≡ true → (b : Bool) → noVariable N (inputLiterals rec) ≡ b
+          → InputNext (pick b inputStands (inputRefused (reasonNumber variableLiteral)))
+      fourth q p d b v = by b (sym (variable-tests (rowsOf S) (rows-fit F t k S n here N O A K l) (omega (arith, many)) N (K .nodes) (inputLiterals rec) (below-all p)) ∙ v)
         where
-          path : (b : Bool) → allApplications (rowOf S) (inputLiterals rec) ≡ b → step S k rec ≡ require b variableLiteral (stands (withClause S k (input (nextClause S) (newLiterals S rec))))
-          path b z = at ∙ (λ i. require (q i) outOfRange (require ((sym rows ∙ p) i) notThere (require (z i) variableLiteral (stands (withClause S k (input (nextClause S) (newLiterals S rec)))))))
+          path : (b : Bool) → allApplications (rowOf S) (inputLiterals rec) ≡ b → step S k (recordAt F k) ≡ require b variableLiteral (stands withMade)
+          path b z = input-step four ∙ (λ i. inputTests (q i) ((sym rows ∙ p) i) (d i) (z i))
 
-          by : (b : Bool) → noVariable N (inputLiterals rec) ≡ b → allApplications (rowOf S) (inputLiterals rec) ≡ b
-              → InputNext (pick b (inputLeft (Stands (moreClauses n)) (withClauseCells (here .clauses) (n .clauses) k (countOf part) 1 (n .bindings) 0) (withNode O (n .clauses) (1 ∷ takenLiterals N (fieldsOf part)))) (inputLeft (Refused (reasonNumber variableLiteral)) (here .clauses) O))
-          by true v z = (withClause S k (input (nextClause S) (newLiterals S rec)), path true z, kept-next F t k S n here N O A K l (withClause S k (input (nextClause S) (newLiterals S rec))) (path true z) (moreClauses n) (withClauses (withClauseCells (here .clauses) (n .clauses) k (countOf part) 1 (n .bindings) 0)) N (withNode O (n .clauses) (1 ∷ takenLiterals N (fieldsOf part))) A counts (made q) (K .nodes) (origin q (rows-below (length (rowsOf S)) (inputLiterals rec) (sym rows ∙ p))) (K .values))
-          by false v z = (variableLiteral, path false z, refl, K .tables, K .nodes, K .origins, K .values)
+          by : (b : Bool) → allApplications (rowOf S) (inputLiterals rec) ≡ b → InputNext (pick b inputStands (inputRefused (reasonNumber variableLiteral)))
+          by true z = (withMade, path true z, kept-next F t k S n here N O A K l withMade (path true z) (moreClauses n) (withClauses (inputStands .clauses)) N (inputStands .origins) A counts (tables q) (K .nodes) (origin q (below-all p)) (K .values))
+          by false z = (variableLiteral, path false z, refl, K .tables, K .nodes, K .origins, K .values)
+
+      third : inRange inputKind rec ≡ true → allBelow (n .rows) (map (λ (x : RowLiteral). x .1) (inputLiterals rec)) ≡ true → (b : Bool) → inOrder days ≡ b
+          → InputNext (pick b (pick (noVariable N (inputLiterals rec)) inputStands (inputRefused (reasonNumber variableLiteral))) (inputRefused (reasonNumber crossedDays)))
+      third q p true d = fourth q p d (noVariable N (inputLiterals rec)) refl
+      third q p false d = (crossedDays, input-step four ∙ (λ i. inputTests (q i) ((sym rows ∙ p) i) (d i) (allApplications (rowOf S) (inputLiterals rec))), refl, K .tables, K .nodes, K .origins, K .values)
 
       second : inRange inputKind rec ≡ true → (b : Bool) → allBelow (n .rows) (map (λ (x : RowLiteral). x .1) (inputLiterals rec)) ≡ b
-          → InputNext (pick b (pick (noVariable N (inputLiterals rec)) (inputLeft (Stands (moreClauses n)) (withClauseCells (here .clauses) (n .clauses) k (countOf part) 1 (n .bindings) 0) (withNode O (n .clauses) (1 ∷ takenLiterals N (fieldsOf part)))) (inputLeft (Refused (reasonNumber variableLiteral)) (here .clauses) O)) (inputLeft (Refused (reasonNumber notThere)) (here .clauses) O))
-      second q true p = third q p (noVariable N (inputLiterals rec)) refl
-      second q false p = (notThere, at ∙ (λ i. require (q i) outOfRange (require ((sym rows ∙ p) i) notThere (require (allApplications (rowOf S) (inputLiterals rec)) variableLiteral (stands (withClause S k (input (nextClause S) (newLiterals S rec))))))), refl, K .tables, K .nodes, K .origins, K .values)
+          → InputNext (pick b (pick (inOrder days) (pick (noVariable N (inputLiterals rec)) inputStands (inputRefused (reasonNumber variableLiteral))) (inputRefused (reasonNumber crossedDays))) (inputRefused (reasonNumber notThere)))
+      second q true p = third q p (inOrder days) refl
+      second q false p = (notThere, input-step four ∙ (λ i. inputTests (q i) ((sym rows ∙ p) i) (inOrder days) (allApplications (rowOf S) (inputLiterals rec))), refl, K .tables, K .nodes, K .origins, K .values)
 
       try : (b : Bool) → inRange inputKind rec ≡ b
-          → InputNext (pick b (pick (allBelow (n .rows) (map (λ (x : RowLiteral). x .1) (inputLiterals rec))) (pick (noVariable N (inputLiterals rec)) (inputLeft (Stands (moreClauses n)) (withClauseCells (here .clauses) (n .clauses) k (countOf part) 1 (n .bindings) 0) (withNode O (n .clauses) (1 ∷ takenLiterals N (fieldsOf part)))) (inputLeft (Refused (reasonNumber variableLiteral)) (here .clauses) O)) (inputLeft (Refused (reasonNumber notThere)) (here .clauses) O)) (inputLeft (Refused (reasonNumber outOfRange)) (here .clauses) O))
+          → InputNext (pick b (pick (allBelow (n .rows) (map (λ (x : RowLiteral). x .1) (inputLiterals rec))) (pick (inOrder days) (pick (noVariable N (inputLiterals rec)) inputStands (inputRefused (reasonNumber variableLiteral))) (inputRefused (reasonNumber crossedDays))) (inputRefused (reasonNumber notThere))) (inputRefused (reasonNumber outOfRange)))
       try true q = second q (allBelow (n .rows) (map (λ (x : RowLiteral). x .1) (inputLiterals rec))) refl
-      try false q = (outOfRange, at ∙ ap (λ (b : Bool). require b outOfRange (require (allBelow (length (rowsOf S)) (map (λ (x : RowLiteral). x .1) (inputLiterals rec))) notThere (require (allApplications (rowOf S) (inputLiterals rec)) variableLiteral (stands (withClause S k (input (nextClause S) (newLiterals S rec))))))) q, refl, K .tables, K .nodes, K .origins, K .values)
+      try false q = (outOfRange, input-step four ∙ (λ i. inputTests (q i) rowsThere (inOrder days) (allApplications (rowOf S) (inputLiterals rec))), refl, K .tables, K .nodes, K .origins, K .values)

@@ -8,7 +8,7 @@ use native.Mathlib.Omega.{arith}
 use lib.Dec.{leb}
 use lib.ListN.{getD, drop, set}
 use borrow.Author.Tests.{eq-eqb, ne-eqb, leb-true, not-true, not-false}
-use Rattle.record.specs.Record.{pick, recordPart, kindOf, countOf, fieldOf, fieldsOf, decoded, symbolKind, variableKind, applicationKind, inputKind}
+use Rattle.record.specs.Record.{pick, File, recordPart, kindOf, countOf, fieldOf, fieldsOf, decoded, decodedIn, symbolKind, variableKind, applicationKind, inputKind}
 use Rattle.record_fields.specs.Reader.{clauseLiterals}
 use Rattle.record_fields.specs.declared.ClauseLiterals.{ClauseLiterals}
 use Rattle.unification.specs.Nodes.{part}
@@ -23,11 +23,12 @@ use Rattle.distinct.proofs.Lowest.{found-nowhere, found-at}
 use Rattle.entry.specs.Program.{repeatCells, takenArguments, takenLiterals, RowReady, rowFound, noVariable, moreSymbols, moreRows, moreClauses, symbolLeft, symbolEntered, RowLeft, rowLeft, rowEntered, variableEntered, applicationThere, applicationEntered, inputLeft, inputEntered}
 use Rattle.tables.specs.Cells.{withClauseCells}
 use Rattle.fields.specs.Fields.{arityIn, arityAnswer}
-use Rattle.verdict.specs.Refusal.{zeros, inRange, argumentRows, hasArity, allBelow}
+use Rattle.verdict.specs.Refusal.{inOrder, zeros, inRange, argumentRows, hasArity, allBelow}
 use Rattle.entry.specs.declared.entry.Counts.{Counts}
 use Rattle.entry.specs.declared.entry.Entered.the-variants.{Stands, Refused}
 use Rattle.fields.specs.declared.Arity.{Arity}
 use Rattle.fields.specs.declared.Arity.the-variants.{Is, Missing}
+use Rattle.record.specs.declared.Form.{Form}
 
 -- What a test picks, the code's test being the definition's.
 pass : {A : Type 0} {b t : Bool} {x : A} (y z : A) → b ≡ t → b ≡ true → x ≡ y → x ≡ pick t y z
@@ -90,7 +91,7 @@ is-none : (o : Option ℕ) → arityAnswer o ≡ Missing → o ≡ none
 is-none none e = refl
 is-none (some m) e = let z : _≡_ {A = ℕ} 0 1 = cc in absurd (omega arith)
 
-module _ (F part : List ℕ) (n : Counts) (symbols : List ℕ) {f : ℕ} {r : Arity} (e : f ≡ fieldOf part 0) (p : r ≡ arityAnswer (arityIn F symbols (n .symbols) f)) where
+module _ (F : File) (part : List ℕ) (n : Counts) (symbols : List ℕ) {f : ℕ} {r : Arity} (e : f ≡ fieldOf part 0) (p : r ≡ arityAnswer (arityIn F symbols (n .symbols) f)) where
   known : {a : ℕ} → r ≡ Is a → arityIn F symbols (n .symbols) (fieldOf part 0) ≡ some a
   known {a} q = ap (arityIn F symbols (n .symbols)) (sym e) ∙ is-some (arityIn F symbols (n .symbols) f) a (sym p ∙ q)
 
@@ -110,7 +111,7 @@ module _ (F part : List ℕ) (n : Counts) (symbols : List ℕ) {f : ℕ} {r : Ar
   pub there-missing : r ≡ Missing → false ≡ applicationThere F part n symbols
   there-missing q = there none (unknown q)
 
-module _ (F part : List ℕ) (k : ℕ) (n : Counts) (symbols rows N : List ℕ) {b : Bool} (e : b ≡ inRange applicationKind (decoded part)) where
+module _ (F : File) (part : List ℕ) (k : ℕ) (n : Counts) (symbols rows N : List ℕ) {b : Bool} (e : b ≡ inRange applicationKind (decoded part)) where
   pub application-out : not b ≡ true → rowLeft (Refused 4) rows N ≡ applicationEntered F part k n symbols rows N
   unfolding applicationEntered
   application-out h = fail _ _ e (not-true b h) refl
@@ -127,8 +128,8 @@ module _ (F part : List ℕ) (k : ℕ) (n : Counts) (symbols rows N : List ℕ) 
     unfolding applicationEntered
     application-in g c f a q = pass _ _ e (not-false b h) (pass _ _ p (not-false t g) (q ∙ ap₂ (λ (ns : List ℕ) (i : ℕ). rowEntered ns k (2 + i) n rows N) (a ∙ ap (takenArguments N) f) c))
 
-module _ (part : List ℕ) (k : ℕ) (n : Counts) (clauses N O : List ℕ) {b : Bool} (e : b ≡ inRange inputKind (decoded part)) where
-  pub input-out : not b ≡ true → inputLeft (Refused 4) clauses O ≡ inputEntered part k n clauses N O
+module _ (form : Form) (part : List ℕ) (k : ℕ) (n : Counts) (clauses N O : List ℕ) {b : Bool} (e : b ≡ inRange inputKind (decoded part)) where
+  pub input-out : not b ≡ true → inputLeft (Refused 4) clauses O ≡ inputEntered form part k n clauses N O
   unfolding inputEntered
   input-out h = fail _ _ e (not-true b h) refl
 
@@ -136,24 +137,29 @@ module _ (part : List ℕ) (k : ℕ) (n : Counts) (clauses N O : List ℕ) {b : 
   input-few h = leb-true (countOf part) 7 (both-true (leb (countOf part) 7) (zeros (drop (countOf part) (decoded part .fields))) (sym e ∙ not-false b h) .0)
 
   module _ {t : Bool} (h : not b ≡ false) (p : t ≡ allBelow (n .rows) (map (λ l. l .1) (inputLiterals (decoded part)))) where
-    pub input-missing : not t ≡ true → inputLeft (Refused 5) clauses O ≡ inputEntered part k n clauses N O
+    pub input-missing : not t ≡ true → inputLeft (Refused 5) clauses O ≡ inputEntered form part k n clauses N O
     unfolding inputEntered
     input-missing g = pass _ _ e (not-false b h) (fail _ _ p (not-true t g) refl)
 
-    module _ {v : Bool} (g : not t ≡ false) (q : v ≡ noVariable N (inputLiterals (decoded part))) where
-      pub input-variable : not v ≡ true → inputLeft (Refused 7) clauses O ≡ inputEntered part k n clauses N O
+    module _ {d : Bool} (g : not t ≡ false) (o : d ≡ inOrder (decodedIn form part .days)) where
+      pub input-crossed : not d ≡ true → inputLeft (Refused 16) clauses O ≡ inputEntered form part k n clauses N O
       unfolding inputEntered
-      input-variable w = pass _ _ e (not-false b h) (pass _ _ p (not-false t g) (fail _ _ q (not-true v w) refl))
+      input-crossed w = pass _ _ e (not-false b h) (pass _ _ p (not-false t g) (fail _ _ o (not-true d w) refl))
 
-      pub input-in : {m : ℕ} {C M fs ns : List ℕ} → not v ≡ false → m ≡ countOf part → fs ≡ fieldsOf part → ns ≡ takenLiterals N fs → M ≡ withNode O (n .clauses) (1 ∷ ns) → C ≡ withClauseCells clauses (n .clauses) k m 1 (n .bindings) 0
-          → inputLeft (Stands (moreClauses n)) C M ≡ inputEntered part k n clauses N O
-      unfolding inputEntered
-      input-in w c f a y z =
-          pass _ _ e (not-false b h) (pass _ _ p (not-false t g) (pass _ _ q (not-false v w)
-          (ap₂ (inputLeft (Stands (moreClauses n))) (z ∙ ap (λ (i : ℕ). withClauseCells clauses (n .clauses) k i 1 (n .bindings) 0) c) (y ∙ ap (λ (l : List ℕ). withNode O (n .clauses) (1 ∷ l)) (a ∙ ap (takenLiterals N) f)))))
+      module _ {v : Bool} (u : not d ≡ false) (q : v ≡ noVariable N (inputLiterals (decoded part))) where
+        pub input-variable : not v ≡ true → inputLeft (Refused 7) clauses O ≡ inputEntered form part k n clauses N O
+        unfolding inputEntered
+        input-variable w = pass _ _ e (not-false b h) (pass _ _ p (not-false t g) (pass _ _ o (not-false d u) (fail _ _ q (not-true v w) refl)))
+
+        pub input-in : {m : ℕ} {C M fs ns : List ℕ} → not v ≡ false → m ≡ countOf part → fs ≡ fieldsOf part → ns ≡ takenLiterals N fs → M ≡ withNode O (n .clauses) (1 ∷ ns) → C ≡ withClauseCells clauses (n .clauses) k m 1 (n .bindings) 0
+            → inputLeft (Stands (moreClauses n)) C M ≡ inputEntered form part k n clauses N O
+        unfolding inputEntered
+        input-in w c f a y z =
+            pass _ _ e (not-false b h) (pass _ _ p (not-false t g) (pass _ _ o (not-false d u) (pass _ _ q (not-false v w)
+            (ap₂ (inputLeft (Stands (moreClauses n))) (z ∙ ap (λ (i : ℕ). withClauseCells clauses (n .clauses) k i 1 (n .bindings) 0) c) (y ∙ ap (λ (l : List ℕ). withNode O (n .clauses) (1 ∷ l)) (a ∙ ap (takenLiterals N) f))))))
 
 -- What the clause reader gives of a record of kind 4.
-pub literals-read : (F : List ℕ) (k : ℕ) {r : ClauseLiterals} → r ≡ clauseLiterals F k → kindOf (recordPart F k) ≡ 4 → (r .count ≡ countOf (recordPart F k)) × (r .numbers ≡ fieldsOf (recordPart F k))
+pub literals-read : (F : File) (k : ℕ) {r : ClauseLiterals} → r ≡ clauseLiterals F k → kindOf (recordPart F k) ≡ 4 → (r .count ≡ countOf (recordPart F k)) × (r .numbers ≡ fieldsOf (recordPart F k))
 unfolding clauseLiterals
 literals-read F k q four =
     let e = q ∙ ap (λ (b : Bool). pick b (record { count = countOf (recordPart F k); numbers = fieldsOf (recordPart F k) }) (record { count = 0; numbers = 0 ∷ 0 ∷ 0 ∷ 0 ∷ 0 ∷ 0 ∷ 0 ∷ [] })) (eq-eqb (kindOf (recordPart F k)) 4 four) in

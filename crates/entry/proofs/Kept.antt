@@ -6,7 +6,7 @@ use Prim.Native.Nat.{ℕ, zero, suc, _%_, _≤_, _<_}
 use native.Mathlib.Omega.{arith}
 use lib.Dec.{eqb, leb, leb→le}
 use lib.ListN.{length, take, drop, length-map}
-use Rattle.record.specs.Record.{Record, records, recordCount, recordPart, decoded}
+use Rattle.record.specs.Record.{File, Record, records, recordCount, recordAt}
 use Rattle.record.proofs.Records.{record-numbered}
 use Rattle.unification.specs.Row.{Row}
 use Rattle.unification.proofs.Lists.{Each}
@@ -19,7 +19,8 @@ use Rattle.verdict.specs.State.{State, emptyState, rowsOf, derivations}
 use Rattle.verdict.specs.Step.{stands, refused, Result, step, read, allStand, refusedAt}
 use Rattle.verdict.specs.Tables.{Tables, lengthsOf, filledTables}
 use Rattle.demands.specs.Total.{fifthCells}
-use Rattle.verdict.specs.Verdict.{longEnough, fittingLength}
+use Rattle.verdict.specs.Verdict.{longEnough, fitting}
+use Rattle.demands.proofs.Reading.{few-in}
 use Rattle.demands.proofs.Advance.{Standing, RowFits, Tally, standing-start, take-next, read-one, advance}
 use Rattle.entry.proofs.Entering.{node-table-length, origin-table-length}
 use Rattle.verdict.proofs.Endings.{ending-stands}
@@ -49,23 +50,20 @@ step-stands S k r T q = try (step S k r) refl q
     try (stands U) e p = ap stands (ending-stands p)
     try (refused p) e q = absurd (no q)
 
-pub standing-of : (F : List ℕ) (k : ℕ) → k ≤ recordCount F → (S : State) → read emptyState 0 (take k (records F)) ≡ allStand S → Standing F k S
+pub standing-of : (F : File) (k : ℕ) → k ≤ recordCount F → (S : State) → read emptyState 0 (take k (records F)) ≡ allStand S → Standing F k S
 standing-of F zero l S q = subst (Standing F 0) (ending-stands q) (standing-start F)
-standing-of F (suc k) l S q = further (read-split emptyState 0 (take k (records F)) (decoded (recordPart F k) ∷ []) S (sym (ap (read emptyState 0) taken) ∙ q)) (λ U p. standing-of F k (omega arith) U p)
+standing-of F (suc k) l S q = further (read-split emptyState 0 (take k (records F)) (recordAt F k ∷ []) S (sym (ap (read emptyState 0) taken) ∙ q)) (λ U p. standing-of F k (omega arith) U p)
   where
-    taken : take (suc k) (records F) ≡ take k (records F) ++ (decoded (recordPart F k) ∷ [])
-    taken = take-next k (records F) (decoded (recordPart F k)) (drop (suc k) (records F)) (record-numbered F k l)
+    taken : take (suc k) (records F) ≡ take k (records F) ++ (recordAt F k ∷ [])
+    taken = take-next k (records F) (recordAt F k) (drop (suc k) (records F)) (record-numbered F k l)
 
     further : (U : State) × (read emptyState 0 (take k (records F)) ≡ allStand U) → ((U : State) → read emptyState 0 (take k (records F)) ≡ allStand U → Standing F k U) → Standing F (suc k) S
     further u ih =
         let H = ih (u .0) (u .1) in
-        advance F k (u .0) H l S (step-stands (u .0) k (decoded (recordPart F k)) S (sym (read-one F k (u .0) H l (decoded (recordPart F k) ∷ [])) ∙ sym (ap (read emptyState 0) taken) ∙ q))
+        advance F k (u .0) H l S (step-stands (u .0) k (recordAt F k) S (sym (read-one F k (u .0) H l (recordAt F k ∷ [])) ∙ sym (ap (read emptyState 0) taken) ∙ q))
 
-pub fitting-records : (F : List ℕ) → fittingLength (length F) ≡ true → recordCount F ≤ 4096
-fitting-records F fit =
-    let p = both-true (leb (length F) 65536) (eqb (length F % 16) 0) fit in
-    let l : length F ≤ 65536 = leb→le (length F) 65536 (to-T (leb (length F) 65536) (p .0)) in
-    omega arith
+pub fitting-records : (F : File) → fitting F ≡ true → recordCount F ≤ 4096
+fitting-records F fit = few-in (F .form) (F .bytes) fit
 
 pub record Sizes (t : Tables) : Type 0 where
   pub symbols : 4096 ≤ length (t .symbols)
@@ -85,7 +83,7 @@ sizes t q =
       bindings = leb→le 32768 (length (t .bindings)) (to-T (leb 32768 (length (t .bindings))) (a .1));
     }
 
-module _ (F : List ℕ) (t : Tables) (k : ℕ) (S : State) (n : Counts) (here : Tables) (N O A : List ℕ) (K : Kept F t k S n here N O A) (l : k < recordCount F) where
+module _ (F : File) (t : Tables) (k : ℕ) (S : State) (n : Counts) (here : Tables) (N O A : List ℕ) (K : Kept F t k S n here N O A) (l : k < recordCount F) where
   pub few-records : k < 4096
   few-records = omega (arith, fitting-records F (K .fit))
 
@@ -117,7 +115,7 @@ module _ (F : List ℕ) (t : Tables) (k : ℕ) (S : State) (n : Counts) (here : 
   origins-length = origin-table-length (derivations S) (stand .sourced) (omega (arith, length-map (S .clauses) (λ (c : ℕ × Derivation). c .1), few-clauses, few-records)) O (K .origins)
 
   -- After a record that stands: what is left to show are the counts and the tables.
-  pub kept-next : (T : State) → step S k (decoded (recordPart F k)) ≡ stands T → (n′ : Counts) (here′ : Tables) (N′ O′ A′ : List ℕ) → n′ ≡ countsOf T → here′ ≡ filledTables T t → N′ ≡ nodeTableOf (rowsOf T) → O′ ≡ originTableOf (derivations T) → length A′ ≡ 524416 → Kept F t (suc k) T n′ here′ N′ O′ A′
+  pub kept-next : (T : State) → step S k (recordAt F k) ≡ stands T → (n′ : Counts) (here′ : Tables) (N′ O′ A′ : List ℕ) → n′ ≡ countsOf T → here′ ≡ filledTables T t → N′ ≡ nodeTableOf (rowsOf T) → O′ ≡ originTableOf (derivations T) → length A′ ≡ 524416 → Kept F t (suc k) T n′ here′ N′ O′ A′
   kept-next T q n′ here′ N′ O′ A′ c h m o v =
       let a = advance F k S stand l T q in
       let s : n′ .bindings ≡ fifthCells (here′ .clauses) (n′ .clauses) = ap (λ (x : Counts). x .bindings) c ∙ total-sum (suc k) T (a .ok) t ∙ sym (λ i. fifthCells (h i .clauses) (c i .clauses)) in

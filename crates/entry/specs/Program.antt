@@ -6,14 +6,15 @@ use mathlib.Core.List.{List, [], _∷_, map}
 use Prim.Native.Nat.{ℕ, _+_, _*_, _/_, _%_, _<_}
 use lib.Dec.{eqb}
 use lib.ListN.{length, getD, set}
-use Rattle.record.specs.Record.{pick, countOf, fieldOf, fieldsOf, decoded, symbolKind, variableKind, applicationKind, inputKind}
+use Rattle.record.specs.Record.{pick, File, countOf, fieldOf, fieldsOf, decoded, decodedIn, symbolKind, variableKind, applicationKind, inputKind}
 use Rattle.unification.specs.Nodes.{isVariable, part}
 use Rattle.derivation.specs.Derivation.{RowLiteral, inputLiterals}
-use Rattle.verdict.specs.Refusal.{outOfRange, notThere, variableLiteral, reasonNumber, inRange, argumentRows, hasArity, allBelow}
+use Rattle.verdict.specs.Refusal.{outOfRange, notThere, crossedDays, variableLiteral, reasonNumber, inRange, inOrder, argumentRows, hasArity, allBelow}
 use Rattle.tables.specs.Cells.{withClauseCells}
 use Rattle.fields.specs.Fields.{arityIn}
 use Rattle.distinct.specs.Index.{Indexed}
 use Rattle.distinct.specs.Rows.{withNode, rowWithCells}
+use Rattle.record.specs.declared.Form.{Form}
 use Rattle.entry.specs.declared.entry.Counts.{Counts}
 use Rattle.entry.specs.declared.entry.Entered.{Entered}
 use Rattle.entry.specs.declared.entry.Entered.the-variants.{Stands, Refused}
@@ -118,11 +119,11 @@ variableEntered part k n rows N =
     (rowLeft (Refused (reasonNumber outOfRange)) rows N)
 
 -- Kind 3: 5, off the tables; and an application's code in the node table is 2 more than the number of its arguments.
-unfoldable pub applicationThere : List ℕ → List ℕ → Counts → List ℕ → Bool
+unfoldable pub applicationThere : File → List ℕ → Counts → List ℕ → Bool
 applicationThere F part n symbols =
     hasArity (countOf part) (arityIn F symbols (n .symbols) (fieldOf part 0)) && allBelow (n .rows) (argumentRows (decoded part))
 
-unfoldable pub applicationEntered : List ℕ → List ℕ → ℕ → Counts → List ℕ → List ℕ → List ℕ → RowLeft
+unfoldable pub applicationEntered : File → List ℕ → ℕ → Counts → List ℕ → List ℕ → List ℕ → RowLeft
 applicationEntered F part k n symbols rows N =
     pick (inRange applicationKind (decoded part))
     (pick (applicationThere F part n symbols)
@@ -139,13 +140,15 @@ pub record InputLeft : Type 0 where
 abbrev pub inputLeft : Entered → List ℕ → List ℕ → InputLeft
 inputLeft e clauses O = record { answer = e; clauses = clauses; origins = O }
 
--- An input clause has maximum index 1 and no bindings; its code in the table of origins is 1.
-unfoldable pub inputEntered : List ℕ → ℕ → Counts → List ℕ → List ℕ → List ℕ → InputLeft
-inputEntered part k n clauses N O =
+-- An input clause has maximum index 1 and no bindings; its code in the table of origins is 1. No table has the days beside it.
+unfoldable pub inputEntered : Form → List ℕ → ℕ → Counts → List ℕ → List ℕ → List ℕ → InputLeft
+inputEntered form part k n clauses N O =
     pick (inRange inputKind (decoded part))
     (pick (allBelow (n .rows) (map (λ l. l .1) (inputLiterals (decoded part))))
+    (pick (inOrder (decodedIn form part .days))
     (pick (noVariable N (inputLiterals (decoded part)))
     (inputLeft (Stands (moreClauses n)) (withClauseCells clauses (n .clauses) k (countOf part) 1 (n .bindings) 0) (withNode O (n .clauses) (1 ∷ takenLiterals N (fieldsOf part))))
     (inputLeft (Refused (reasonNumber variableLiteral)) clauses O))
+    (inputLeft (Refused (reasonNumber crossedDays)) clauses O))
     (inputLeft (Refused (reasonNumber notThere)) clauses O))
     (inputLeft (Refused (reasonNumber outOfRange)) clauses O)

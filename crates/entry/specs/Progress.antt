@@ -6,7 +6,7 @@ use mathlib.Core.Option.{none, some}
 use mathlib.Core.List.{List, [], _∷_, _++_}
 use Prim.Native.Nat.{ℕ, suc, _+_, _-_, _*_, _≤_, _<_}
 use lib.ListN.{length, take, replicate}
-use Rattle.record.specs.Record.{records, recordCount, recordPart, decoded}
+use Rattle.record.specs.Record.{File, records, recordCount, recordPart, decoded, recordAt}
 use Rattle.unification.specs.Repeated.{earliestEqual}
 use Rattle.unification.specs.Row.{variable, Row, application}
 use Rattle.derivation.specs.Stored.{originTableOf}
@@ -15,7 +15,7 @@ use Rattle.verdict.specs.State.{State, emptyState, rowsOf, derivations}
 use Rattle.verdict.specs.Step.{stands, refused, step, read, allStand}
 use Rattle.verdict.specs.Tables.{Tables, lengthsOf, filledTables}
 use Rattle.demands.specs.Total.{fifthCells}
-use Rattle.verdict.specs.Verdict.{longEnough, fittingLength}
+use Rattle.verdict.specs.Verdict.{longEnough, fitting}
 use Rattle.entry.specs.Program.{repeatCells}
 use Rattle.entry.specs.declared.entry.Counts.{Counts}
 use Rattle.entry.specs.declared.entry.Entered.{Entered}
@@ -47,8 +47,8 @@ tablesWith symbols rows C B = record { symbols = symbols; rows = rows; clauses =
 -- What the program has after k records of the file F, begun on the tables t: the counts, tables, node table and table of origins of the
 -- state that these records leave. What the array of values holds between steps does not matter. Document 02, Q-4: the bindings counted, the
 -- running total of the state, are the sum over the clauses held, off the table.
-pub record Kept (F : List ℕ) (t : Tables) (k : ℕ) (S : State) (n : Counts) (here : Tables) (N O A : List ℕ) : Type 0 where
-  pub fit : fittingLength (length F) ≡ true
+pub record Kept (F : File) (t : Tables) (k : ℕ) (S : State) (n : Counts) (here : Tables) (N O A : List ℕ) : Type 0 where
+  pub fit : fitting F ≡ true
   pub long : longEnough (lengthsOf t) ≡ true
   pub before : read emptyState 0 (take k (records F)) ≡ allStand S
   pub counts : n ≡ countsOf S
@@ -58,23 +58,28 @@ pub record Kept (F : List ℕ) (t : Tables) (k : ℕ) (S : State) (n : Counts) (
   pub origins : O ≡ originTableOf (derivations S)
   pub values : length A ≡ 524416
 
+-- The days beside record k do not matter to its step, which is that of the record without them (document 02, Q-11): so of every record but an input clause, once its
+-- days are known to be zero.
+abbrev pub Plain : File → ℕ → Type 0
+Plain F k = (S : State) → step S k (recordAt F k) ≡ step S k (decoded (recordPart F k))
+
 -- What a function on record k asks: the state for some tables before, and that the record is inside the file.
-pub record Reading (F : List ℕ) (k : ℕ) (n : Counts) (here : Tables) (N O A : List ℕ) : Type 0 where
+pub record Reading (F : File) (k : ℕ) (n : Counts) (here : Tables) (N O A : List ℕ) : Type 0 where
   pub inside : k < recordCount F
   pub tablesBefore : Tables
   pub state : State
   pub kept : Kept F tablesBefore k state n here N O A
 
 -- What it answers: a record that stands leaves what belongs to the next state; a refused one its number, and all tables as they were.
-abbrev pub Next : List ℕ → Tables → ℕ → State → Tables → List ℕ → List ℕ → List ℕ → Entered → Type 0
-Next F t k S here N O A (Stands n) = (T : State) × (step S k (decoded (recordPart F k)) ≡ stands T) × Kept F t (suc k) T n here N O A
-Next F t k S here N O A (Refused q) = (reason : Reason) × (step S k (decoded (recordPart F k)) ≡ refused reason) × (q ≡ reasonNumber reason) × (here ≡ filledTables S t) × (N ≡ nodeTableOf (rowsOf S)) × (O ≡ originTableOf (derivations S)) × (length A ≡ 524416)
+abbrev pub Next : File → Tables → ℕ → State → Tables → List ℕ → List ℕ → List ℕ → Entered → Type 0
+Next F t k S here N O A (Stands n) = (T : State) × (step S k (recordAt F k) ≡ stands T) × Kept F t (suc k) T n here N O A
+Next F t k S here N O A (Refused q) = (reason : Reason) × (step S k (recordAt F k) ≡ refused reason) × (q ≡ reasonNumber reason) × (here ≡ filledTables S t) × (N ≡ nodeTableOf (rowsOf S)) × (O ≡ originTableOf (derivations S)) × (length A ≡ 524416)
 
-pub record RecordRead (F : List ℕ) (k : ℕ) (n : Counts) (here : Tables) (N O A : List ℕ) (e : Entered) (here′ : Tables) (N′ O′ A′ : List ℕ) : Type 0 where
+pub record RecordRead (F : File) (k : ℕ) (n : Counts) (here : Tables) (N O A : List ℕ) (e : Entered) (here′ : Tables) (N′ O′ A′ : List ℕ) : Type 0 where
   pub next : (t : Tables) (S : State) → Kept F t k S n here N O A → Next F t k S here′ N′ O′ A′ e
 
 -- What is left when reading has ended: what the program keeps of the state S that some number of records leave.
-pub record ReadTo (F : List ℕ) (t : Tables) (S : State) (here : Tables) (N O A : List ℕ) : Type 0 where
+pub record ReadTo (F : File) (t : Tables) (S : State) (here : Tables) (N O A : List ℕ) : Type 0 where
   pub count : ℕ
   pub few : count ≤ recordCount F
   pub counts : Counts

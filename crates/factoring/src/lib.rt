@@ -9,15 +9,17 @@ use following::values::ValueCells;
 use inference::NamedPair;
 use inference::named_pair;
 use inference::same_sign;
+use record::Form;
 use record::record_part;
 use record_fields::fields;
 use step_fields::step_in_range;
 ghost use mathlib.Core.Path.{_≡_};
-ghost use Rattle.record.specs.Record.{recordPart, kindOf};
+ghost use Rattle.record.specs.Record.{inForm, recordPart, kindOf};
 ghost use Rattle.inference.specs.Stepping.{BeforeStep, StepRead};
 
 // A factor: the tests in the order of their numbers. A literal cannot be factored with itself.
 pub fn factor_record(
+    form: Form,
     file: &[u8],
     k: u16,
     counts: Counts,
@@ -27,11 +29,11 @@ pub fn factor_record(
     origins: &mut Origins,
     values: &mut ValueCells,
 ) -> Entered
-    requires { ⌜ BeforeStep (now file) k counts (now clauses) (now bindings) (now nodes) (now origins) (now values) ⌝ }
-    requires { ⌜ kindOf (recordPart (now file) k) ≡ 6 ⌝ }
-    ensures { λ e. ⌜ ((E : BeforeStep (now (file .entry)) k counts (now (clauses .entry)) (now (bindings .entry)) (now (nodes .entry)) (now (origins .entry)) (now (values .entry))) → StepRead (now (file .entry)) k counts (now (clauses .entry)) (now (bindings .entry)) (now (nodes .entry)) (now (origins .entry)) (now (values .entry)) E (now (clauses .exit)) (now (bindings .exit)) (now (origins .exit)) (now (values .exit)) e) ⌝ }
+    requires { ⌜ BeforeStep (inForm form (now file)) k counts (now clauses) (now bindings) (now nodes) (now origins) (now values) ⌝ }
+    requires { ⌜ kindOf (recordPart (inForm form (now file)) k) ≡ 6 ⌝ }
+    ensures { λ e. ⌜ ((E : BeforeStep (inForm form (now (file .entry))) k counts (now (clauses .entry)) (now (bindings .entry)) (now (nodes .entry)) (now (origins .entry)) (now (values .entry))) → StepRead (inForm form (now (file .entry))) k counts (now (clauses .entry)) (now (bindings .entry)) (now (nodes .entry)) (now (origins .entry)) (now (values .entry)) E (now (clauses .exit)) (now (bindings .exit)) (now (origins .exit)) (now (values .exit)) e) ⌝ }
 {
-    let part = record_part(file, k as usize);
+    let part = record_part(form, file, k as usize);
     if !step_in_range(part, 3) {
         return Entered::Refused(4);
     }

@@ -7,7 +7,7 @@ use native.Mathlib.Omega.{arith}
 use lib.Dec.{leb, ltb}
 use lib.ListN.{getD, take, drop}
 use borrow.Author.Tests.{ne-eqb, ltb-true, ltb-false, lt-ltb, le-ltb, le-leb, lt-leb}
-use Rattle.record.specs.Record.{recordPart, countOf, fieldOf, fieldsOf, otherKind, kindNumbered}
+use Rattle.record.specs.Record.{File, recordPart, countOf, fieldOf, fieldsOf, otherKind, kindNumbered}
 use Rattle.derivation.specs.Derivation.{literalOf}
 use Rattle.fields.specs.Fields.{arityIn, arityAnswer}
 use Rattle.verdict.specs.Refusal.{allBelow, rising}
@@ -86,9 +86,9 @@ pub kind-other : (k : ℕ) → (k ≡ 1 → ⊥) → (k ≡ 2 → ⊥) → (k �
 kind-other k a b d e f g h i = rw (ne-eqb k 1 a, ne-eqb k 2 b, ne-eqb k 3 d, ne-eqb k 4 e, ne-eqb k 5 f, ne-eqb k 6 g, ne-eqb k 7 h, ne-eqb k 8 i)
 
 -- A symbol's arity.
-pub arity-found : (file symbols : List ℕ) (n s : ℕ) {k a : ℕ} {p : List ℕ} → s < n → k ≡ getD symbols s 0 → p ≡ recordPart file k → a ≡ countOf p
+pub arity-found : (file : File) (symbols : List ℕ) (n s : ℕ) {k a : ℕ} {p : List ℕ} → s < n → k ≡ getD symbols s 0 → p ≡ recordPart file k → a ≡ countOf p
     → _≡_ {A = Arity} (Is a) (arityAnswer (arityIn file symbols n s))
 arity-found file symbols n s h e q z = rw (lt-ltb s n h, ← e, ← q, z)
 
-pub arity-missing : (file symbols : List ℕ) (n s : ℕ) → n ≤ s → _≡_ {A = Arity} Missing (arityAnswer (arityIn file symbols n s))
+pub arity-missing : (file : File) (symbols : List ℕ) (n s : ℕ) → n ≤ s → _≡_ {A = Arity} Missing (arityAnswer (arityIn file symbols n s))
 arity-missing file symbols n s h = rw (le-ltb s n h)

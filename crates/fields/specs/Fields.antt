@@ -5,13 +5,13 @@ use mathlib.Core.List.{List}
 use Prim.Native.Nat.{ℕ}
 use lib.Dec.{eqb, ltb}
 use lib.ListN.{getD, drop}
-use Rattle.record.specs.Record.{pick, Record, recordPart, kindOf, countOf, decoded, resolveKind, severalKind}
+use Rattle.record.specs.Record.{pick, File, Record, recordPart, kindOf, countOf, decoded, resolveKind, severalKind}
 use Rattle.verdict.specs.Refusal.{zeros, inRange}
 use Rattle.fields.specs.declared.Arity.{Arity}
 use Rattle.fields.specs.declared.Arity.the-variants.{Is, Missing}
 
 -- The arity of a symbol, off the file and the table of symbols: none for a number that is not below the count.
-abbrev pub arityIn : List ℕ → List ℕ → ℕ → ℕ → Option ℕ
+abbrev pub arityIn : File → List ℕ → ℕ → ℕ → Option ℕ
 arityIn F symbols n s = pick (ltb s n) (some (countOf (recordPart F (getD symbols s 0)))) none
 
 -- The arity as the program answers it.

@@ -1,5 +1,6 @@
 // The numbers that a record names, tested against a limit or the table of symbols. `Fields` in specs/ has the contracts; what the tests are stands in
 // `Refusal` of the crate verdict.
+use record::Form;
 use record::count;
 use record::field;
 use record::record_part;
@@ -7,7 +8,7 @@ use tables::cell;
 ghost use mathlib.Core.Path.{_≡_};
 ghost use mathlib.Core.List.{map};
 ghost use Prim.Native.Nat.{_≤_};
-ghost use Rattle.record.specs.Record.{decoded, countOf};
+ghost use Rattle.record.specs.Record.{inForm, decoded, countOf};
 ghost use Rattle.derivation.specs.Derivation.{inputLiterals};
 ghost use Rattle.verdict.specs.Refusal.{argumentRows, allBelow};
 ghost use Rattle.fields.specs.Fields.{arityIn, arityAnswer};
@@ -51,12 +52,12 @@ pub fn literal_rows_below(part: &[u8], limit: u16) -> bool
 }
 
 // The arity of symbol s, off its record, if s is below the number of symbols.
-pub fn arity_in(file: &[u8], symbols: &[u16], n: u16, s: u16) -> Arity
-    ensures { λ r. ⌜ r ≡ arityAnswer (arityIn (now (file .entry)) (now (symbols .entry)) n s) ⌝ }
+pub fn arity_in(form: Form, file: &[u8], symbols: &[u16], n: u16, s: u16) -> Arity
+    ensures { λ r. ⌜ r ≡ arityAnswer (arityIn (inForm form (now (file .entry))) (now (symbols .entry)) n s) ⌝ }
 {
     if s < n {
         let k = cell(symbols, s as usize);
-        let part = record_part(file, k as usize);
+        let part = record_part(form, file, k as usize);
         Arity::Is(count(part))
     } else {
         Arity::Missing

@@ -9,7 +9,7 @@ use lib.Dec.{eqb}
 use lib.ListN.{length, getD, drop, replicate, length-map}
 use lib.Seq.{getD-append-add}
 use borrow.Author.Tests.{ne-eqb}
-use Rattle.record.specs.Record.{pick}
+use Rattle.record.specs.Record.{pick, File}
 use Rattle.derivation.specs.Derivation.{literals, Derivation}
 use Rattle.derivation.specs.Stored.{originTableOf, literalsCell}
 use Rattle.answer.specs.Given.{answerGiven, numbersWith, accepts, firstAccepted, standingNumbers, allSet, endedNumbers}
@@ -33,7 +33,7 @@ use Rattle.answer.specs.declared.Ended.the-variants.{All, Refused}
 use Rattle.answer.specs.declared.Answer.{Answer}
 
 -- Before the first record.
-module _ {F : List ℕ} {s r C B : List ℕ} (R : Readable F (tablesWith s r C B)) where
+module _ {F : File} {s r C B : List ℕ} (R : Readable F (tablesWith s r C B)) where
   pub table-sizes : Sizes (tablesWith s r C B)
   table-sizes = sizes (tablesWith s r C B) (R .long)
 
@@ -93,7 +93,7 @@ first-accepted test (c ∷ cs) rest L flags =
 abbrev wholeAnswer : ℕ → Ending → List ℕ
 wholeAnswer day e = answerNumbers (answerOf (verdictOf day e) (stateOf e))
 
-module _ (day : ℕ) (F : List ℕ) (t : Tables) (here : Tables) (a : Answer) where
+module _ (day : ℕ) (F : File) (t : Tables) (here : Tables) (a : Answer) where
   -- The flags that the program works out, off what it keeps of the state.
   flags-kept : (S : State) (N O A : List ℕ) → ReadTo F t S here N O A → ending F ≡ allStand S → (n : ℕ) (d : Derivation) → clauseOf S n ≡ some d → getD (flagsInForce day F O (length (S .clauses)) allSet) n 0 ≡ pick (usesInForce S day d) 1 0
   unfolding allSet

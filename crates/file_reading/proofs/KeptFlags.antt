@@ -5,7 +5,7 @@ use mathlib.Core.List.{List}
 use Prim.Native.Nat.{ℕ, _≤_, _<_}
 use native.Mathlib.Omega.{arith}
 use lib.ListN.{length, getD, replicate, length-map}
-use Rattle.record.specs.Record.{pick}
+use Rattle.record.specs.Record.{pick, File}
 use Rattle.derivation.specs.Derivation.{Derivation}
 use Rattle.verdict.specs.Force.{usesInForce}
 use Rattle.verdict.specs.State.{State, derivations, clauseOf}
@@ -18,10 +18,10 @@ use Rattle.inference.proofs.KeptClauses.{stand-of, stored-of}
 use Rattle.force.specs.Flags.{flagsInForce}
 use Rattle.force.proofs.FlagLaws.{clause-flag}
 
-pub few-clauses : (F : List ℕ) (t : Tables) (S : State) (here : Tables) (N O A : List ℕ) → ReadTo F t S here N O A → length (S .clauses) ≤ 4096
+pub few-clauses : (F : File) (t : Tables) (S : State) (here : Tables) (N O A : List ℕ) → ReadTo F t S here N O A → length (S .clauses) ≤ 4096
 few-clauses F t S here N O A X = omega (arith, stand-of (X .kept) (X .few) .tally .total, X .few, fitting-records F (X .kept .fit))
 
-pub kept-flag : (day : ℕ) (F : List ℕ) (t : Tables) (S : State) (here : Tables) (N O A : List ℕ) → ReadTo F t S here N O A → Stands F S → (n : ℕ) (d : Derivation) → clauseOf S n ≡ some d
+pub kept-flag : (day : ℕ) (F : File) (t : Tables) (S : State) (here : Tables) (N O A : List ℕ) → ReadTo F t S here N O A → Stands F S → (n : ℕ) (d : Derivation) → clauseOf S n ≡ some d
     → getD (flagsInForce day F O (length (S .clauses)) (replicate 4096 1)) n 0 ≡ pick (usesInForce S day d) 1 0
 kept-flag day F t S here N O A X st n d p =
     let many = few-clauses F t S here N O A X in

@@ -5,13 +5,16 @@ use following::nodes::Nodes;
 use following::nodes::Origins;
 use following::values::ValueCells;
 use reading::reader::read_records;
+use record::Form;
 use standing::ended_answer;
 use tables::clear;
+ghost use Rattle.record.specs.Record.{inForm};
 ghost use Rattle.entry.specs.Progress.{tablesWith};
 ghost use Rattle.reading.specs.Reader.{Readable, FileRead, ReadableWith, FileReadWith};
 
 // The named parts cleared, and all records read. The rows go to the node table as well, and the clauses to the table of origins.
 pub fn read_tables(
+    form: Form,
     day: u16,
     file: &[u8],
     symbols: &mut [u16],
@@ -22,14 +25,15 @@ pub fn read_tables(
     origins: &mut Origins,
     values: &mut ValueCells,
 ) -> Answer
-    requires { ⌜ ReadableWith (now file) (tablesWith (now symbols) (now rows) (now clauses) (now bindings)) (now nodes) (now origins) (now values) ⌝ }
-    ensures { λ a. ⌜ FileReadWith day (now (file .entry)) (tablesWith (now (symbols .entry)) (now (rows .entry)) (now (clauses .entry)) (now (bindings .entry))) a (tablesWith (now (symbols .exit)) (now (rows .exit)) (now (clauses .exit)) (now (bindings .exit))) (now (nodes .exit)) (now (origins .exit)) (now (values .exit)) ⌝ }
+    requires { ⌜ ReadableWith (inForm form (now file)) (tablesWith (now symbols) (now rows) (now clauses) (now bindings)) (now nodes) (now origins) (now values) ⌝ }
+    ensures { λ a. ⌜ FileReadWith day (inForm form (now (file .entry))) (tablesWith (now (symbols .entry)) (now (rows .entry)) (now (clauses .entry)) (now (bindings .entry))) a (tablesWith (now (symbols .exit)) (now (rows .exit)) (now (clauses .exit)) (now (bindings .exit))) (now (nodes .exit)) (now (origins .exit)) (now (values .exit)) ⌝ }
 {
     clear(symbols, 0, 4096);
     clear(rows, 0, 4096);
     clear(clauses, 0, 20480);
     clear(bindings, 0, 32768);
     let e = read_records(
+        form,
         file,
         symbols,
         rows,
@@ -39,11 +43,12 @@ pub fn read_tables(
         origins,
         values,
     );
-    ended_answer(day, file, e, clauses, origins)
+    ended_answer(form, day, file, e, clauses, origins)
 }
 
 // The same with a workspace of its own.
 pub fn read_file(
+    form: Form,
     day: u16,
     file: &[u8],
     symbols: &mut [u16],
@@ -51,13 +56,14 @@ pub fn read_file(
     clauses: &mut [u16],
     bindings: &mut [u16],
 ) -> Answer
-    requires { ⌜ Readable (now file) (tablesWith (now symbols) (now rows) (now clauses) (now bindings)) ⌝ }
-    ensures { λ a. ⌜ FileRead day (now (file .entry)) (tablesWith (now (symbols .entry)) (now (rows .entry)) (now (clauses .entry)) (now (bindings .entry))) a (tablesWith (now (symbols .exit)) (now (rows .exit)) (now (clauses .exit)) (now (bindings .exit))) ⌝ }
+    requires { ⌜ Readable (inForm form (now file)) (tablesWith (now symbols) (now rows) (now clauses) (now bindings)) ⌝ }
+    ensures { λ a. ⌜ FileRead day (inForm form (now (file .entry))) (tablesWith (now (symbols .entry)) (now (rows .entry)) (now (clauses .entry)) (now (bindings .entry))) a (tablesWith (now (symbols .exit)) (now (rows .exit)) (now (clauses .exit)) (now (bindings .exit))) ⌝ }
 {
     let mut nodes = [0u16; 32768];
     let mut origins = [0u16; 32768];
     let mut values = [0u16; 524416];
     read_tables(
+        form,
         day,
         file,
         symbols,

@@ -8,7 +8,7 @@ use native.Mathlib.Omega.{arith}
 use lib.Dec.{eqb, leb}
 use lib.ListN.{length, getD, set, length-set}
 use borrow.Author.Tests.{eq-eqb, ne-eqb, le-leb, lt-leb}
-use Rattle.record.specs.Record.{pick, recordPart, kindOf, fieldOf}
+use Rattle.record.specs.Record.{pick, File, recordPart, kindOf, fieldOf}
 use Rattle.unification.specs.Nodes.{part}
 use Rattle.derivation.specs.Stored.{originCode}
 use Rattle.force.specs.Flags.{dayFlag, withRecord, flagsAfter, flagFrom, withFlag, derivedFlags}
@@ -38,7 +38,7 @@ module _ (day : ℕ) (p L : List ℕ) {kind : ℕ} (isKind : kind ≡ kindOf p) 
   unfolding withRecord
   none-put e = sym (ap (λ (b : Bool). pick b (set L (fieldOf p 0) (dayFlag day p)) L) (ne-eqb (kindOf p) 8 (λ q. e (isKind ∙ q))))
 
-pub record-more : (day : ℕ) (F : List ℕ) (k : ℕ) (L : List ℕ) {M M′ p : List ℕ} → p ≡ recordPart F k → M ≡ flagsAfter day F k L → M′ ≡ withRecord day p M → M′ ≡ flagsAfter day F (k + 1) L
+pub record-more : (day : ℕ) (F : File) (k : ℕ) (L : List ℕ) {M M′ p : List ℕ} → p ≡ recordPart F k → M ≡ flagsAfter day F k L → M′ ≡ withRecord day p M → M′ ≡ flagsAfter day F (k + 1) L
 record-more day F k L e q r = r ∙ ap₂ (withRecord day) e q ∙ ap (λ (n : ℕ). flagsAfter day F n L) (sym (add-one k))
 
 -- The flag of a clause, by the code of its origin.

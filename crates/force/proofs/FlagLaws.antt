@@ -8,7 +8,7 @@ use native.Mathlib.Omega.{arith}
 use lib.Dec.{eqb}
 use lib.ListN.{length, getD, set, take, drop, replicate, length-set, length-replicate, getD-replicate}
 use lib.Seq.{getD-set-same, getD-set-other, take-length}
-use Rattle.record.specs.Record.{pick, Record, recordCount, recordPart, kindOf, fieldOf, decoded, records}
+use Rattle.record.specs.Record.{pick, File, Record, recordCount, recordPart, kindOf, fieldOf, decoded, records}
 use Rattle.record.proofs.Records.{records-length, record-numbered}
 use Rattle.unification.specs.Nodes.{part}
 use Rattle.derivation.specs.Derivation.{Derivation, Use, uses}
@@ -38,7 +38,7 @@ record-length day p L = try _ (eqb (kindOf p) 8)
     try v true = length-set L (fieldOf p 0) v
     try v false = refl
 
-after-length : (day : ℕ) (F : List ℕ) (k : ℕ) (L : List ℕ) → length (flagsAfter day F k L) ≡ length L
+after-length : (day : ℕ) (F : File) (k : ℕ) (L : List ℕ) → length (flagsAfter day F k L) ≡ length L
 after-length day F zero L = refl
 after-length day F (suc k) L = record-length day (recordPart F k) (flagsAfter day F k L) ∙ after-length day F k L
 
@@ -61,7 +61,7 @@ record-flag day p L ws n l h = try (eqb (kindOf p) 8)
     try false = h
 
 -- So the flags after k records go by the windows that these leave.
-dated-up-to : (day size : ℕ) (F : List ℕ) (n : ℕ) → n < size → (k : ℕ) → k ≤ recordCount F
+dated-up-to : (day size : ℕ) (F : File) (n : ℕ) → n < size → (k : ℕ) → k ≤ recordCount F
     → getD (flagsAfter day F k (replicate size 1)) n 0 ≡ pick (inForce (windowsAfter [] (take k (records F))) day n) 1 0
 dated-up-to day size F n l zero m = getD-replicate size n 1 0 l
 dated-up-to day size F n l (suc k) m =
@@ -73,7 +73,7 @@ dated-up-to day size F n l (suc k) m =
     (sym (ap (windowsAfter []) next ∙ windows-next [] (take k (records F)) (decoded (recordPart F k))))
 
 -- For any number of flags; the program has 4096.
-dated-any : (day size : ℕ) (F : List ℕ) (n : ℕ) → n < size
+dated-any : (day size : ℕ) (F : File) (n : ℕ) → n < size
     → getD (flagsAfter day F (recordCount F) (replicate size 1)) n 0 ≡ pick (inForce (windowsAfter [] (records F)) day n) 1 0
 dated-any day size F n l =
     let c = records-length F in
@@ -81,7 +81,7 @@ dated-any day size F n l =
     dated-up-to day size F n l (recordCount F) (omega arith) ∙ ap (λ (rs : List Record). pick (inForce (windowsAfter [] rs) day n) 1 0) e
 
 -- After all records the flag of a clause says whether it is in force by the windows of the file.
-pub dated-flag : (day : ℕ) (F : List ℕ) (n : ℕ) → n < 4096
+pub dated-flag : (day : ℕ) (F : File) (n : ℕ) → n < 4096
     → getD (flagsAfter day F (recordCount F) (replicate 4096 1)) n 0 ≡ pick (inForce (windowsAfter [] (records F)) day n) 1 0
 dated-flag day F n l = dated-any day 4096 F n l
 
@@ -182,7 +182,7 @@ module _ (O C B L : List ℕ) (ws : List Window) (day count : ℕ) (fits : count
       ∙ parent-flag (part O n 0) n x pl l (stored-flag p (omega arith))
 
 -- For any number of flags again.
-clause-any : (day size : ℕ) (F : List ℕ) (S : State) → Stands F S → (O C B : List ℕ) (count : ℕ) → count ≤ size
+clause-any : (day size : ℕ) (F : File) (S : State) → Stands F S → (O C B : List ℕ) (count : ℕ) → count ≤ size
     → (n : ℕ) (d : Derivation) → n < count → Stored O C B n d
     → getD (flagsInForce day F O count (replicate size 1)) n 0 ≡ pick (usesInForce S day d) 1 0
 unfolding flagsInForce
@@ -193,7 +193,7 @@ clause-any day size F S st O C B count m n d l s =
     ∙ ap (λ (ws : List Window). pick (allInForce ws day (uses d)) 1 0) (sym (stands-windows F S st))
 
 -- The flag of a clause says whether its derivation counts on the day.
-pub clause-flag : (day : ℕ) (F : List ℕ) (S : State) → Stands F S → (O C B : List ℕ) (count : ℕ) → count ≤ 4096
+pub clause-flag : (day : ℕ) (F : File) (S : State) → Stands F S → (O C B : List ℕ) (count : ℕ) → count ≤ 4096
     → (n : ℕ) (d : Derivation) → n < count → Stored O C B n d
     → getD (flagsInForce day F O count (replicate 4096 1)) n 0 ≡ pick (usesInForce S day d) 1 0
 clause-flag day F S st O C B count m n d l s = clause-any day 4096 F S st O C B count m n d l s

@@ -7,7 +7,7 @@ use mathlib.Core.List.{List, [], _∷_, _++_}
 use Prim.Native.Nat.{ℕ, _+_, _-_, _*_, _≤_, _<_}
 use native.Mathlib.Omega.{arith}
 use lib.ListN.{length, drop, replicate, length-map}
-use Rattle.record.specs.Record.{recordCount}
+use Rattle.record.specs.Record.{File, recordCount}
 use Rattle.following.specs.Clearing.{Cleared}
 use Rattle.unification.specs.Environment.{follow, Binding, Environment, Ends}
 use Rattle.unification.specs.Nodes.{isVariable, HasRow, nodeRow, NodesOk}
@@ -43,7 +43,7 @@ use Rattle.demands.proofs.Sources.{number-of}
 use Rattle.demands.proofs.Tabled.{stored-clause}
 use Rattle.entry.specs.declared.entry.Counts.{Counts}
 
-module _ {F : List ℕ} {t : Tables} {k : ℕ} {S : State} {n : Counts} {here : Tables} {N O A : List ℕ} (K : Kept F t k S n here N O A) (few : k ≤ recordCount F) where
+module _ {F : File} {t : Tables} {k : ℕ} {S : State} {n : Counts} {here : Tables} {N O A : List ℕ} (K : Kept F t k S n here N O A) (few : k ≤ recordCount F) where
   most : k ≤ 4096
   most = omega (arith, fitting-records F (K .fit))
 

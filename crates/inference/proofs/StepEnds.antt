@@ -5,7 +5,7 @@ use Prim.Native.Nat.{ℕ, _+_, _-_, _*_, _≤_}
 use native.Mathlib.Numerals.{add-one}
 use native.Mathlib.Omega.{arith}
 use lib.ListN.{length, getD}
-use Rattle.record.specs.Record.{Record, recordPart, decoded}
+use Rattle.record.specs.Record.{File, Record, recordPart, decoded}
 use Rattle.unification.specs.Bindings.{bindingsFrom}
 use Rattle.unification.specs.Environment.{Binding}
 use Rattle.unify.specs.Unifying.{outcomeOf, Counted}
@@ -32,7 +32,7 @@ use Rattle.unify.specs.declared.Unified.the-variants as unified-variants
 use Rattle.entry.specs.declared.entry.Counts.{Counts}
 use Rattle.entry.specs.declared.entry.Entered.{Entered}
 
-module _ {F : List ℕ} {k : ℕ} {n : Counts} {C B N O A : List ℕ} (E : BeforeStep F k n C B N O A) where
+module _ {F : File} {k : ℕ} {n : Counts} {C B N O A : List ℕ} (E : BeforeStep F k n C B N O A) where
   abbrev S : State
   S = E .state
 
@@ -100,15 +100,15 @@ module _ {F : List ℕ} {k : ℕ} {n : Counts} {C B N O A : List ℕ} (E : Befor
 
     ended : (u : Unified) → step (E .state) k (decoded (recordPart F k)) ≡ addClause (E .state) k clause (outcomeOf B′ (n .bindings) u) → UnifiedTables B B′ A′ (n .bindings) u → Read (stepFinished u k n literalCount index cells C B′ O)
     unfolding addClause
-    ended (Done w h) p U = record { next = (after h, p, kept-next F t k S n Here N O A (E .kept) (E .inside) (after h) p (withStep n h) (tablesWith (E .symbols) (E .rows) (withClauseCells C (n .clauses) k literalCount index (n .bindings) (h - n .bindings)) B′) N (withNode O (n .clauses) cells) A′ (counts-after h (U .counted .0)) (tables-after w h U) (E .kept .nodes) (clause-origin F t k S n Here N O A (E .kept) (E .inside) (clause (added h)) cells (isOrigin (added h))) (U .values)) }
-    ended (unified-variants.Refused q) p U = record { next = (unification (failureOf q), p, U .counted .0, tables-refused q U, E .kept .nodes, E .kept .origins, U .values) }
+    ended (Done w h) p U = record { next = (after h, E .plain S ∙ p, kept-next F t k S n Here N O A (E .kept) (E .inside) (after h) (E .plain S ∙ p) (withStep n h) (tablesWith (E .symbols) (E .rows) (withClauseCells C (n .clauses) k literalCount index (n .bindings) (h - n .bindings)) B′) N (withNode O (n .clauses) cells) A′ (counts-after h (U .counted .0)) (tables-after w h U) (E .kept .nodes) (clause-origin F t k S n Here N O A (E .kept) (E .inside) (clause (added h)) cells (isOrigin (added h))) (U .values)) }
+    ended (unified-variants.Refused q) p U = record { next = (unification (failureOf q), E .plain S ∙ p, U .counted .0, tables-refused q U, E .kept .nodes, E .kept .origins, U .values) }
 
     pub step-ended : (u : Unified) → step (E .state) k (decoded (recordPart F k)) ≡ addClause (E .state) k clause (outcomeOf B′ (n .bindings) u) → UnifiedTables B B′ A′ (n .bindings) u
         → (e : Entered) (C₂ B₂ O₂ : List ℕ) → finished e C₂ B₂ O₂ ≡ stepFinished u k n literalCount index cells C B′ O → StepRead F k n C B N O A E C₂ B₂ O₂ A′ e
     step-ended u p U e C₂ B₂ O₂ q = subst Read (sym q) (ended u p U)
 
 -- What finishing a step asks, after unification.
-pub finishing : {F : List ℕ} {k : ℕ} {n : Counts} {C B N O A : List ℕ} (E : BeforeStep F k n C B N O A) (B′ A′ : List ℕ) (u : Unified) → UnifiedTables B B′ A′ (n .bindings) u → (ns : List ℕ) → length ns ≡ 7 → Finishing n B′ O ns u
+pub finishing : {F : File} {k : ℕ} {n : Counts} {C B N O A : List ℕ} (E : BeforeStep F k n C B N O A) (B′ A′ : List ℕ) (u : Unified) → UnifiedTables B B′ A′ (n .bindings) u → (ns : List ℕ) → length ns ≡ 7 → Finishing n B′ O ns u
 finishing {F} {k} {n} {C} {B} {N} {O} {A} E B′ A′ u U ns seven = record { origins = origins-room E; numbers = seven; clauses = few-of E; held = held-few E; room = rw (U .bindings) (room-of E); upTo = up u (U .counted) }
   where
     up : (v : Unified) → Counted B B′ (n .bindings) v → HeldUpTo (n .bindings) v

@@ -7,7 +7,7 @@ use mathlib.Core.List.{List, [], _∷_, map}
 use Prim.Native.Nat.{ℕ, _+_, _-_, _*_, _≤_, _<_}
 use native.Mathlib.Omega.{arith}
 use lib.ListN.{length}
-use Rattle.record.specs.Record.{pick, recordCount}
+use Rattle.record.specs.Record.{pick, File, recordCount}
 use Rattle.following.specs.Clearing.{Cleared}
 use Rattle.unification.specs.Environment.{follow, Environment, Ends}
 use Rattle.unification.specs.Listed.{listedFrom}
@@ -59,7 +59,7 @@ each-both : {T : Type 0} (P Q : T → Type 0) (xs : List T) → Each P xs → Ea
 each-both P Q [] h k = tt
 each-both P Q (x ∷ xs) h k = ((h .0, k .0), each-both P Q xs (h .1) (k .1))
 
-module _ {F : List ℕ} {k : ℕ} {n : Counts} {C B N O A : List ℕ} (E : BeforeStep F k n C B N O A) where
+module _ {F : File} {k : ℕ} {n : Counts} {C B N O A : List ℕ} (E : BeforeStep F k n C B N O A) where
   abbrev S : State
   S = E .state
 

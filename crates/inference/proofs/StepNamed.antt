@@ -10,7 +10,7 @@ use lib.Dec.{eqb, leb}
 use lib.ListN.{length, getD, take, drop, replicate, length-append, length-take, length-drop, length-map, take-append-drop}
 use lib.Seq.{drop-drop}
 use borrow.Author.Tests.{le-leb, lt-leb}
-use Rattle.record.specs.Record.{Record, recordPart, kindOf, countOf, fieldsOf, decoded, Kind, kindNumbered, factorKind, severalKind, fieldA, fieldB, fieldC}
+use Rattle.record.specs.Record.{File, Record, recordPart, kindOf, countOf, fieldsOf, decoded, Kind, kindNumbered, factorKind, severalKind, fieldA, fieldB, fieldC}
 use Rattle.unification.specs.Environment.{Binding}
 use Rattle.unification.specs.Listed.{listedFrom}
 use Rattle.unification.specs.Nodes.{nodeRow}
@@ -55,7 +55,7 @@ all-fewer xs (n ∷ ns) ys h q =
     omega arith
 
 -- A resolve's kind, with what goes by it.
-resolve-kind : (F : List ℕ) (k : ℕ) → ResolveKind (kindOf (recordPart F k)) → IsResolve (kindOfRecord (decoded (recordPart F k)))
+resolve-kind : (F : File) (k : ℕ) → ResolveKind (kindOf (recordPart F k)) → IsResolve (kindOfRecord (decoded (recordPart F k)))
 resolve-kind F k (inl z) = subst IsResolve (ap kindNumbered (sym z)) on-one
 resolve-kind F k (inr z) = subst IsResolve (ap kindNumbered (sym z)) on-several
 
@@ -67,7 +67,7 @@ rights-zeros part m l z =
     let w : length (drop m (drop 3 (fieldsOf part))) ≡ 4 - m = length-drop m (drop 3 (fieldsOf part)) in
     sym (take-append-drop m (drop 3 (fieldsOf part))) ∙ ap (λ (r : List ℕ). take m (drop 3 (fieldsOf part)) ++ r) (e ∙ ap (λ (k : ℕ). replicate {A = ℕ} k 0) w)
 
-right-fields : (F : List ℕ) (k : ℕ) → ResolveKind (kindOf (recordPart F k)) → inRange (kindOfRecord (decoded (recordPart F k))) (decoded (recordPart F k)) ≡ true
+right-fields : (F : File) (k : ℕ) → ResolveKind (kindOf (recordPart F k)) → inRange (kindOfRecord (decoded (recordPart F k))) (decoded (recordPart F k)) ≡ true
     → drop 3 (fieldsOf (recordPart F k)) ≡ rightsAt F k ++ replicate (4 - length (rightsAt F k)) 0
 right-fields F k (inl z) q =
     let p = ap (λ (i : ℕ). inRange (kindNumbered i) (decoded (recordPart F k))) (sym z) ∙ q in

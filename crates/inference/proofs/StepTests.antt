@@ -9,7 +9,7 @@ use native.Mathlib.Omega.{arith}
 use lib.Dec.{eqb}
 use lib.ListN.{length, getD, take, drop, length-take, length-map}
 use borrow.Author.Tests.{eq-eqb, ne-eqb, not-true, not-false}
-use Rattle.record.specs.Record.{pick, Record, recordPart, kindOf, countOf, fieldsOf, decoded, Kind, resolveKind, factorKind, severalKind, kindNumbered, fieldA, fieldB, fieldC}
+use Rattle.record.specs.Record.{pick, File, Record, recordPart, kindOf, countOf, fieldsOf, decoded, Kind, resolveKind, factorKind, severalKind, kindNumbered, fieldA, fieldB, fieldC}
 use Rattle.unification.specs.Listed.{listedFrom}
 use Rattle.unification.specs.Unification.{clash}
 use Rattle.derivation.specs.Derivation.{literals, Literal, Derivation, numbered, maximumIndex}
@@ -146,7 +146,7 @@ both-found a c none p x y q = absurd (let z : _≡_ {A = ℕ} 0 1 = cc in omega 
 both-found a c (some m) none x y q = absurd (let z : _≡_ {A = ℕ} 0 1 = cc in omega arith)
 both-found a c (some m) (some l) x y q = (record { named = m; isNamed = refl; isSigned = cc }, record { named = l; isNamed = refl; isSigned = cc })
 
-module _ {F : List ℕ} {k : ℕ} {n : Counts} {C B N O A : List ℕ} (E : BeforeStep F k n C B N O A) where
+module _ {F : File} {k : ℕ} {n : Counts} {C B N O A : List ℕ} (E : BeforeStep F k n C B N O A) where
   abbrev S : State
   S = E .state
 
@@ -166,7 +166,7 @@ module _ {F : List ℕ} {k : ℕ} {n : Counts} {C B N O A : List ℕ} (E : Befor
 
   -- A refusal leaves everything as it was.
   pub refuse : (q : Reason) → step (E .state) k (decoded (recordPart F k)) ≡ refused q → StepRead F k n C B N O A E C B O A (Refused (reasonNumber q))
-  refuse q p = record { next = (q, p, refl, E .kept .tables, E .kept .nodes, E .kept .origins, E .kept .values) }
+  refuse q p = record { next = (q, E .plain (E .state) ∙ p, refl, E .kept .tables, E .kept .nodes, E .kept .origins, E .kept .values) }
 
   pub factor-kind : kindOf (recordPart F k) ≡ 6 → kindOfRecord (decoded (recordPart F k)) ≡ factorKind
   factor-kind q = ap kindNumbered q

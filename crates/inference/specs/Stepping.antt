@@ -6,14 +6,14 @@ use mathlib.Core.Option.{Option, none, some}
 use mathlib.Core.List.{List}
 use Prim.Native.Nat.{ℕ, _+_, _-_, _*_, _≤_, _<_}
 use lib.ListN.{length, getD}
-use Rattle.record.specs.Record.{recordCount, recordPart, kindOf, fieldsOf, decoded, factorKind, fieldC}
+use Rattle.record.specs.Record.{File, recordCount, recordPart, kindOf, fieldsOf, decoded, factorKind, fieldC}
 use Rattle.unification.specs.Listed.{listedFrom}
 use Rattle.unify.specs.Unifying.{Counted}
 use Rattle.derivation.specs.Derivation.{literals, Literal, Derivation, numbered, numberedAll, maximumIndex}
 use Rattle.derivation.specs.Stored.{Stored}
 use Rattle.tables.specs.Cells.{clearedPart, withClauseCells}
 use Rattle.distinct.specs.Rows.{withNode}
-use Rattle.entry.specs.Progress.{Kept, Next, tablesWith}
+use Rattle.entry.specs.Progress.{Kept, Plain, Next, tablesWith}
 use Rattle.verdict.specs.Refusal.{kindOfRecord, inRange, rising, leftOf, rightNumbers, rightOf, deletedOf, oppositeSigns, factorSigns}
 use Rattle.verdict.specs.State.{State, clauseOf}
 use Rattle.verdict.specs.Step.{atoms}
@@ -32,8 +32,9 @@ use Rattle.inference.specs.declared.NamedPair.{NamedPair}
 use Rattle.inference.specs.declared.NamedPair.the-variants as pair
 
 -- What a function on a step asks: what the program keeps before record k, for some tables of symbols and rows.
-pub record BeforeStep (F : List ℕ) (k : ℕ) (n : Counts) (C B N O A : List ℕ) : Type 0 where
+pub record BeforeStep (F : File) (k : ℕ) (n : Counts) (C B N O A : List ℕ) : Type 0 where
   pub inside : k < recordCount F
+  pub plain : Plain F k
   pub tablesBefore : Tables
   pub state : State
   pub symbols : List ℕ
@@ -66,7 +67,7 @@ rightsNamed y = (y .clause, y .named)
 
 -- A resolve on an atom and m listed ones of clause `right`, whose result has a maximum index of at most 4,096.
 pub record Resolving (k : ℕ) (n : Counts) (C B N O A : List ℕ) (x : Atom) (right : ℕ) (L : List ℕ) (m : ℕ) : Type 0 where
-  pub file : List ℕ
+  pub file : File
   pub step : BeforeStep file k n C B N O A
   pub left : AtomOf (step .state) (x .clause) (x .row) (x .index)
   pub numbers : List ℕ
@@ -78,7 +79,7 @@ pub record Resolving (k : ℕ) (n : Counts) (C B N O A : List ℕ) (x : Atom) (r
 
 -- A factor on two atoms of one clause.
 pub record Factoring (k : ℕ) (n : Counts) (C B N O A : List ℕ) (x y : Atom) : Type 0 where
-  pub file : List ℕ
+  pub file : File
   pub step : BeforeStep file k n C B N O A
   pub sameClause : y .clause ≡ x .clause
   pub kept : AtomOf (step .state) (x .clause) (x .row) (x .index)
@@ -150,12 +151,12 @@ abbrev pub ResolveKind : ℕ → Type 0
 ResolveKind kind = (kind ≡ 5) ⊎ (kind ≡ 7)
 
 -- The right literals that record k names, by its kind.
-abbrev pub rightsAt : List ℕ → ℕ → List ℕ
+abbrev pub rightsAt : File → ℕ → List ℕ
 rightsAt F k = rightNumbers (kindOfRecord (decoded (recordPart F k))) (decoded (recordPart F k))
 
 -- A resolve or a factor whose tests up to 8 have passed, with the seven fields of its record; a resolve on m listed atoms.
 pub record ResolveNamed (ns : List ℕ) (k : ℕ) (n : Counts) (C B N O A : List ℕ) (x : Atom) (L : List ℕ) (m : ℕ) : Type 0 where
-  pub file : List ℕ
+  pub file : File
   pub numbers : ns ≡ fieldsOf (recordPart file k)
   pub step : BeforeStep file k n C B N O A
   pub isResolve : ResolveKind (kindOf (recordPart file k))
@@ -171,7 +172,7 @@ pub record ResolveNamed (ns : List ℕ) (k : ℕ) (n : Counts) (C B N O A : List
   pub signs : oppositeSigns (step .state) (kindOfRecord (decoded (recordPart file k))) (decoded (recordPart file k)) ≡ true
 
 pub record FactorNamed (ns : List ℕ) (k : ℕ) (n : Counts) (C B N O A : List ℕ) (x y : Atom) : Type 0 where
-  pub file : List ℕ
+  pub file : File
   pub numbers : ns ≡ fieldsOf (recordPart file k)
   pub step : BeforeStep file k n C B N O A
   pub isFactor : kindOf (recordPart file k) ≡ 6
@@ -184,5 +185,5 @@ pub record FactorNamed (ns : List ℕ) (k : ℕ) (n : Counts) (C B N O A : List 
   pub signs : factorSigns (step .state) (decoded (recordPart file k)) ≡ true
 
 -- What the program has after record k, by the state before it.
-pub record StepRead (F : List ℕ) (k : ℕ) (n : Counts) (C B N O A : List ℕ) (E : BeforeStep F k n C B N O A) (C′ B′ O′ A′ : List ℕ) (e : Entered) : Type 0 where
+pub record StepRead (F : File) (k : ℕ) (n : Counts) (C B N O A : List ℕ) (E : BeforeStep F k n C B N O A) (C′ B′ O′ A′ : List ℕ) (e : Entered) : Type 0 where
   pub next : Next F (E .tablesBefore) k (E .state) (tablesWith (E .symbols) (E .rows) C′ B′) N O′ A′ e

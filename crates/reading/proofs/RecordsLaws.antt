@@ -5,7 +5,7 @@ use Prim.Native.Nat.{ℕ, _+_, _≤_, _<_}
 use lib.ListN.{length}
 use native.Mathlib.Numerals.{add-one}
 use native.Mathlib.Omega.{arith}
-use Rattle.record.specs.Record.{recordCount}
+use Rattle.record.specs.Record.{File, recordCount}
 use Rattle.distinct.specs.Index.{Indexed}
 use Rattle.entry.specs.Program.{rowsAfter}
 use Rattle.entry.specs.Progress.{Kept, Reading, Next, RecordRead}
@@ -22,22 +22,22 @@ use Rattle.entry.specs.declared.entry.Entered.the-variants.{Stands, Refused}
 use Rattle.answer.specs.declared.Ended.the-variants.{All}
 use Rattle.answer.specs.declared.Ended.the-variants as ended-variants
 
-pub record ReadUpTo (F : List ℕ) (t : Tables) (k : ℕ) (n : Counts) (here : Tables) (N O A : List ℕ) : Type 0 where
+pub record ReadUpTo (F : File) (t : Tables) (k : ℕ) (n : Counts) (here : Tables) (N O A : List ℕ) : Type 0 where
   pub few : k ≤ recordCount F
   pub state : State
   pub kept : Kept F t k state n here N O A
 
-pub read-none : (F : List ℕ) (here : Tables) (N O A : List ℕ) (G : Begun F here N O A) → ReadUpTo F (G .tablesBefore) 0 (record { symbols = 0; rows = 0; clauses = 0; bindings = 0 }) here N O A
+pub read-none : (F : File) (here : Tables) (N O A : List ℕ) (G : Begun F here N O A) → ReadUpTo F (G .tablesBefore) 0 (record { symbols = 0; rows = 0; clauses = 0; bindings = 0 }) here N O A
 read-none F here N O A G = record {
   few = omega arith;
   state = emptyState;
   kept = record { fit = G .fit; long = G .long; before = refl; counts = refl; held = refl; tables = G .cleared; nodes = G .nodes; origins = G .origins; values = G .values };
 }
 
-pub begun-nodes : {F : List ℕ} {here : Tables} {N O A : List ℕ} → Begun F here N O A → length N ≡ 32768
+pub begun-nodes : {F : File} {here : Tables} {N O A : List ℕ} → Begun F here N O A → length N ≡ 32768
 begun-nodes {N = N} G = node-table-length [] tt (omega arith) N (G .nodes)
 
-module _ {F : List ℕ} {t : Tables} {k : ℕ} {n : Counts} {here : Tables} {N O A : List ℕ} (R : ReadUpTo F t k n here N O A) where
+module _ {F : File} {t : Tables} {k : ℕ} {n : Counts} {here : Tables} {N O A : List ℕ} (R : ReadUpTo F t k n here N O A) where
   pub read-asked : k < recordCount F → Reading F k n here N O A
   read-asked l = record { inside = l; tablesBefore = t; state = R .state; kept = R .kept }
 

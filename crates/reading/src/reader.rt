@@ -7,13 +7,17 @@ use entry::entry::Entered;
 use following::nodes::Nodes;
 use following::nodes::Origins;
 use following::values::ValueCells;
+use record::Form;
+use record::record_count;
 use record_reading::read_record;
+ghost use Rattle.record.specs.Record.{inForm};
 ghost use Rattle.distinct.specs.Index.{Indexed};
 ghost use Rattle.entry.specs.Progress.{tablesWith};
 ghost use Rattle.reading.specs.Reader.{Begun, RecordsRead};
 
 // All records in their order, up to the first that is refused, with an index of no rows.
 fn read_indexed(
+    form: Form,
     file: &[u8],
     symbols: &mut [u16],
     rows: &mut [u16],
@@ -25,9 +29,9 @@ fn read_indexed(
     heads: &mut Heads,
     links: &mut Links,
 ) -> Ended
-    requires { ⌜ Begun (now file) (tablesWith (now symbols) (now rows) (now clauses) (now bindings)) (now nodes) (now origins) (now values) ⌝ }
+    requires { ⌜ Begun (inForm form (now file)) (tablesWith (now symbols) (now rows) (now clauses) (now bindings)) (now nodes) (now origins) (now values) ⌝ }
     requires { ⌜ Indexed (now nodes) 0 (now heads) (now links) ⌝ }
-    ensures { λ e. ⌜ RecordsRead (now (file .entry)) (tablesWith (now (symbols .entry)) (now (rows .entry)) (now (clauses .entry)) (now (bindings .entry))) (now (nodes .entry)) (now (origins .entry)) (now (values .entry)) e (tablesWith (now (symbols .exit)) (now (rows .exit)) (now (clauses .exit)) (now (bindings .exit))) (now (nodes .exit)) (now (origins .exit)) (now (values .exit)) ⌝ }
+    ensures { λ e. ⌜ RecordsRead (inForm form (now (file .entry))) (tablesWith (now (symbols .entry)) (now (rows .entry)) (now (clauses .entry)) (now (bindings .entry))) (now (nodes .entry)) (now (origins .entry)) (now (values .entry)) e (tablesWith (now (symbols .exit)) (now (rows .exit)) (now (clauses .exit)) (now (bindings .exit))) (now (nodes .exit)) (now (origins .exit)) (now (values .exit)) ⌝ }
 {
     let mut counts = Counts {
         symbols: 0,
@@ -36,8 +40,9 @@ fn read_indexed(
         bindings: 0,
     };
     let mut k = 0u16;
-    while (k as usize) < file.len() / 16 {
+    while (k as usize) < record_count(form, file) {
         match read_record(
+            form,
             file,
             k,
             counts,
@@ -63,6 +68,7 @@ fn read_indexed(
 
 // The same, with an index of its own.
 pub fn read_records(
+    form: Form,
     file: &[u8],
     symbols: &mut [u16],
     rows: &mut [u16],
@@ -72,12 +78,13 @@ pub fn read_records(
     origins: &mut Origins,
     values: &mut ValueCells,
 ) -> Ended
-    requires { ⌜ Begun (now file) (tablesWith (now symbols) (now rows) (now clauses) (now bindings)) (now nodes) (now origins) (now values) ⌝ }
-    ensures { λ e. ⌜ RecordsRead (now (file .entry)) (tablesWith (now (symbols .entry)) (now (rows .entry)) (now (clauses .entry)) (now (bindings .entry))) (now (nodes .entry)) (now (origins .entry)) (now (values .entry)) e (tablesWith (now (symbols .exit)) (now (rows .exit)) (now (clauses .exit)) (now (bindings .exit))) (now (nodes .exit)) (now (origins .exit)) (now (values .exit)) ⌝ }
+    requires { ⌜ Begun (inForm form (now file)) (tablesWith (now symbols) (now rows) (now clauses) (now bindings)) (now nodes) (now origins) (now values) ⌝ }
+    ensures { λ e. ⌜ RecordsRead (inForm form (now (file .entry))) (tablesWith (now (symbols .entry)) (now (rows .entry)) (now (clauses .entry)) (now (bindings .entry))) (now (nodes .entry)) (now (origins .entry)) (now (values .entry)) e (tablesWith (now (symbols .exit)) (now (rows .exit)) (now (clauses .exit)) (now (bindings .exit))) (now (nodes .exit)) (now (origins .exit)) (now (values .exit)) ⌝ }
 {
     let mut heads = [0u16; 4096];
     let mut links = [0u16; 4096];
     read_indexed(
+        form,
         file,
         symbols,
         rows,

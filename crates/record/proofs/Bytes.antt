@@ -8,7 +8,7 @@ use lib.ListN.{length, getD, take, drop, take-append-drop, length-append, length
 use lib.Seq.{length-take-le, drop-cons, getD-drop, take-at, drop-at}
 use Rattle.record.specs.Bytes.{lowThenHigh, fieldBytes, dayBytes, recordBytes, bytesIn, DaysFit, Fits, AllFit, Bytes}
 use Rattle.record.specs.Record.{Record, File, inForm, recordLength, recordCount, kindOf, countOf, fieldsOf, decodedIn, parts, records}
-use Rattle.record.proofs.Records.{HasDays, Shaped, HaveDays}
+use Rattle.record.proofs.Records.{HasDays, Shaped, HaveDays, decoded-parts}
 use Rattle.record.specs.declared.Form.{Form}
 use Rattle.record.specs.declared.Form.the-variants.{Old, New}
 
@@ -103,10 +103,6 @@ days-fit : (form : Form) (part : List ℕ) → Bytes part → DaysFit form (deco
 days-fit Old part b = refl
 days-fit New part b = (_, _, refl, sixteen-bits (b 16) (b 17), sixteen-bits (b 18) (b 19))
 
-decoded-fields : (form : Form) (part : List ℕ) → decodedIn form part ≡ record { kind = kindOf part; count = countOf part; fields = fieldsOf part; days = decodedIn form part .days }
-decoded-fields Old part = refl
-decoded-fields New part = refl
-
 pub part-fits : (form : Form) (part : List ℕ) → Bytes part → Fits form (decodedIn form part)
 part-fits form part b =
     let all : Below 65536 (fieldsOf part) =
@@ -114,7 +110,7 @@ part-fits form part b =
     (one-more (sixteen-bits (b 8) (b 9)) (one-more (sixteen-bits (b 10) (b 11)) (one-more (sixteen-bits (b 12) (b 13))
     (one-more (sixteen-bits (b 14) (b 15)) (no-elements 65536 (omega arith))))))))
     in
-    rw (decoded-fields form part) (record { kindByte = b 0; countByte = b 1; sevenFields = refl; fieldsBits = all .at; daysFit = days-fit form part b })
+    rw (decoded-parts form part) (record { kindByte = b 0; countByte = b 1; sevenFields = refl; fieldsBits = all .at; daysFit = days-fit form part b })
 
 -- ── A whole file ──
 

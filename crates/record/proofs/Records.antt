@@ -41,6 +41,10 @@ decoded-seven Old part = refl
 decoded-seven New part = refl
 
 -- Byte 0, byte 1 and the fields are read alike in both forms.
+pub decoded-parts : (form : Form) (part : List ℕ) → decodedIn form part ≡ record { kind = kindOf part; count = countOf part; fields = fieldsOf part; days = decodedIn form part .days }
+decoded-parts Old part = refl
+decoded-parts New part = refl
+
 pub decoded-kind : (form : Form) (part : List ℕ) → decodedIn form part .kind ≡ kindOf part
 decoded-kind Old part = refl
 decoded-kind New part = refl

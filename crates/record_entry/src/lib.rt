@@ -12,6 +12,7 @@ use following::nodes::Nodes;
 use ranges::application_in_range;
 use ranges::symbol_in_range;
 use ranges::variable_in_range;
+use record::Form;
 use record::count;
 use record::field;
 use record_fields::fields;
@@ -19,7 +20,7 @@ use row_entry::enter_row;
 use tables::set_cell;
 ghost use mathlib.Core.Path.{_≡_};
 ghost use Prim.Native.Nat.{_≤_, _<_};
-ghost use Rattle.record.specs.Record.{countOf};
+ghost use Rattle.record.specs.Record.{inForm, countOf};
 ghost use Rattle.distinct.specs.Index.{Indexed};
 ghost use Rattle.entry.specs.Program.{RowsIndexed, rowsAfter, symbolLeft, symbolEntered, rowLeft, variableEntered, applicationThere, applicationEntered};
 
@@ -63,11 +64,11 @@ pub fn variable_record(
 }
 
 // Reason 5 for an application: its symbol exists and has as many arguments, and its argument rows exist.
-fn application_there(file: &[u8], part: &[u8], counts: Counts, symbols: &[u16]) -> bool
+fn application_there(form: Form, file: &[u8], part: &[u8], counts: Counts, symbols: &[u16]) -> bool
     requires { ⌜ countOf (now part) ≤ 6 ⌝ }
-    ensures { λ b. ⌜ b ≡ applicationThere (now (file .entry)) (now (part .entry)) counts (now (symbols .entry)) ⌝ }
+    ensures { λ b. ⌜ b ≡ applicationThere (inForm form (now (file .entry))) (now (part .entry)) counts (now (symbols .entry)) ⌝ }
 {
-    match arity_in(file, symbols, counts.symbols, field(part, 0)) {
+    match arity_in(form, file, symbols, counts.symbols, field(part, 0)) {
         Arity::Is(a) => {
             if a == count(part) {
                 arguments_below(part, counts.rows)
@@ -81,6 +82,7 @@ fn application_there(file: &[u8], part: &[u8], counts: Counts, symbols: &[u16]) 
 
 // Kind 3. An application's code in the node table is 2 more than the number of its arguments, each of which is taken as the earliest equal row.
 pub fn application_record(
+    form: Form,
     file: &[u8],
     part: &[u8],
     k: u16,
@@ -92,13 +94,13 @@ pub fn application_record(
     links: &mut Links,
 ) -> Entered
     requires { ⌜ RowsIndexed (now nodes) counts (now heads) (now links) ⌝ }
-    ensures { λ e. ⌜ rowLeft e (now (rows .exit)) (now (nodes .exit)) ≡ applicationEntered (now (file .entry)) (now (part .entry)) k counts (now (symbols .entry)) (now (rows .entry)) (now (nodes .entry)) ⌝ }
+    ensures { λ e. ⌜ rowLeft e (now (rows .exit)) (now (nodes .exit)) ≡ applicationEntered (inForm form (now (file .entry))) (now (part .entry)) k counts (now (symbols .entry)) (now (rows .entry)) (now (nodes .entry)) ⌝ }
     ensures { λ e. ⌜ Indexed (now (nodes .exit)) (rowsAfter counts e) (now (heads .exit)) (now (links .exit)) ⌝ }
 {
     if !application_in_range(part) {
         return Entered::Refused(4);
     }
-    if !application_there(file, part, counts, symbols) {
+    if !application_there(form, file, part, counts, symbols) {
         return Entered::Refused(5);
     }
     let code = 2 + (count(part) as u16);

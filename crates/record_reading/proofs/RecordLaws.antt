@@ -4,7 +4,7 @@ use mathlib.Core.List.{List}
 use Prim.Native.Nat.{ℕ, _<_}
 use native.Mathlib.Omega.{arith}
 use lib.ListN.{length, length-map}
-use Rattle.record.specs.Record.{Record, Kind, recordPart, kindOf, decoded, otherKind, kindNumbered}
+use Rattle.record.specs.Record.{File, Record, Kind, recordPart, kindOf, decoded, otherKind, kindNumbered}
 use Rattle.unification.specs.Row.{Row}
 use Rattle.distinct.specs.Index.{Indexed}
 use Rattle.entry.specs.Program.{RowsReady, RowsIndexed, rowsAfter, symbolLeft, symbolEntered, rowLeft, variableEntered, applicationEntered, inputLeft, inputEntered}
@@ -27,7 +27,7 @@ use Rattle.entry.specs.declared.entry.Counts.{Counts}
 use Rattle.entry.specs.declared.entry.Entered.{Entered}
 use Rattle.entry.specs.declared.entry.Entered.the-variants.{Stands, Refused}
 
-module _ {F : List ℕ} {k : ℕ} {n : Counts} {here : Tables} {N O A : List ℕ} (R : Reading F k n here N O A) where
+module _ {F : File} {k : ℕ} {n : Counts} {here : Tables} {N O A : List ℕ} (R : Reading F k n here N O A) where
   abbrev S : State
   S = R .state
 
@@ -63,7 +63,7 @@ module _ {F : List ℕ} {k : ℕ} {n : Counts} {here : Tables} {N O A : List ℕ
       let count : n .rows ≡ m .rows = ap (λ (c : Counts). c .rows) (R .kept .counts) ∙ sym (length-map (S .rows) (λ (w : ℕ × Row). w .1)) ∙ sym (ap length rows) ∙ length-map (z .0 .rows) (λ (w : ℕ × Row). w .1) ∙ sym (ap (λ (c : Counts). c .rows) (z .2 .counts)) in
       subst (λ (x : ℕ). Indexed N x H L) count I
 
-module _ {F : List ℕ} {k : ℕ} {n : Counts} {s r C B N O A : List ℕ} (R : Reading F k n (tablesWith s r C B) N O A) where
+module _ {F : File} {k : ℕ} {n : Counts} {s r C B N O A : List ℕ} (R : Reading F k n (tablesWith s r C B) N O A) where
   pub before-step : BeforeStep F k n C B N O A
   before-step = record { inside = R .inside; tablesBefore = R .tablesBefore; state = R .state; symbols = s; rows = r; kept = R .kept }
 

@@ -8,17 +8,19 @@ use following::values::ValueCells;
 use inference::Atom;
 use inference::named_literal;
 use named_literals::NamedLiteral;
+use record::Form;
 use record::record_part;
 use record_fields::fields;
 use resolvents::resolve_atoms;
 use rights::refused_rights;
 use step_fields::right_count;
 use step_fields::rights_rise;
-ghost use Rattle.record.specs.Record.{recordPart, kindOf};
+ghost use Rattle.record.specs.Record.{inForm, recordPart, kindOf};
 ghost use Rattle.inference.specs.Stepping.{BeforeStep, ResolveKind, StepRead};
 
 // A resolve of kind 5 or 7: the tests in the order of their numbers, 14 before 8. The right literals are listed as they are looked up.
 pub fn resolve_record(
+    form: Form,
     file: &[u8],
     k: u16,
     counts: Counts,
@@ -28,11 +30,11 @@ pub fn resolve_record(
     origins: &mut Origins,
     values: &mut ValueCells,
 ) -> Entered
-    requires { ⌜ BeforeStep (now file) k counts (now clauses) (now bindings) (now nodes) (now origins) (now values) ⌝ }
-    requires { ⌜ ResolveKind (kindOf (recordPart (now file) k)) ⌝ }
-    ensures { λ e. ⌜ ((E : BeforeStep (now (file .entry)) k counts (now (clauses .entry)) (now (bindings .entry)) (now (nodes .entry)) (now (origins .entry)) (now (values .entry))) → StepRead (now (file .entry)) k counts (now (clauses .entry)) (now (bindings .entry)) (now (nodes .entry)) (now (origins .entry)) (now (values .entry)) E (now (clauses .exit)) (now (bindings .exit)) (now (origins .exit)) (now (values .exit)) e) ⌝ }
+    requires { ⌜ BeforeStep (inForm form (now file)) k counts (now clauses) (now bindings) (now nodes) (now origins) (now values) ⌝ }
+    requires { ⌜ ResolveKind (kindOf (recordPart (inForm form (now file)) k)) ⌝ }
+    ensures { λ e. ⌜ ((E : BeforeStep (inForm form (now (file .entry))) k counts (now (clauses .entry)) (now (bindings .entry)) (now (nodes .entry)) (now (origins .entry)) (now (values .entry))) → StepRead (inForm form (now (file .entry))) k counts (now (clauses .entry)) (now (bindings .entry)) (now (nodes .entry)) (now (origins .entry)) (now (values .entry)) E (now (clauses .exit)) (now (bindings .exit)) (now (origins .exit)) (now (values .exit)) e) ⌝ }
 {
-    let part = record_part(file, k as usize);
+    let part = record_part(form, file, k as usize);
     let n = right_count(part);
     if n == 0 {
         return Entered::Refused(4);

@@ -9,7 +9,7 @@ use lib.Dec.{eqb, leb}
 use lib.ListN.{length, getD, replicate}
 use lib.Seq.{getD-append-add}
 use borrow.Author.Tests.{eq-eqb, ne-eqb}
-use Rattle.record.specs.Record.{pick, Record, recordCount, recordPart, fieldOf, decoded, windowKind}
+use Rattle.record.specs.Record.{pick, File, Record, recordCount, recordPart, fieldOf, decoded, windowKind}
 use Rattle.derivation.specs.Derivation.{Derivation}
 use Rattle.derivation.specs.Stored.{originCode, originList, Stored, storedInput, storedResolve, storedFactor}
 use Rattle.entry.specs.Progress.{Kept, Next}
@@ -34,7 +34,7 @@ stored-input {O} {c = c} (storedInput e p q) = eq-eqb (originCode O c) 1 e
 stored-input {O} {c = c} (storedResolve {ns = ns} e a b l s p m u r q) = ne-eqb (originCode O c) 1 (λ z. omega arith)
 stored-input {O} {c = c} (storedFactor e l s p q r) = ne-eqb (originCode O c) 1 (λ z. omega arith)
 
-module _ (F : List ℕ) (t : Tables) (k : ℕ) (S : State) (n : Counts) (here : Tables) (N O A : List ℕ) (K : Kept F t k S n here N O A) (l : k < recordCount F) where
+module _ (F : File) (t : Tables) (k : ℕ) (S : State) (n : Counts) (here : Tables) (N O A : List ℕ) (K : Kept F t k S n here N O A) (l : k < recordCount F) where
   few : k ≤ recordCount F
   few = omega arith
 

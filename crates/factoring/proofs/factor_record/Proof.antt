@@ -6,11 +6,11 @@ use Rattle.factoring.proofs.factor_record.Tie as tie
 use Rattle.factoring.proofs.factor_record.Reads as reads
 use Rattle.factoring.proofs.factor_record.Lts as lts
 use Rattle.factors.proofs.factor_atoms.Reads as factor-atoms-reads
-use Rattle.step_fields.proofs.step_in_range.Reads as step-in-range-reads
 use Rattle.inference.proofs.named_pair.Reads as named-pair-reads
 use Rattle.inference.proofs.same_sign.Reads as same-sign-reads
-use Rattle.record_fields.proofs.fields.Reads as fields-reads
 use Rattle.record.proofs.record_part.Reads as record-part-reads
+use Rattle.record_fields.proofs.fields.Reads as fields-reads
+use Rattle.step_fields.proofs.step_in_range.Reads as step-in-range-reads
 
 record-part-requires : tie.Need-record-part-requires
 record-part-requires c κs = search needs

@@ -3,7 +3,7 @@ use mathlib.Core.Path.{_≡_, sym, _∙_}
 use mathlib.Core.List.{List, [], _∷_}
 use Prim.Native.Nat.{ℕ}
 use borrow.Author.Tests.{eq-eqb, ne-eqb}
-use Rattle.record.specs.Record.{recordPart, kindOf, countOf, fieldsOf}
+use Rattle.record.specs.Record.{File, recordPart, kindOf, countOf, fieldsOf}
 use Rattle.record_fields.specs.declared.ClauseLiterals.{ClauseLiterals}
 use Rattle.record_fields.specs.Reader.{clauseLiterals}
 use borrow.Author.Needs.{needs}
@@ -17,14 +17,14 @@ use Rattle.record.proofs.kind.Reads as kind-reads
 use Rattle.record.proofs.record_part.Reads as record-part-reads
 
 -- A record of kind 4: its count and its fields, as the code has them.
-filled : (file : List ℕ) (k : ℕ) {part : List ℕ} {kind n : ℕ} {ns : List ℕ}
+filled : (file : File) (k : ℕ) {part : List ℕ} {kind n : ℕ} {ns : List ℕ}
     → part ≡ recordPart file k → kind ≡ kindOf part → kind ≡ 4 → n ≡ countOf part → ns ≡ fieldsOf part
     → _≡_ {A = ClauseLiterals} (record { count = n; numbers = ns }) (clauseLiterals file k)
 unfolding clauseLiterals
 filled file k p q four n ns = rw (← p, eq-eqb _ _ (sym q ∙ four), n, ns)
 
 -- A record of another kind, or none: zeros.
-zeros : (file : List ℕ) (k : ℕ) {part : List ℕ} {kind : ℕ} → part ≡ recordPart file k → kind ≡ kindOf part → (kind ≡ 4 → ⊥)
+zeros : (file : File) (k : ℕ) {part : List ℕ} {kind : ℕ} → part ≡ recordPart file k → kind ≡ kindOf part → (kind ≡ 4 → ⊥)
     → _≡_ {A = ClauseLiterals} (record { count = 0; numbers = 0 ∷ 0 ∷ 0 ∷ 0 ∷ 0 ∷ 0 ∷ 0 ∷ [] }) (clauseLiterals file k)
 unfolding clauseLiterals
 zeros file k p q other = rw (← p, ne-eqb _ _ (λ e. other (q ∙ e)))

@@ -8,13 +8,13 @@ use Rattle.resolution.proofs.resolve_record.Statement.{statement}
 use Rattle.resolution.proofs.resolve_record.Tie as tie
 use Rattle.resolution.proofs.resolve_record.Reads as reads
 use Rattle.resolution.proofs.resolve_record.Lts as lts
+use Rattle.inference.proofs.named_literal.Reads as named-literal-reads
+use Rattle.record.proofs.record_part.Reads as record-part-reads
+use Rattle.record_fields.proofs.fields.Reads as fields-reads
+use Rattle.resolvents.proofs.resolve_atoms.Reads as resolve-atoms-reads
+use Rattle.rights.proofs.refused_rights.Reads as refused-rights-reads
 use Rattle.step_fields.proofs.right_count.Reads as right-count-reads
 use Rattle.step_fields.proofs.rights_rise.Reads as rights-rise-reads
-use Rattle.inference.proofs.named_literal.Reads as named-literal-reads
-use Rattle.rights.proofs.refused_rights.Reads as refused-rights-reads
-use Rattle.record_fields.proofs.fields.Reads as fields-reads
-use Rattle.record.proofs.record_part.Reads as record-part-reads
-use Rattle.resolvents.proofs.resolve_atoms.Reads as resolve-atoms-reads
 
 record-part-requires : tie.Need-record-part-requires
 record-part-requires c κs = search needs
