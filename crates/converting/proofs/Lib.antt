@@ -1,0 +1,13 @@
+pub mod CasesProved
+pub mod KindsDated
+pub mod StatesAlike
+pub mod Stepping
+pub mod Days
+pub mod ReadNew
+pub mod ReadOld
+pub mod ConvertedStands
+pub mod SameAnswers
+pub mod RoundTrip
+pub mod WindowsPlaced
+pub mod ConvertedBytes
+pub mod ConversionShown

@@ -1,0 +1,4 @@
+pub mod Converting
+pub mod Cases
+pub mod Answer
+pub mod Promised
