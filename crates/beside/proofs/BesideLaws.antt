@@ -137,13 +137,13 @@ days-plain New part e n S k = try (beside part)
     try (daysZero p l h o z) = days-pass S k part l h o (kindOfRecord (decodedIn New part)) (of-kind (decodedIn New part) _ refl) refl (same-kind S k part l h o) z
     try (isInput p z) = absurd (n z)
 
--- A window is only in the old form.
-pub window-old : (form : Form) (part : List ℕ) → 0 ≡ refusedDays form part → kindOf part ≡ 8 → form ≡ Old
-window-old Old part e z = refl
-window-old New part e z = try (beside part)
+-- Where it is 0, the kind is that of byte 0.
+pub days-kind : (form : Form) (part : List ℕ) → 0 ≡ refusedDays form part → kindOfRecord (decodedIn form part) ≡ kindNumbered (kindOf part)
+days-kind Old part e = refl
+days-kind New part e = kind-at (decodedIn New part) (kindOf part) refl (ne-eqb (kindOf part) 8 (not-window (beside part)))
   where
-    try : Beside part (refusedNewDays part) → New ≡ Old
-    try (noKind p u) = absurd (let y = e ∙ p in omega arith)
-    try (daysThere p l h o y) = absurd (omega arith)
-    try (daysZero p l h o y) = absurd (omega arith)
-    try (isInput p y) = absurd (omega arith)
+    not-window : Beside part (refusedNewDays part) → kindOf part ≡ 8 → ⊥
+    not-window (noKind p u) z = let y = e ∙ p in omega arith
+    not-window (daysThere p l h o y) z = omega arith
+    not-window (daysZero p l h o y) z = omega arith
+    not-window (isInput p y) z = omega arith

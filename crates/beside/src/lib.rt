@@ -18,7 +18,7 @@ pub fn days_in_order(form: Form, part: &[u8]) -> bool
 }
 
 // The number for which a record of the new form is refused by its kind or its days, 0 for none.
-fn refused_new_days(part: &[u8]) -> u16
+fn refused_new_days(part: &[u8]) -> u8
     ensures { λ q. ⌜ q ≡ refusedNewDays (now (part .entry)) ⌝ }
 {
     let tag = kind(part);
@@ -38,7 +38,7 @@ fn refused_new_days(part: &[u8]) -> u16
 }
 
 // The same of either form: in the old one there is none.
-pub fn refused_days(form: Form, part: &[u8]) -> u16
+pub fn refused_days(form: Form, part: &[u8]) -> u8
     ensures { λ q. ⌜ q ≡ refusedDays form (now (part .entry)) ⌝ }
 {
     match form {

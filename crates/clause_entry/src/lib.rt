@@ -1,5 +1,6 @@
 // Records of kind 4: an input clause is tested in the order of the numbers that it can be refused with, and then entered in the tables. `Program`
 // in specs/ of the crate entry has the contract.
+use beside::days_in_order;
 use entry::entry::Counts;
 use entry::entry::Entered;
 use entry::rows::no_variable;
@@ -8,7 +9,6 @@ use entry::rows::taken_literals;
 use fields::literal_rows_below;
 use following::nodes::Nodes;
 use following::nodes::Origins;
-use beside::days_in_order;
 use ranges::input_in_range;
 use record::Form;
 use record::record_part;

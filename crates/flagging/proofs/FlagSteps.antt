@@ -6,40 +6,86 @@ use Prim.Native.Nat.{ℕ, suc, _+_, _≤_, _<_}
 use native.Mathlib.Numerals.{add-one}
 use native.Mathlib.Omega.{arith}
 use lib.Dec.{eqb, leb}
-use lib.ListN.{length, getD, set, length-set}
+use lib.ListN.{getD, set, take}
 use borrow.Author.Tests.{eq-eqb, ne-eqb, le-leb, lt-leb}
-use Rattle.record.specs.Record.{pick, File, recordPart, kindOf, fieldOf}
+use Rattle.record.specs.Record.{pick, File, records, recordCount, recordPart, kindOf, fieldOf, decoded, decodedIn, recordAt}
+use Rattle.record.proofs.Records.{decoded-kind}
 use Rattle.unification.specs.Nodes.{part}
 use Rattle.derivation.specs.Stored.{originCode}
+use Rattle.demands.specs.Demands.{clausesOf, clausesIn}
+use Rattle.force.proofs.FlagLaws.{clauses-up-to}
 use Rattle.force.specs.Flags.{dayFlag, withRecord, flagsAfter, flagFrom, withFlag, derivedFlags}
+use Rattle.record.specs.declared.Form.{Form}
+use Rattle.record.specs.declared.Form.the-variants.{Old, New}
 
--- The flag of a window on a day: before its first day, after its last, and between.
-module _ (day : ℕ) (p : List ℕ) {first : ℕ} (isFirst : first ≡ fieldOf p 1) where
-  pub before-first : day < first → 0 ≡ dayFlag day p
-  before-first l = sym (ap (λ (x : Bool). pick (x && leb day (fieldOf p 2)) 1 0) (lt-leb (fieldOf p 1) day (subst (λ (n : ℕ). day < n) isFirst l)))
+-- The flag of a first and a last day on a day: before the first, after the last, and between.
+module _ (day first last : ℕ) where
+  pub before-first : day < first → 0 ≡ dayFlag day first last
+  before-first l = sym (ap (λ (x : Bool). pick (x && leb day last) 1 0) (lt-leb first day l))
 
-  module _ {last : ℕ} (isLast : last ≡ fieldOf p 2) (begun : first ≤ day) where
-    has-begun : leb (fieldOf p 1) day ≡ true
-    has-begun = le-leb (fieldOf p 1) day (subst (λ (n : ℕ). n ≤ day) isFirst begun)
+  pub after-last : first ≤ day → last < day → 0 ≡ dayFlag day first last
+  after-last b l = sym (ap₂ (λ (x y : Bool). pick (x && y) 1 0) (le-leb first day b) (lt-leb day last l))
 
-    pub after-last : last < day → 0 ≡ dayFlag day p
-    after-last l = sym (ap₂ (λ (x y : Bool). pick (x && y) 1 0) has-begun (lt-leb day (fieldOf p 2) (subst (λ (n : ℕ). n < day) isLast l)))
+  pub between : first ≤ day → day ≤ last → 1 ≡ dayFlag day first last
+  between b l = sym (ap₂ (λ (x y : Bool). pick (x && y) 1 0) (le-leb first day b) (le-leb day last l))
 
-    pub between : day ≤ last → 1 ≡ dayFlag day p
-    between l = sym (ap₂ (λ (x y : Bool). pick (x && y) 1 0) has-begun (le-leb day (fieldOf p 2) (subst (λ (n : ℕ). day ≤ n) isLast l)))
-
--- A record that is a window, and one that is none.
-module _ (day : ℕ) (p L : List ℕ) {kind : ℕ} (isKind : kind ≡ kindOf p) where
-  pub window-put : {c f : ℕ} {M : List ℕ} → kind ≡ 8 → c ≡ fieldOf p 0 → f ≡ dayFlag day p → M ≡ set L c f → M ≡ withRecord day p L
+-- A record of a form, that gives days and that gives none.
+module _ (form : Form) (day n : ℕ) (p L : List ℕ) {kind : ℕ} (isKind : kind ≡ kindOf p) where
+  pub window-put : {c x y f : ℕ} {M : List ℕ} → form ≡ Old → kind ≡ 8 → x ≡ fieldOf p 1 → y ≡ fieldOf p 2 → f ≡ dayFlag day x y → c ≡ fieldOf p 0 → M ≡ set L c f → M ≡ withRecord day n (decodedIn form p) L
   unfolding withRecord
-  window-put e n g q = q ∙ ap₂ (set L) n g ∙ sym (ap (λ (b : Bool). pick b (set L (fieldOf p 0) (dayFlag day p)) L) (eq-eqb (kindOf p) 8 (sym isKind ∙ e)))
+  window-put o e a b g m q =
+      q ∙ ap₂ (set L) m (g ∙ ap₂ (dayFlag day) a b)
+      ∙ sym (ap (λ (z : Bool). pick z (set L (fieldOf p 0) (dayFlag day (fieldOf p 1) (fieldOf p 2))) L) (eq-eqb (kindOf p) 8 (sym isKind ∙ e)))
+      ∙ sym (ap (λ (t : Form). withRecord day n (decodedIn t p) L) o)
 
-  pub none-put : ¬ (kind ≡ 8) → L ≡ withRecord day p L
+  pub no-window : form ≡ Old → ¬ (kind ≡ 8) → L ≡ withRecord day n (decodedIn form p) L
   unfolding withRecord
-  none-put e = sym (ap (λ (b : Bool). pick b (set L (fieldOf p 0) (dayFlag day p)) L) (ne-eqb (kindOf p) 8 (λ q. e (isKind ∙ q))))
+  no-window o e =
+      sym (ap (λ (z : Bool). pick z (set L (fieldOf p 0) (dayFlag day (fieldOf p 1) (fieldOf p 2))) L) (ne-eqb (kindOf p) 8 (λ q. e (isKind ∙ q))))
+      ∙ sym (ap (λ (t : Form). withRecord day n (decodedIn t p) L) o)
 
-pub record-more : (day : ℕ) (F : File) (k : ℕ) (L : List ℕ) {M M′ p : List ℕ} → p ≡ recordPart F k → M ≡ flagsAfter day F k L → M′ ≡ withRecord day p M → M′ ≡ flagsAfter day F (k + 1) L
-record-more day F k L e q r = r ∙ ap₂ (withRecord day) e q ∙ ap (λ (n : ℕ). flagsAfter day F n L) (sym (add-one k))
+  pub clause-put : {x y f : ℕ} {M : List ℕ} → form ≡ New → kind ≡ 4 → x ≡ fieldOf p 7 → y ≡ fieldOf p 8 → f ≡ dayFlag day x y → M ≡ set L n f → M ≡ withRecord day n (decodedIn form p) L
+  unfolding withRecord
+  clause-put o e a b g q =
+      q ∙ ap (set L n) (g ∙ ap₂ (dayFlag day) a b)
+      ∙ sym (ap (λ (z : Bool). pick z (set L n (dayFlag day (fieldOf p 7) (fieldOf p 8))) L) (eq-eqb (kindOf p) 4 (sym isKind ∙ e)))
+      ∙ sym (ap (λ (t : Form). withRecord day n (decodedIn t p) L) o)
+
+  pub no-clause : form ≡ New → ¬ (kind ≡ 4) → L ≡ withRecord day n (decodedIn form p) L
+  unfolding withRecord
+  no-clause o e =
+      sym (ap (λ (z : Bool). pick z (set L n (dayFlag day (fieldOf p 7) (fieldOf p 8))) L) (ne-eqb (kindOf p) 4 (λ q. e (isKind ∙ q))))
+      ∙ sym (ap (λ (t : Form). withRecord day n (decodedIn t p) L) o)
+
+-- How many clauses a record makes.
+module _ (p : List ℕ) {kind : ℕ} (isKind : kind ≡ kindOf p) where
+  pub makes-none-low : kind < 4 → 0 ≡ clausesOf (decoded p)
+  makes-none-low l = rw (← isKind, lt-leb 4 kind l)
+
+  pub makes-none-high : 4 ≤ kind → 7 < kind → 0 ≡ clausesOf (decoded p)
+  makes-none-high l h = rw (← isKind, le-leb 4 kind l, lt-leb kind 7 h)
+
+  pub makes-one : 4 ≤ kind → kind ≤ 7 → 1 ≡ clausesOf (decoded p)
+  makes-one l h = rw (← isKind, le-leb 4 kind l, le-leb kind 7 h)
+
+-- One record more.
+module _ (F : File) (k : ℕ) {p : List ℕ} (isPart : p ≡ recordPart F k) where
+  makes : clausesOf (decoded p) ≡ clausesOf (recordAt F k)
+  makes = ap (λ (m : ℕ). pick (leb 4 m && leb m 7) 1 0) (ap kindOf isPart ∙ sym (decoded-kind (F .form) (recordPart F k)))
+
+  pub at-most-one : {d : ℕ} → d ≡ clausesOf (decoded p) → d ≤ 1
+  at-most-one e = try (leb 4 (kindOf p) && leb (kindOf p) 7) e
+    where
+      try : (b : Bool) {d : ℕ} → d ≡ pick b 1 0 → d ≤ 1
+      try true q = omega arith
+      try false q = omega arith
+
+  pub clauses-more : {c d : ℕ} → k < recordCount F → c ≡ clausesIn (take k (records F)) → d ≡ clausesOf (decoded p) → c + d ≡ clausesIn (take (k + 1) (records F))
+  clauses-more l q e = ap₂ _+_ q (e ∙ makes) ∙ sym (clauses-up-to F k l) ∙ ap (λ (n : ℕ). clausesIn (take n (records F))) (sym (add-one k))
+
+  pub record-more : (day : ℕ) (L : List ℕ) {M M′ : List ℕ} {c : ℕ} → c ≡ clausesIn (take k (records F)) → M ≡ flagsAfter day F k L → M′ ≡ withRecord day c (decodedIn (F .form) p) M → M′ ≡ flagsAfter day F (k + 1) L
+  record-more day L n q r =
+      r ∙ (λ i. withRecord day (n i) (decodedIn (F .form) (isPart i)) (q i)) ∙ ap (λ (m : ℕ). flagsAfter day F m L) (sym (add-one k))
 
 -- The flag of a clause, by the code of its origin.
 module _ (O L : List ℕ) (c : ℕ) {code : ℕ} (isCode : code ≡ originCode O c) where

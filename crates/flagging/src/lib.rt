@@ -2,42 +2,70 @@
 use clauses::origin_code;
 use following::nodes::Origins;
 use following::nodes::part_of;
+use record::Form;
 use record::field;
 use record::kind;
+use record::record_count;
 use record::record_part;
 use tables::cell;
 use tables::set_cell;
 ghost use mathlib.Core.Path.{_≡_};
 ghost use lib.ListN.{length};
 ghost use Rattle.force.specs.Flags.{dayFlag, withRecord, flagsAfter, flagFrom, derivedFlags, flagsInForce};
-ghost use Rattle.record.specs.Record.{recordCount};
+ghost use Rattle.record.specs.Record.{inForm, recordCount, decoded, decodedIn};
+ghost use Rattle.demands.specs.Demands.{clausesOf};
 
-// The flag that a window gives on a day: both its days are included.
-fn day_flag(day: u16, part: &[u8]) -> u16
-    ensures { λ r. ⌜ r ≡ dayFlag day (now (part .entry)) ⌝ }
+// The flag that a first and a last day give on a day: both are included.
+fn day_flag(day: u16, first: u16, last: u16) -> u16
+    ensures { λ r. ⌜ r ≡ dayFlag day first last ⌝ }
 {
-    if day < field(part, 1) {
+    if day < first {
         return 0;
     }
-    if field(part, 2) < day { 0 } else { 1 }
+    if last < day { 0 } else { 1 }
 }
 
-// The flags after a record: a window sets that of its clause, whatever it was.
-fn put_window(day: u16, part: &[u8], flags: &mut [u16])
-    ensures { λ _. ⌜ now (flags .exit) ≡ withRecord day (now (part .entry)) (now (flags .entry)) ⌝ }
+// The flags after a record, where c clauses stand before it: a window sets that of its clause, whatever it was, and in the new form an input clause its own.
+fn put_days(form: Form, day: u16, part: &[u8], c: usize, flags: &mut [u16])
+    ensures { λ _. ⌜ now (flags .exit) ≡ withRecord day c (decodedIn form (now (part .entry))) (now (flags .entry)) ⌝ }
 {
-    if kind(part) == 8 {
-        set_cell(flags, field(part, 0) as usize, day_flag(day, part));
+    match form {
+        Form::Old => {
+            if kind(part) == 8 {
+                let flag = day_flag(day, field(part, 1), field(part, 2));
+                set_cell(flags, field(part, 0) as usize, flag);
+            }
+        }
+        Form::New => {
+            if kind(part) == 4 {
+                let flag = day_flag(day, field(part, 7), field(part, 8));
+                set_cell(flags, c, flag);
+            }
+        }
     }
 }
 
-// The flags of input clauses, by the windows of a file: the last one for a clause stays.
-fn put_windows(day: u16, file: &[u8], flags: &mut [u16])
-    ensures { λ _. ⌜ now (flags .exit) ≡ flagsAfter day (now (file .entry)) (recordCount (now (file .entry))) (now (flags .entry)) ⌝ }
+// How many clauses a record makes: one of kind 4 to 7 makes one.
+fn clauses_of(part: &[u8]) -> usize
+    ensures { λ n. ⌜ n ≡ clausesOf (decoded (now (part .entry))) ⌝ }
+{
+    let tag = kind(part);
+    if tag < 4 {
+        return 0;
+    }
+    if 7 < tag { 0 } else { 1 }
+}
+
+// The flags of input clauses, by the days that records give: the last ones for a clause stay.
+fn put_windows(form: Form, day: u16, file: &[u8], flags: &mut [u16])
+    ensures { λ _. ⌜ now (flags .exit) ≡ flagsAfter day (inForm form (now (file .entry))) (recordCount (inForm form (now (file .entry)))) (now (flags .entry)) ⌝ }
 {
     let mut k: usize = 0;
-    while k < file.len() / 16 {
-        put_window(day, record_part(file, k), flags);
+    let mut c: usize = 0;
+    while k < record_count(form, file) {
+        let part = record_part(form, file, k);
+        put_days(form, day, part, c, flags);
+        c += clauses_of(part);
         k += 1;
     }
 }
@@ -76,10 +104,10 @@ fn derived(origins: &Origins, count: u16, flags: &mut [u16])
 }
 
 // Which of so many clauses are in force on a day: by the windows of the file, and the clauses' parents. The flags are 1 before.
-pub fn in_force(day: u16, file: &[u8], origins: &Origins, count: u16, flags: &mut [u16])
+pub fn in_force(form: Form, day: u16, file: &[u8], origins: &Origins, count: u16, flags: &mut [u16])
     requires { ⌜ length (now origins) ≡ 32768 ⌝ }
-    ensures { λ _. ⌜ now (flags .exit) ≡ flagsInForce day (now (file .entry)) (now (origins .entry)) count (now (flags .entry)) ⌝ }
+    ensures { λ _. ⌜ now (flags .exit) ≡ flagsInForce day (inForm form (now (file .entry))) (now (origins .entry)) count (now (flags .entry)) ⌝ }
 {
-    put_windows(day, file, flags);
+    put_windows(form, day, file, flags);
     derived(origins, count, flags);
 }

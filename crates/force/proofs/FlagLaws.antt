@@ -1,88 +1,116 @@
 -- The flags of clauses say which derivations count on a day: those whose input clauses are all in force by the windows of the file.
 use mathlib.Core.Path.{_≡_, refl, sym, ap, ap₂, _∙_}
 use mathlib.Core.Bool.{Bool, true, false, _&&_, and-true, and-assoc}
-use mathlib.Core.Option.{some}
+use mathlib.Core.Option.{Option, none, some}
 use mathlib.Core.List.{List, [], _∷_, _++_}
 use Prim.Native.Nat.{ℕ, zero, suc, _+_, _≤_, _<_}
+use native.Mathlib.Nat.{zero-add}
 use native.Mathlib.Omega.{arith}
 use lib.Dec.{eqb}
 use lib.ListN.{length, getD, set, take, drop, replicate, length-set, length-replicate, getD-replicate}
 use lib.Seq.{getD-set-same, getD-set-other, take-length}
-use Rattle.record.specs.Record.{pick, File, Record, recordCount, recordPart, kindOf, fieldOf, decoded, records}
+use Rattle.record.specs.Record.{pick, File, Record, recordCount, recordAt, records}
 use Rattle.record.proofs.Records.{records-length, record-numbered}
 use Rattle.unification.specs.Nodes.{part}
 use Rattle.derivation.specs.Derivation.{Derivation, Use, uses}
 use Rattle.derivation.specs.Stored.{originCode, Stored, storedInput, storedResolve, storedFactor}
 use Rattle.verdict.specs.Force.{windowOf, within, inForce, allInForce, usesInForce}
 use Rattle.verdict.specs.State.{State, Window}
-use Rattle.verdict.specs.Step.{windowIn}
 use Rattle.verdict.specs.Verdict.{Stands}
 use Rattle.demands.proofs.Advance.{take-next}
-use Rattle.demands.proofs.InForceShown.{withWindowOf, windowsAfter, stands-windows}
+use Rattle.demands.specs.Demands.{clausesOf, clausesIn}
+use Rattle.demands.proofs.Dating.{givenBy, windowGiven, withGiven, windowsAfter, stands-windows}
 use Rattle.demands.proofs.RangeTests.{not-true, equal, unequal}
-use Rattle.force.specs.Flags.{dayFlag, withRecord, flagsAfter, flagFrom, withFlag, derivedFlags, flagsInForce}
+use Rattle.force.specs.Flags.{dayFlag, withDaysOf, withRecord, flagsAfter, flagFrom, withFlag, derivedFlags, flagsInForce}
 
 -- ── The flags that windows give ──
 
--- The windows that one record more leaves.
-windows-next : (ws : List Window) (rs : List Record) (r : Record) → windowsAfter ws (rs ++ (r ∷ [])) ≡ withWindowOf (windowsAfter ws rs) r
-windows-next ws [] r = refl
-windows-next ws (q ∷ rs) r = windows-next (withWindowOf ws q) rs r
+-- The clauses that one record more makes, and the windows that it leaves.
+clauses-next : (rs : List Record) (r : Record) → clausesIn (rs ++ (r ∷ [])) ≡ clausesIn rs + clausesOf r
+clauses-next [] r = let z : clausesOf r + 0 ≡ 0 + clausesOf r = omega arith in z
+clauses-next (q ∷ rs) r = let h = clauses-next rs r in omega arith
+
+windows-next : (n : ℕ) (ws : List Window) (rs : List Record) (r : Record) → windowsAfter n ws (rs ++ (r ∷ [])) ≡ withGiven (windowsAfter n ws rs) (windowGiven (n + clausesIn rs) r)
+windows-next n ws [] r = let z : n ≡ n + 0 = omega arith in ap (λ (m : ℕ). withGiven ws (windowGiven m r)) z
+windows-next n ws (q ∷ rs) r =
+    let z : n + clausesOf q + clausesIn rs ≡ n + (clausesOf q + clausesIn rs) = omega arith in
+    windows-next (n + clausesOf q) (withGiven ws (windowGiven n q)) rs r
+    ∙ ap (λ (m : ℕ). withGiven (windowsAfter (n + clausesOf q) (withGiven ws (windowGiven n q)) rs) (windowGiven m r)) z
+
+-- Up to record k: the clauses and the windows that this one adds.
+pub clauses-up-to : (F : File) (k : ℕ) → k < recordCount F → clausesIn (take (suc k) (records F)) ≡ clausesIn (take k (records F)) + clausesOf (recordAt F k)
+clauses-up-to F k m = ap clausesIn (take-next k (records F) (recordAt F k) (drop (suc k) (records F)) (record-numbered F k m)) ∙ clauses-next (take k (records F)) (recordAt F k)
+
+windows-up-to : (F : File) (k : ℕ) → k < recordCount F
+    → windowsAfter 0 [] (take (suc k) (records F)) ≡ withGiven (windowsAfter 0 [] (take k (records F))) (windowGiven (clausesIn (take k (records F))) (recordAt F k))
+windows-up-to F k m =
+    ap (windowsAfter 0 []) (take-next k (records F) (recordAt F k) (drop (suc k) (records F)) (record-numbered F k m))
+    ∙ windows-next 0 [] (take k (records F)) (recordAt F k)
+    ∙ ap (λ (n : ℕ). withGiven (windowsAfter 0 [] (take k (records F))) (windowGiven n (recordAt F k))) (zero-add (clausesIn (take k (records F))))
+
+-- A window sets the flag of its clause.
+flagSet : ℕ → Option Window → List ℕ → List ℕ
+flagSet day none L = L
+flagSet day (some w) L = set L (w .clause) (dayFlag day (w .first) (w .last))
+
+record-sets : (day n : ℕ) (r : Record) (L : List ℕ) → withRecord day n r L ≡ flagSet day (windowGiven n r) L
+unfolding withRecord flagSet
+record-sets day n r L = try (r .days) (eqb (r .kind) 8) refl (eqb (r .kind) 4) refl
+  where
+    try : (d : Option (ℕ × ℕ)) (a : Bool) → eqb (r .kind) 8 ≡ a → (b : Bool) → eqb (r .kind) 4 ≡ b → withDaysOf day n r d L ≡ flagSet day (givenBy n r d) L
+    try none true p b q = rw p refl
+    try none false p b q = rw p refl
+    try (some d) a p true q = rw q refl
+    try (some d) a p false q = rw q refl
 
 -- A record keeps how many flags there are, and so do all.
-record-length : (day : ℕ) (p L : List ℕ) → length (withRecord day p L) ≡ length L
-unfolding withRecord
-record-length day p L = try _ (eqb (kindOf p) 8)
-  where
-    try : (v : ℕ) (b : Bool) → length (pick b (set L (fieldOf p 0) v) L) ≡ length L
-    try v true = length-set L (fieldOf p 0) v
-    try v false = refl
+set-length : (day : ℕ) (o : Option Window) (L : List ℕ) → length (flagSet day o L) ≡ length L
+unfolding flagSet
+set-length day none L = refl
+set-length day (some w) L = length-set L (w .clause) (dayFlag day (w .first) (w .last))
+
+record-length : (day n : ℕ) (r : Record) (L : List ℕ) → length (withRecord day n r L) ≡ length L
+record-length day n r L = ap length (record-sets day n r L) ∙ set-length day (windowGiven n r) L
 
 after-length : (day : ℕ) (F : File) (k : ℕ) (L : List ℕ) → length (flagsAfter day F k L) ≡ length L
 after-length day F zero L = refl
-after-length day F (suc k) L = record-length day (recordPart F k) (flagsAfter day F k L) ∙ after-length day F k L
+after-length day F (suc k) L = record-length day (clausesIn (take k (records F))) (recordAt F k) (flagsAfter day F k L) ∙ after-length day F k L
 
--- Where the flag of clause n says whether it is in force by the windows, it does so after one record more.
-record-flag : (day : ℕ) (p L : List ℕ) (ws : List Window) (n : ℕ) → n < length L → getD L n 0 ≡ pick (inForce ws day n) 1 0
-    → getD (withRecord day p L) n 0 ≡ pick (inForce (withWindowOf ws (decoded p)) day n) 1 0
-unfolding withRecord
-record-flag day p L ws n l h = try (eqb (kindOf p) 8)
+-- Where the flag of clause n says whether it is in force by the windows, it does so after one window more.
+set-flag : (day : ℕ) (o : Option Window) (L : List ℕ) (ws : List Window) (n : ℕ) → n < length L → getD L n 0 ≡ pick (inForce ws day n) 1 0
+    → getD (flagSet day o L) n 0 ≡ pick (inForce (withGiven ws o) day n) 1 0
+unfolding flagSet
+set-flag day none L ws n l h = h
+set-flag day (some w) L ws n l h = dated (eqb (w .clause) n) refl
   where
     -- A window sets the flag of its own clause, and no other.
-    dated : (b : Bool) → eqb (fieldOf p 0) n ≡ b
-        → getD (set L (fieldOf p 0) (dayFlag day p)) n 0 ≡ pick (within day (pick b (some (windowIn (decoded p))) (windowOf ws n))) 1 0
-    dated true q =
-        ap (λ (i : ℕ). getD (set L i (dayFlag day p)) n 0) (equal (fieldOf p 0) n q) ∙ getD-set-same L n (dayFlag day p) 0 l
-    dated false q = getD-set-other L (fieldOf p 0) n (dayFlag day p) 0 (λ e. unequal (fieldOf p 0) n q (sym e)) ∙ h
-
-    try : (b : Bool) → getD (pick b (set L (fieldOf p 0) (dayFlag day p)) L) n 0
-        ≡ pick (inForce (pick b (windowIn (decoded p) ∷ ws) ws) day n) 1 0
-    try true = dated (eqb (fieldOf p 0) n) refl
-    try false = h
+    dated : (b : Bool) → eqb (w .clause) n ≡ b → getD (set L (w .clause) (dayFlag day (w .first) (w .last))) n 0 ≡ pick (within day (pick b (some w) (windowOf ws n))) 1 0
+    dated true q = ap (λ (i : ℕ). getD (set L i (dayFlag day (w .first) (w .last))) n 0) (equal (w .clause) n q) ∙ getD-set-same L n (dayFlag day (w .first) (w .last)) 0 l
+    dated false q = getD-set-other L (w .clause) n (dayFlag day (w .first) (w .last)) 0 (λ e. unequal (w .clause) n q (sym e)) ∙ h
 
 -- So the flags after k records go by the windows that these leave.
 dated-up-to : (day size : ℕ) (F : File) (n : ℕ) → n < size → (k : ℕ) → k ≤ recordCount F
-    → getD (flagsAfter day F k (replicate size 1)) n 0 ≡ pick (inForce (windowsAfter [] (take k (records F))) day n) 1 0
+    → getD (flagsAfter day F k (replicate size 1)) n 0 ≡ pick (inForce (windowsAfter 0 [] (take k (records F))) day n) 1 0
 dated-up-to day size F n l zero m = getD-replicate size n 1 0 l
 dated-up-to day size F n l (suc k) m =
     let long = after-length day F k (replicate size 1) ∙ length-replicate size 1 in
-    let next = take-next k (records F) (decoded (recordPart F k)) (drop (suc k) (records F)) (record-numbered F k m) in
-    record-flag day (recordPart F k) (flagsAfter day F k (replicate size 1)) (windowsAfter [] (take k (records F))) n (omega arith)
+    let c = clausesIn (take k (records F)) in
+    ap (λ (x : List ℕ). getD x n 0) (record-sets day c (recordAt F k) (flagsAfter day F k (replicate size 1)))
+    ∙ set-flag day (windowGiven c (recordAt F k)) (flagsAfter day F k (replicate size 1)) (windowsAfter 0 [] (take k (records F))) n (omega arith)
     (dated-up-to day size F n l k (omega arith))
-    ∙ ap (λ (ws : List Window). pick (inForce ws day n) 1 0)
-    (sym (ap (windowsAfter []) next ∙ windows-next [] (take k (records F)) (decoded (recordPart F k))))
+    ∙ ap (λ (ws : List Window). pick (inForce ws day n) 1 0) (sym (windows-up-to F k m))
 
 -- For any number of flags; the program has 4096.
 dated-any : (day size : ℕ) (F : File) (n : ℕ) → n < size
-    → getD (flagsAfter day F (recordCount F) (replicate size 1)) n 0 ≡ pick (inForce (windowsAfter [] (records F)) day n) 1 0
+    → getD (flagsAfter day F (recordCount F) (replicate size 1)) n 0 ≡ pick (inForce (windowsAfter 0 [] (records F)) day n) 1 0
 dated-any day size F n l =
     let c = records-length F in
     let e : take (recordCount F) (records F) ≡ records F = rw (← c) (take-length (records F)) in
-    dated-up-to day size F n l (recordCount F) (omega arith) ∙ ap (λ (rs : List Record). pick (inForce (windowsAfter [] rs) day n) 1 0) e
+    dated-up-to day size F n l (recordCount F) (omega arith) ∙ ap (λ (rs : List Record). pick (inForce (windowsAfter 0 [] rs) day n) 1 0) e
 
 -- After all records the flag of a clause says whether it is in force by the windows of the file.
 pub dated-flag : (day : ℕ) (F : File) (n : ℕ) → n < 4096
-    → getD (flagsAfter day F (recordCount F) (replicate 4096 1)) n 0 ≡ pick (inForce (windowsAfter [] (records F)) day n) 1 0
+    → getD (flagsAfter day F (recordCount F) (replicate 4096 1)) n 0 ≡ pick (inForce (windowsAfter 0 [] (records F)) day n) 1 0
 dated-flag day F n l = dated-any day 4096 F n l
 
 -- ── The flags of derived clauses ──
@@ -188,7 +216,7 @@ clause-any : (day size : ℕ) (F : File) (S : State) → Stands F S → (O C B :
 unfolding flagsInForce
 clause-any day size F S st O C B count m n d l s =
     let long = after-length day F (recordCount F) (replicate size 1) ∙ length-replicate size 1 in
-    stored-flag O C B (flagsAfter day F (recordCount F) (replicate size 1)) (windowsAfter [] (records F)) day count (omega arith)
+    stored-flag O C B (flagsAfter day F (recordCount F) (replicate size 1)) (windowsAfter 0 [] (records F)) day count (omega arith)
     (λ i k. dated-any day size F i (omega arith)) s l
     ∙ ap (λ (ws : List Window). pick (allInForce ws day (uses d)) 1 0) (sym (stands-windows F S st))
 

@@ -8,20 +8,8 @@ pub fn fitting_length(form: Form, n: usize) -> bool
     ensures { λ b. ⌜ b ≡ fittingLength form n ⌝ }
 {
     match form {
-        Form::Old => {
-            if n <= 65536 {
-                n % 16 == 0
-            } else {
-                false
-            }
-        }
-        Form::New => {
-            if n <= 65520 {
-                n % 20 == 0
-            } else {
-                false
-            }
-        }
+        Form::Old => { if n <= 65536 { n % 16 == 0 } else { false } }
+        Form::New => { if n <= 65520 { n % 20 == 0 } else { false } }
     }
 }
 

@@ -1,4 +1,5 @@
 // One record, read by its kind. `Progress` in specs/ of the crate entry has the contract.
+use beside::refused_days;
 use clause_entry::input_record;
 use distinct::Heads;
 use distinct::Links;
@@ -8,7 +9,6 @@ use factoring::factor_record;
 use following::nodes::Nodes;
 use following::nodes::Origins;
 use following::values::ValueCells;
-use beside::refused_days;
 use record::Form;
 use record::kind;
 use record::record_part;
@@ -52,11 +52,52 @@ pub fn read_record(
     match tag {
         1 => symbol_record(part, k, counts, symbols),
         2 => variable_record(part, k, counts, rows, nodes, heads, links),
-        3 => application_record(form, file, part, k, counts, symbols, rows, nodes, heads, links),
+        3 => application_record(
+            form,
+            file,
+            part,
+            k,
+            counts,
+            symbols,
+            rows,
+            nodes,
+            heads,
+            links,
+        ),
         4 => input_record(form, file, k, counts, clauses, nodes, origins),
-        5 => resolve_record(form, file, k, counts, clauses, bindings, nodes, origins, values),
-        6 => factor_record(form, file, k, counts, clauses, bindings, nodes, origins, values),
-        7 => resolve_record(form, file, k, counts, clauses, bindings, nodes, origins, values),
+        5 => resolve_record(
+            form,
+            file,
+            k,
+            counts,
+            clauses,
+            bindings,
+            nodes,
+            origins,
+            values,
+        ),
+        6 => factor_record(
+            form,
+            file,
+            k,
+            counts,
+            clauses,
+            bindings,
+            nodes,
+            origins,
+            values,
+        ),
+        7 => resolve_record(
+            form,
+            file,
+            k,
+            counts,
+            clauses,
+            bindings,
+            nodes,
+            origins,
+            values,
+        ),
         8 => window_record(part, counts, origins),
         _ => Entered::Refused(3),
     }

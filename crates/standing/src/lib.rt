@@ -41,7 +41,14 @@ fn first_accepted(clauses: &[u16], flags: &[u16], count: u16) -> Verdict
 }
 
 // The verdict on a file whose records all stand, on a day: flags say which clauses are in force.
-fn standing(form: Form, day: u16, file: &[u8], clauses: &[u16], origins: &Origins, count: u16) -> Verdict
+fn standing(
+    form: Form,
+    day: u16,
+    file: &[u8],
+    clauses: &[u16],
+    origins: &Origins,
+    count: u16,
+) -> Verdict
     requires { ⌜ length (now origins) ≡ 32768 ⌝ }
     ensures { λ v. ⌜ verdictCoded v ≡ standingNumbers (now (clauses .entry)) (flagsInForce day (inForm form (now (file .entry))) (now (origins .entry)) count allSet) count ⌝ }
 {
@@ -51,7 +58,14 @@ fn standing(form: Form, day: u16, file: &[u8], clauses: &[u16], origins: &Origin
 }
 
 // The answer on a file that was read. The day matters only where all records stand.
-pub fn ended_answer(form: Form, day: u16, file: &[u8], e: Ended, clauses: &[u16], origins: &Origins) -> Answer
+pub fn ended_answer(
+    form: Form,
+    day: u16,
+    file: &[u8],
+    e: Ended,
+    clauses: &[u16],
+    origins: &Origins,
+) -> Answer
     requires { ⌜ length (now origins) ≡ 32768 ⌝ }
     ensures { λ a. ⌜ answerGiven a ≡ endedNumbers day (inForm form (now (file .entry))) e (now (clauses .entry)) (now (origins .entry)) ⌝ }
 {

@@ -9,10 +9,10 @@ use lib.Dec.{eqb, leb}
 use lib.ListN.{length, getD, replicate}
 use lib.Seq.{getD-append-add}
 use borrow.Author.Tests.{eq-eqb, ne-eqb}
-use Rattle.record.specs.Record.{pick, File, Record, recordCount, recordPart, fieldOf, decoded, windowKind}
+use Rattle.record.specs.Record.{pick, File, recordAt, Record, recordCount, recordPart, fieldOf, decoded, windowKind}
 use Rattle.derivation.specs.Derivation.{Derivation}
 use Rattle.derivation.specs.Stored.{originCode, originList, Stored, storedInput, storedResolve, storedFactor}
-use Rattle.entry.specs.Progress.{Kept, Next}
+use Rattle.entry.specs.Progress.{Plain, Kept, Next}
 use Rattle.verdict.specs.Refusal.{outOfRange, notThere, crossedDays, reasonNumber, kindOfRecord, inRange, isInput}
 use Rattle.verdict.specs.State.{State, withWindow, derivations, clauseOf}
 use Rattle.verdict.specs.Step.{stands, require, windowIn, step}
@@ -58,12 +58,12 @@ module _ (F : File) (t : Tables) (k : ℕ) (S : State) (n : Counts) (here : Tabl
   rec = decoded (recordPart F k)
 
   abbrev testsOf : Bool → Bool → Bool → Type 0
-  testsOf a b c = step S k (decoded (recordPart F k)) ≡ require a outOfRange (require b notThere (require c crossedDays (stands (withWindow S (windowIn (decoded (recordPart F k)))))))
+  testsOf a b c = step S k (recordAt F k) ≡ require a outOfRange (require b notThere (require c crossedDays (stands (withWindow S (windowIn (decoded (recordPart F k)))))))
 
-  pub window-read : kindOfRecord (decoded (recordPart F k)) ≡ windowKind → (e : Entered) → e ≡ windowEntered (recordPart F k) n O → Next F t k S here N O A e
+  pub window-read : Plain F k → kindOfRecord (decoded (recordPart F k)) ≡ windowKind → (e : Entered) → e ≡ windowEntered (recordPart F k) n O → Next F t k S here N O A e
   unfolding windowEntered require
-  window-read kd e E = subst (Next F t k S here N O A) (sym E)
-      (try (inRange windowKind rec) (eqb (originCode O (fieldOf (recordPart F k) 0)) 1) (leb (fieldOf (recordPart F k) 1) (fieldOf (recordPart F k) 2)) (at-kind S k rec windowKind kd ∙ by-code))
+  window-read plain kd e E = subst (Next F t k S here N O A) (sym E)
+      (try (inRange windowKind rec) (eqb (originCode O (fieldOf (recordPart F k) 0)) 1) (leb (fieldOf (recordPart F k) 1) (fieldOf (recordPart F k) 2)) (plain S ∙ at-kind S k rec windowKind kd ∙ by-code))
     where
       by-code : require (inRange windowKind rec) outOfRange (require (isInput (clauseOf S (fieldOf (recordPart F k) 0))) notThere (require (leb (fieldOf (recordPart F k) 1) (fieldOf (recordPart F k) 2)) crossedDays (stands (withWindow S (windowIn rec)))))
           ≡ require (inRange windowKind rec) outOfRange (require (eqb (originCode O (fieldOf (recordPart F k) 0)) 1) notThere (require (leb (fieldOf (recordPart F k) 1) (fieldOf (recordPart F k) 2)) crossedDays (stands (withWindow S (windowIn rec)))))
