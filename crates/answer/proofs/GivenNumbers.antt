@@ -17,7 +17,7 @@ use Rattle.answer.specs.declared.Verdict as given
 use Rattle.answer.specs.declared.Verdict.the-variants as given-variants
 
 -- The state that a check leaves.
-abbrev pub stateLeft : List ℕ → Lengths → State
+abbrev pub stateLeft : File → Lengths → State
 stateLeft file lengths = stateGiven (reading file lengths)
 
 -- The verdict's numbers and the counts, taken apart.

@@ -5,7 +5,7 @@ use mathlib.Core.List.{List, [], _∷_, _++_}
 use Prim.Native.Nat.{ℕ, zero, suc}
 use lib.Dec.{eqb}
 use lib.ListN.{getD, replicate}
-use Rattle.record.specs.Record.{pick}
+use Rattle.record.specs.Record.{pick, File}
 use Rattle.derivation.specs.Stored.{literalsCell}
 use Rattle.verdict.specs.Verdict.{verdictNumbers, standing}
 use Rattle.force.specs.Flags.{flagsInForce}

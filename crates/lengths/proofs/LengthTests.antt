@@ -1,16 +1,25 @@
 -- The two tests of lengths before the first record.
-use mathlib.Core.Path.{_≡_, sym, ap, ap₂}
+use mathlib.Core.Path.{_≡_, sym, ap, ap₂, _∙_}
 use mathlib.Core.Bool.{Bool, false, _&&_}
 use Prim.Native.Nat.{ℕ, _%_, _≤_, _<_}
 use lib.Dec.{eqb, leb}
 use borrow.Author.Tests.{le-leb, lt-leb}
 use Rattle.verdict.specs.Verdict.{Lengths, longEnough, fittingLength}
+use Rattle.record.specs.declared.Form.{Form}
+use Rattle.record.specs.declared.Form.the-variants.{Old, New}
 
-pub length-low : (n : ℕ) → n ≤ 65536 → eqb (n % 16) 0 ≡ fittingLength n
-length-low n l = sym (ap (λ (b : Bool). b && eqb (n % 16) 0) (le-leb n 65536 l))
+-- Of each form.
+pub length-low : (form : Form) (n : ℕ) → form ≡ Old → n ≤ 65536 → eqb (n % 16) 0 ≡ fittingLength form n
+length-low form n f l = sym (ap (λ (x : Form). fittingLength x n) f ∙ ap (λ (b : Bool). b && eqb (n % 16) 0) (le-leb n 65536 l))
 
-pub length-high : (n : ℕ) → 65536 < n → false ≡ fittingLength n
-length-high n l = sym (ap (λ (b : Bool). b && eqb (n % 16) 0) (lt-leb n 65536 l))
+pub length-high : (form : Form) (n : ℕ) → form ≡ Old → 65536 < n → false ≡ fittingLength form n
+length-high form n f l = sym (ap (λ (x : Form). fittingLength x n) f ∙ ap (λ (b : Bool). b && eqb (n % 16) 0) (lt-leb n 65536 l))
+
+pub new-low : (form : Form) (n : ℕ) → form ≡ New → n ≤ 65520 → eqb (n % 20) 0 ≡ fittingLength form n
+new-low form n f l = sym (ap (λ (x : Form). fittingLength x n) f ∙ ap (λ (b : Bool). b && eqb (n % 20) 0) (le-leb n 65520 l))
+
+pub new-high : (form : Form) (n : ℕ) → form ≡ New → 65520 < n → false ≡ fittingLength form n
+new-high form n f l = sym (ap (λ (x : Form). fittingLength x n) f ∙ ap (λ (b : Bool). b && eqb (n % 20) 0) (lt-leb n 65520 l))
 
 abbrev lengths : ℕ → ℕ → ℕ → ℕ → Lengths
 lengths s r c b = record { symbols = s; rows = r; clauses = c; bindings = b }

@@ -39,8 +39,9 @@ fn read_indexed(
         clauses: 0,
         bindings: 0,
     };
+    let end = record_count(form, file);
     let mut k = 0u16;
-    while (k as usize) < record_count(form, file) {
+    while (k as usize) < end {
         match read_record(
             form,
             file,

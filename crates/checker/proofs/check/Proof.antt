@@ -4,10 +4,10 @@ use Rattle.checker.proofs.check.Statement.{statement}
 use Rattle.checker.proofs.check.Tie as tie
 use Rattle.checker.proofs.check.Reads as reads
 use Rattle.checker.proofs.check.Lts as lts
-use Rattle.lengths.proofs.fitting_length.Reads as fitting-length-reads
-use Rattle.lengths.proofs.long_enough.Reads as long-enough-reads
 use Rattle.answer.proofs.untouched.Reads as untouched-reads
 use Rattle.file_reading.proofs.read_file.Reads as read-file-reads
+use Rattle.lengths.proofs.fitting_length.Reads as fitting-length-reads
+use Rattle.lengths.proofs.long_enough.Reads as long-enough-reads
 
 fitting-length-requires : tie.Need-fitting-length-requires
 fitting-length-requires c κs = search needs

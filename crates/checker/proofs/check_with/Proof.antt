@@ -6,10 +6,10 @@ use Rattle.checker.proofs.check_with.Statement.{statement}
 use Rattle.checker.proofs.check_with.Tie as tie
 use Rattle.checker.proofs.check_with.Reads as reads
 use Rattle.checker.proofs.check_with.Lts as lts
-use Rattle.lengths.proofs.fitting_length.Reads as fitting-length-reads
-use Rattle.lengths.proofs.long_enough.Reads as long-enough-reads
 use Rattle.answer.proofs.untouched.Reads as untouched-reads
 use Rattle.file_reading.proofs.read_tables.Reads as read-tables-reads
+use Rattle.lengths.proofs.fitting_length.Reads as fitting-length-reads
+use Rattle.lengths.proofs.long_enough.Reads as long-enough-reads
 use Rattle.workspace.proofs.clear_table.Reads as clear-table-reads
 use Rattle.workspace.proofs.whole_table.Reads as whole-table-reads
 use Rattle.workspace.proofs.whole_values.Reads as whole-values-reads

@@ -7,8 +7,8 @@ use Rattle.file_reading.proofs.read_tables.Statement.{statement}
 use Rattle.file_reading.proofs.read_tables.Tie as tie
 use Rattle.file_reading.proofs.read_tables.Reads as reads
 use Rattle.file_reading.proofs.read_tables.Lts as lts
-use Rattle.standing.proofs.ended_answer.Reads as ended-answer-reads
 use Rattle.reading.proofs.reader.read_records.Reads as read-records-reads
+use Rattle.standing.proofs.ended_answer.Reads as ended-answer-reads
 use Rattle.tables.proofs.clear.Reads as clear-reads
 
 clear-requires : tie.Need-clear-requires

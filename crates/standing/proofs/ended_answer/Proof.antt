@@ -4,8 +4,8 @@ use Rattle.standing.proofs.ended_answer.Statement.{statement}
 use Rattle.standing.proofs.ended_answer.Tie as tie
 use Rattle.standing.proofs.ended_answer.Reads as reads
 use Rattle.standing.proofs.ended_answer.Lts as lts
-use Rattle.standing.proofs.standing.Reads as standing-reads
 use Rattle.answer.proofs.with_counts.Reads as with-counts-reads
+use Rattle.standing.proofs.standing.Reads as standing-reads
 
 enum-known-e : tie.Need-enum-known-e
 enum-known-e c = search needs

@@ -7,8 +7,8 @@ use Rattle.standing.proofs.standing.Statement.{statement}
 use Rattle.standing.proofs.standing.Tie as tie
 use Rattle.standing.proofs.standing.Reads as reads
 use Rattle.standing.proofs.standing.Lts as lts
-use Rattle.standing.proofs.first_accepted.Reads as first-accepted-reads
 use Rattle.flagging.proofs.in_force.Reads as in-force-reads
+use Rattle.standing.proofs.first_accepted.Reads as first-accepted-reads
 
 slice-aggregate-in-force : tie.Need-slice-aggregate-in-force
 slice-aggregate-in-force c = search needs
