@@ -8,7 +8,7 @@ use native.Mathlib.Omega.{arith}
 use lib.Dec.{ltb}
 use lib.ListN.{length, getD, length-map}
 use borrow.Author.Tests.{lt-ltb, le-ltb}
-use Rattle.record.specs.Record.{pick}
+use Rattle.record.specs.Record.{pick, File}
 use Rattle.unification.proofs.Tests.{true-not-false}
 use Rattle.derivation.specs.Derivation.{Derivation, uses}
 use Rattle.demands.specs.Conditions.{TableShort}
@@ -69,7 +69,7 @@ refused-board (verdicts.Accepted n) w before next e t = absurd (true-not-false r
 refused-board (verdicts.Refused q k) w before next e t = sym (ap (λ (x : Verdict). boardUnlessRefused x before next) (refused-given q k w e .1))
 
 -- ── The ways ──
-module _ (day : ℕ) (file : List ℕ) (before : Tables) (board₀ : List ℕ) where
+module _ (day : ℕ) (file : File) (before : Tables) (board₀ : List ℕ) where
   promise : (S : State) → Stands file S → ¬ TableShort before → 4097 ≤ length board₀ → BoardPromised day file before board₀ S
   promise S st t l = board-promised day file before board₀ S st t l
 

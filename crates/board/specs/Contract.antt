@@ -4,6 +4,7 @@ use mathlib.Core.Path.{_≡_}
 use mathlib.Core.List.{List}
 use Prim.Native.Nat.{ℕ, _≤_}
 use lib.ListN.{length}
+use Rattle.record.specs.Record.{File}
 use Rattle.demands.specs.Conditions.{TableShort}
 use Rattle.verdict.specs.State.{State}
 use Rattle.verdict.specs.Tables.{Tables}
@@ -14,7 +15,7 @@ use Rattle.boards.specs.Promised.{BoardPromised}
 use Rattle.board_cells.specs.Given.{boardGiven}
 use Rattle.board_cells.specs.declared.lowest.BoardAnswer.{BoardAnswer}
 
-pub record BoardOpened (day : ℕ) (file : List ℕ) (before : Tables) (boardBefore : List ℕ) (a : BoardAnswer) (after : Tables) (boardAfter : List ℕ) : Type 0 where
+pub record BoardOpened (day : ℕ) (file : File) (before : Tables) (boardBefore : List ℕ) (a : BoardAnswer) (after : Tables) (boardAfter : List ℕ) : Type 0 where
   -- The three numbers of the answer, each table, cell by cell, and the board.
   pub answer : boardGiven a ≡ answerNumbers (openingAnswer day file before (length boardBefore))
   pub symbols : after .symbols ≡ tablesOpened file before (length boardBefore) .symbols

@@ -10,10 +10,12 @@ use checker::check_with;
 use following::nodes::Nodes;
 use following::nodes::Origins;
 use following::values::ValueCells;
+use record::Form;
 ghost use mathlib.Core.Path.{_≡_};
 ghost use mathlib.Core.Bool.{true, false};
 ghost use Prim.Native.Nat.{_≤_};
 ghost use lib.ListN.{length};
+ghost use Rattle.record.specs.Record.{oldFile};
 ghost use Rattle.answer.specs.Given.{verdictCoded};
 ghost use Rattle.entry.specs.Progress.{tablesWith};
 ghost use Rattle.board_cells.specs.Given.{boardGiven};
@@ -45,9 +47,10 @@ fn open_with(
     board: &mut [u16],
 ) -> BoardAnswer
     requires { ⌜ 4097 ≤ length (now board) ⌝ }
-    ensures { λ a. ⌜ BoardOpened day (now (file .entry)) (tablesWith (now (symbols .entry)) (now (rows .entry)) (now (clauses .entry)) (now (bindings .entry))) (now (board .entry)) a (tablesWith (now (symbols .exit)) (now (rows .exit)) (now (clauses .exit)) (now (bindings .exit))) (now (board .exit)) ⌝ }
+    ensures { λ a. ⌜ BoardOpened day (oldFile (now (file .entry))) (tablesWith (now (symbols .entry)) (now (rows .entry)) (now (clauses .entry)) (now (bindings .entry))) (now (board .entry)) a (tablesWith (now (symbols .exit)) (now (rows .exit)) (now (clauses .exit)) (now (bindings .exit))) (now (board .exit)) ⌝ }
 {
     let a = check_with(
+        Form::Old,
         day,
         file,
         symbols,
@@ -76,7 +79,7 @@ pub fn open_board(
     bindings: &mut [u16],
     board: &mut [u16],
 ) -> BoardAnswer
-    ensures { λ a. ⌜ BoardOpened day (now (file .entry)) (tablesWith (now (symbols .entry)) (now (rows .entry)) (now (clauses .entry)) (now (bindings .entry))) (now (board .entry)) a (tablesWith (now (symbols .exit)) (now (rows .exit)) (now (clauses .exit)) (now (bindings .exit))) (now (board .exit)) ⌝ }
+    ensures { λ a. ⌜ BoardOpened day (oldFile (now (file .entry))) (tablesWith (now (symbols .entry)) (now (rows .entry)) (now (clauses .entry)) (now (bindings .entry))) (now (board .entry)) a (tablesWith (now (symbols .exit)) (now (rows .exit)) (now (clauses .exit)) (now (bindings .exit))) (now (board .exit)) ⌝ }
 {
     if board.len() < 4097 {
         return BoardAnswer::Refused(2, 0);
@@ -100,14 +103,14 @@ pub fn open_board(
 
 // Withdraws input clause n, with the file, the table of clauses and the board as they were left.
 pub fn withdraw_clause(file: &[u8], clauses: &[u16], board: &mut [u16], n: u16) -> BoardAnswer
-    ensures { λ a. ⌜ BoardCalled (now (file .entry)) (now (clauses .entry)) (now (board .entry)) n false a (now (board .exit)) ⌝ }
+    ensures { λ a. ⌜ BoardCalled (oldFile (now (file .entry))) (now (clauses .entry)) (now (board .entry)) n false a (now (board .exit)) ⌝ }
 {
     call(file, clauses, board, n, false)
 }
 
 // Returns input clause n.
 pub fn return_clause(file: &[u8], clauses: &[u16], board: &mut [u16], n: u16) -> BoardAnswer
-    ensures { λ a. ⌜ BoardCalled (now (file .entry)) (now (clauses .entry)) (now (board .entry)) n true a (now (board .exit)) ⌝ }
+    ensures { λ a. ⌜ BoardCalled (oldFile (now (file .entry))) (now (clauses .entry)) (now (board .entry)) n true a (now (board .exit)) ⌝ }
 {
     call(file, clauses, board, n, true)
 }

@@ -5,6 +5,7 @@ use mathlib.Core.Bool.{Bool}
 use mathlib.Core.List.{List, _++_}
 use Prim.Native.Nat.{ℕ, _<_, _≤_}
 use lib.ListN.{length, drop}
+use Rattle.record.specs.Record.{File}
 use Rattle.demands.specs.Conditions.{TableShort}
 use Rattle.verdict.specs.State.{State}
 use Rattle.verdict.specs.Tables.{Tables}
@@ -14,7 +15,7 @@ use Rattle.boards.specs.Cells.{callAnswer, boardAfter}
 use Rattle.boards.specs.Opening.{openingAnswer, boardOpened, tablesOpened}
 use Rattle.boards.specs.Promised.{BoardPromised}
 
-pub record ExportedOpening (day : ℕ) (file : List ℕ) (before : Tables) (board answerBefore : List ℕ) (after : Tables) (left answerAfter : List ℕ) : Type 0 where
+pub record ExportedOpening (day : ℕ) (file : File) (before : Tables) (board answerBefore : List ℕ) (after : Tables) (left answerAfter : List ℕ) : Type 0 where
   -- An answer slice of fewer than three cells: it, the board and every table are left as they were.
   pub answerLeft : length answerBefore < 3 → answerAfter ≡ answerBefore
   pub boardKept : length answerBefore < 3 → left ≡ board

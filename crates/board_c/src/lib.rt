@@ -6,6 +6,7 @@ use board::open_board;
 use board::return_clause;
 use board::withdraw_clause;
 ghost use mathlib.Core.Bool.{true, false};
+ghost use Rattle.record.specs.Record.{oldFile};
 ghost use Rattle.entry.specs.Progress.{tablesWith};
 ghost use Rattle.board_c.specs.ExportedBoard.{ExportedOpening, ExportedCall};
 
@@ -20,7 +21,7 @@ pub fn open_to_cells(
     board: &mut [u16],
     answer: &mut [u16],
 )
-    ensures { λ _. ⌜ ExportedOpening day (now (file .entry)) (tablesWith (now (symbols .entry)) (now (rows .entry)) (now (clauses .entry)) (now (bindings .entry))) (now (board .entry)) (now (answer .entry)) (tablesWith (now (symbols .exit)) (now (rows .exit)) (now (clauses .exit)) (now (bindings .exit))) (now (board .exit)) (now (answer .exit)) ⌝ }
+    ensures { λ _. ⌜ ExportedOpening day (oldFile (now (file .entry))) (tablesWith (now (symbols .entry)) (now (rows .entry)) (now (clauses .entry)) (now (bindings .entry))) (now (board .entry)) (now (answer .entry)) (tablesWith (now (symbols .exit)) (now (rows .exit)) (now (clauses .exit)) (now (bindings .exit))) (now (board .exit)) (now (answer .exit)) ⌝ }
 {
     if answer.len() < 3 {
         return;
@@ -37,7 +38,7 @@ pub fn withdraw_to_cells(
     clause: u16,
     answer: &mut [u16],
 )
-    ensures { λ _. ⌜ ExportedCall (now (file .entry)) (now (clauses .entry)) (now (board .entry)) clause false (now (answer .entry)) (now (board .exit)) (now (answer .exit)) ⌝ }
+    ensures { λ _. ⌜ ExportedCall (oldFile (now (file .entry))) (now (clauses .entry)) (now (board .entry)) clause false (now (answer .entry)) (now (board .exit)) (now (answer .exit)) ⌝ }
 {
     if answer.len() < 3 {
         return;
@@ -54,7 +55,7 @@ pub fn return_to_cells(
     clause: u16,
     answer: &mut [u16],
 )
-    ensures { λ _. ⌜ ExportedCall (now (file .entry)) (now (clauses .entry)) (now (board .entry)) clause true (now (answer .entry)) (now (board .exit)) (now (answer .exit)) ⌝ }
+    ensures { λ _. ⌜ ExportedCall (oldFile (now (file .entry))) (now (clauses .entry)) (now (board .entry)) clause true (now (answer .entry)) (now (board .exit)) (now (answer .exit)) ⌝ }
 {
     if answer.len() < 3 {
         return;

@@ -9,7 +9,7 @@ use native.Mathlib.Omega.{arith}
 use lib.Dec.{eqb, leb, ltb}
 use lib.ListN.{length, getD, set}
 use borrow.Author.Tests.{lt-ltb, le-ltb, le-leb, lt-leb, ltb-true}
-use Rattle.record.specs.Record.{pick, recordPart, kindOf}
+use Rattle.record.specs.Record.{pick, File, recordPart, kindOf}
 use Rattle.unification.proofs.Tests.{both-true, true-not-false}
 use Rattle.boards.specs.Board.{answered, refusedWith, answerNumbers}
 use Rattle.boards.specs.Cells.{cellWith, childCell, isClauseCell, forceCell, standsCell, passed, lowestAnswer, isInputCell, recordOfClause, withCell, refusal, boardAfter, callAnswer}
@@ -19,7 +19,7 @@ use Rattle.board_cells.specs.declared.lowest.BoardAnswer.the-variants as answer
 use Rattle.board_calls.specs.Called.{BoardCalled}
 
 -- ── Whether there is an input clause ──
-module _ (F C B : List ℕ) (n : ℕ) where
+module _ (F : File) (C B : List ℕ) (n : ℕ) where
   abbrev tested : Bool → Bool → Bool → Bool
   tested a b c = a && (b && c)
 
@@ -61,7 +61,7 @@ alike-false false false e = refl
 alike-false true b e = absurd (true-not-false refl e)
 
 -- ── The call ──
-module _ (F C B : List ℕ) (n : ℕ) (present : Bool) where
+module _ (F : File) (C B : List ℕ) (n : ℕ) (present : Bool) where
   abbrev number : Bool → Bool → Bool → Option ℕ
   number a b c = pick a (some 2) (pick b (pick c (some 21) none) (some 20))
 

@@ -7,6 +7,7 @@ use board_cells::cells::stands_cell;
 use board_cells::lowest::BoardAnswer;
 use board_cells::lowest::lowest_answer;
 use board_cells::passing::pass;
+use record::Form;
 use record::kind;
 use record::record_part;
 use tables::cell;
@@ -14,12 +15,13 @@ use tables::set_cell;
 ghost use mathlib.Core.Path.{_≡_};
 ghost use mathlib.Core.Bool.{Bool·beq};
 ghost use Prim.Native.Nat.{_<_};
+ghost use Rattle.record.specs.Record.{oldFile};
 ghost use Rattle.boards.specs.Cells.{isInputCell, withCell};
 ghost use Rattle.board_calls.specs.Called.{BoardCalled};
 
 // Whether there is an input clause of number n.
 fn is_input(file: &[u8], clauses: &[u16], board: &[u16], n: u16) -> bool
-    ensures { λ b. ⌜ b ≡ isInputCell (now (file .entry)) (now (clauses .entry)) (now (board .entry)) n ⌝ }
+    ensures { λ b. ⌜ b ≡ isInputCell (oldFile (now (file .entry))) (now (clauses .entry)) (now (board .entry)) n ⌝ }
 {
     if 4095 < n {
         return false;
@@ -27,7 +29,7 @@ fn is_input(file: &[u8], clauses: &[u16], board: &[u16], n: u16) -> bool
     if cell(board, n as usize) < 4 {
         return false;
     }
-    kind(record_part(file, cell(clauses, 5 * (n as usize)) as usize)) == 4
+    kind(record_part(Form::Old, file, cell(clauses, 5 * (n as usize)) as usize)) == 4
 }
 
 fn alike(a: bool, b: bool) -> bool
@@ -39,7 +41,7 @@ fn alike(a: bool, b: bool) -> bool
 // Clause n is now present or not, and the clauses that use it stand or not accordingly.
 fn change(file: &[u8], clauses: &[u16], board: &mut [u16], n: u16, present: bool)
     requires { ⌜ n < 4096 ⌝ }
-    ensures { λ _. ⌜ now (board .exit) ≡ withCell (now (file .entry)) (now (clauses .entry)) (now (board .entry)) n present ⌝ }
+    ensures { λ _. ⌜ now (board .exit) ≡ withCell (oldFile (now (file .entry))) (now (clauses .entry)) (now (board .entry)) n present ⌝ }
 {
     let x = cell(board, n as usize);
     let y = cell_like(x, force_cell(x), present);
@@ -49,7 +51,7 @@ fn change(file: &[u8], clauses: &[u16], board: &mut [u16], n: u16, present: bool
 
 // Clause n is to be present or not. A board that is too short is refused with 2, a number of no input clause with 20, and with 21 where it is so already.
 pub fn call(file: &[u8], clauses: &[u16], board: &mut [u16], n: u16, present: bool) -> BoardAnswer
-    ensures { λ a. ⌜ BoardCalled (now (file .entry)) (now (clauses .entry)) (now (board .entry)) n present a (now (board .exit)) ⌝ }
+    ensures { λ a. ⌜ BoardCalled (oldFile (now (file .entry))) (now (clauses .entry)) (now (board .entry)) n present a (now (board .exit)) ⌝ }
 {
     if board.len() < 4097 {
         return BoardAnswer::Refused(2, 0);

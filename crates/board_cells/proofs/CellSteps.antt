@@ -7,7 +7,7 @@ use native.Mathlib.Omega.{arith}
 use mir.Val.{boolByte}
 use lib.ListN.{getD}
 use borrow.Author.Tests.{eq-eqb, ne-eqb}
-use Rattle.record.specs.Record.{pick, recordPart, kindOf, fieldOf}
+use Rattle.record.specs.Record.{pick, File, recordPart, kindOf, fieldOf}
 use Rattle.boards.specs.Cells.{cellWith, childCell, forceCell, standsCell, fromParents, rightParent, cellByKind, newCell}
 
 -- Two answers as numbers, in the last bits of a cell.
@@ -26,7 +26,7 @@ pub of-parts : (x left right : ℕ) {f g s t force stands : Bool} → f ≡ forc
     → {r : ℕ} → r ≡ cellWith (childCell x) force stands → r ≡ fromParents x left right
 of-parts x left right a b p c d q e = e ∙ ap₂ (cellWith (childCell x)) (p ∙ ap₂ _&&_ a b) (q ∙ ap₂ _&&_ c d)
 
-module _ (F C B : List ℕ) (n : ℕ) {k : ℕ} (isNumber : k ≡ getD C (5 * n) 0) {part : List ℕ} (isPart : part ≡ recordPart F k) {x : ℕ} (isKind : x ≡ kindOf part) where
+module _ (F : File) (C B : List ℕ) (n : ℕ) {k : ℕ} (isNumber : k ≡ getD C (5 * n) 0) {part : List ℕ} (isPart : part ≡ recordPart F k) {x : ℕ} (isKind : x ≡ kindOf part) where
   by-record : newCell F C B n ≡ cellByKind part B n
   unfolding newCell
   by-record = ap (λ (p : List ℕ). cellByKind p B n) (sym (isPart ∙ ap (recordPart F) isNumber))

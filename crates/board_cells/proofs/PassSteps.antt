@@ -9,7 +9,7 @@ use lib.Dec.{eqb, leb}
 use lib.ListN.{getD, set}
 use mir.Val.{boolByte}
 use borrow.Author.Tests.{le-leb, lt-leb, lt-ltb, le-ltb}
-use Rattle.record.specs.Record.{pick}
+use Rattle.record.specs.Record.{pick, File}
 use Rattle.boards.specs.Cells.{childCell, newCell, larger, lastAfter, passed}
 
 -- The larger of two numbers.
@@ -31,7 +31,7 @@ last-moves last before after {child} e m = m ∙ by (eqb before after)
     by true = let z : boolByte (not true) * child ≡ 0 = omega arith in ap (larger last) z ∙ ap (λ (x : Bool). pick x 0 last) (le-ltb last 0 (omega arith))
     by false = let z : boolByte (not false) * child ≡ child = omega arith in ap (larger last) (z ∙ e)
 
-module _ (F C : List ℕ) (most : ℕ) where
+module _ (F : File) (C : List ℕ) (most : ℕ) where
   abbrev onward : ℕ → ℕ → ℕ → List ℕ → Bool → List ℕ
   onward k n last B b = elim b [ true ↦ passed F C k (suc n) (lastAfter last (getD B n 0) (newCell F C B n)) (set B n (newCell F C B n)) | false ↦ B ]
 

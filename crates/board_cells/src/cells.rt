@@ -1,4 +1,5 @@
 // The cell of a clause: 4, 2 more if its input clauses are in force, 1 more if it stands, and eight times its last child.
+use record::Form;
 use record::field;
 use record::kind;
 use record::record_part;
@@ -6,7 +7,7 @@ use tables::cell;
 ghost use mathlib.Core.Path.{_≡_};
 ghost use mathlib.Core.Bool.{_&&_};
 ghost use Rattle.boards.specs.Cells.{cellWith, childCell, forceCell, standsCell, fromParents, rightParent, newCell};
-ghost use Rattle.record.specs.Record.{kindOf};
+ghost use Rattle.record.specs.Record.{oldFile, kindOf};
 
 // A cell with the last child of x, for a clause that is in force or not and stands or not.
 pub fn cell_like(x: u16, force: bool, stands: bool) -> u16
@@ -64,9 +65,9 @@ fn right_parent(part: &[u8], k: u8) -> u16
 // The cell of clause n, by its record: an input clause's is its own. Parents are looked at whatever the kind, so that a pass over clauses of many kinds goes
 // straight on.
 pub fn new_cell(file: &[u8], clauses: &[u16], board: &[u16], n: u16) -> u16
-    ensures { λ r. ⌜ r ≡ newCell (now (file .entry)) (now (clauses .entry)) (now (board .entry)) n ⌝ }
+    ensures { λ r. ⌜ r ≡ newCell (oldFile (now (file .entry))) (now (clauses .entry)) (now (board .entry)) n ⌝ }
 {
-    let part = record_part(file, cell(clauses, 5 * (n as usize)) as usize);
+    let part = record_part(Form::Old, file, cell(clauses, 5 * (n as usize)) as usize);
     let own = cell(board, n as usize);
     let k = kind(part);
     let left = cell(board, field(part, 0) as usize);

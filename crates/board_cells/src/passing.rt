@@ -5,6 +5,7 @@ use tables::cell;
 use tables::set_cell;
 ghost use mathlib.Core.Path.{_≡_};
 ghost use Prim.Native.Nat.{_-_, _≤_};
+ghost use Rattle.record.specs.Record.{oldFile};
 ghost use Rattle.boards.specs.Cells.{larger, lastAfter, passed};
 
 fn larger_of(a: u16, b: u16) -> u16
@@ -24,7 +25,7 @@ fn last_after(last: u16, before: u16, after: u16) -> u16
 // Each clause from `from` on gets its cell from those of its parents, up to the last child of those that have changed: `child` at first.
 pub fn pass(file: &[u8], clauses: &[u16], board: &mut [u16], from: u16, child: u16)
     requires { ⌜ from ≤ 4096 ⌝ }
-    ensures { λ _. ⌜ now (board .exit) ≡ passed (now (file .entry)) (now (clauses .entry)) (4096 - from) from child (now (board .entry)) ⌝ }
+    ensures { λ _. ⌜ now (board .exit) ≡ passed (oldFile (now (file .entry))) (now (clauses .entry)) (4096 - from) from child (now (board .entry)) ⌝ }
 {
     let mut n = from;
     let mut last = child;

@@ -7,7 +7,7 @@ use native.Mathlib.Numerals.{add-one}
 use lib.Dec.{eqb}
 use lib.ListN.{length, getD, set, length-set}
 use borrow.Author.Tests.{eq-eqb, ne-eqb}
-use Rattle.record.specs.Record.{pick, recordPart, kindOf, fieldOf}
+use Rattle.record.specs.Record.{pick, File, recordPart, kindOf, fieldOf}
 use Rattle.tables.specs.Cells.{clearedPart}
 use Rattle.boards.specs.Cells.{recordOfClause}
 use Rattle.board_opening.specs.Filling.{firstCell, cellsPut, withChild, childByKind, childPut, childrenPut, filledBoard}
@@ -38,7 +38,7 @@ pub child-length : (B : List ℕ) (p n : ℕ) → length (withChild B p n) ≡ l
 unfolding withChild
 child-length B p n = length-set B p (8 * n + getD B p 0 % 8)
 
-module _ (F C B : List ℕ) (n : ℕ) {k : ℕ} (isNumber : k ≡ getD C (5 * n) 0) {part : List ℕ} (isPart : part ≡ recordPart F k) {x : ℕ} (isKind : x ≡ kindOf part) where
+module _ (F : File) (C B : List ℕ) (n : ℕ) {k : ℕ} (isNumber : k ≡ getD C (5 * n) 0) {part : List ℕ} (isPart : part ≡ recordPart F k) {x : ℕ} (isKind : x ≡ kindOf part) where
   by-record : childPut F C n B ≡ childByKind part n B
   unfolding childPut
   by-record = ap (λ (p : List ℕ). childByKind p n B) (sym (isPart ∙ ap (recordPart F) isNumber))
@@ -62,7 +62,7 @@ module _ (F C B : List ℕ) (n : ℕ) {k : ℕ} (isNumber : k ≡ getD C (5 * n)
       two : ¬ (kindOf part ≡ 4) → ¬ (kindOf part ≡ 6) → childByKind part n B ≡ withChild (withChild B (fieldOf part 0) n) (fieldOf part 2) n
       two p q = rw (ne-eqb (kindOf part) 4 p, ne-eqb (kindOf part) 6 q) refl
 
-pub put-length : (F C : List ℕ) (n : ℕ) (B : List ℕ) → length (childPut F C n B) ≡ length B
+pub put-length : (F : File) (C : List ℕ) (n : ℕ) (B : List ℕ) → length (childPut F C n B) ≡ length B
 unfolding childPut
 put-length F C n B = try (eqb (kindOf (recordOfClause F C n)) 4) (eqb (kindOf (recordOfClause F C n)) 6)
   where
@@ -71,18 +71,18 @@ put-length F C n B = try (eqb (kindOf (recordOfClause F C n)) 4) (eqb (kindOf (r
     try false true = child-length B (fieldOf (recordOfClause F C n) 0) n
     try false false = child-length (withChild B (fieldOf (recordOfClause F C n) 0) n) (fieldOf (recordOfClause F C n) 2) n ∙ child-length B (fieldOf (recordOfClause F C n) 0) n
 
-pub same-board : (F C B : List ℕ) (n : ℕ) {B′ : List ℕ} → B′ ≡ childPut F C n B → length B′ ≡ length B
+pub same-board : (F : File) (C B : List ℕ) (n : ℕ) {B′ : List ℕ} → B′ ≡ childPut F C n B → length B′ ≡ length B
 same-board F C B n q = ap length q ∙ put-length F C n B
 
 pub child-more : (F C B₀ : List ℕ) (n : ℕ) {B B′ : List ℕ} → B ≡ childrenPut F C n B₀ → B′ ≡ childPut F C n B → B′ ≡ childrenPut F C (n + 1) B₀
 child-more F C B₀ n h q = q ∙ ap (childPut F C n) h ∙ ap (λ (m : ℕ). childrenPut F C m B₀) (sym (add-one n))
 
-pub children-length : (F C : List ℕ) (n : ℕ) (B : List ℕ) → length (childrenPut F C n B) ≡ length B
+pub children-length : (F : File) (C : List ℕ) (n : ℕ) (B : List ℕ) → length (childrenPut F C n B) ≡ length B
 children-length F C zero B = refl
 children-length F C (suc n) B = put-length F C n (childrenPut F C n B) ∙ children-length F C n B
 
 -- ── All cells ──
-pub all-filled : (day : ℕ) (F C L : List ℕ) (count : ℕ) (B : List ℕ) {B₁ B₂ B₃ B₄ : List ℕ} → B₁ ≡ clearedPart 0 4096 B → B₂ ≡ set B₁ 4096 day → B₃ ≡ cellsPut L count B₂ → B₄ ≡ childrenPut F C count B₃
+pub all-filled : (day : ℕ) (F : File) (C L : List ℕ) (count : ℕ) (B : List ℕ) {B₁ B₂ B₃ B₄ : List ℕ} → B₁ ≡ clearedPart 0 4096 B → B₂ ≡ set B₁ 4096 day → B₃ ≡ cellsPut L count B₂ → B₄ ≡ childrenPut F C count B₃
     → B₄ ≡ filledBoard day F C L count B
 unfolding filledBoard
 all-filled day F C L count B {B₁} {B₂} {B₃} a b c d = d ∙ ap (childrenPut F C count) (c ∙ ap (cellsPut L count) (b ∙ ap (λ (X : List ℕ). set X 4096 day) a))

@@ -10,7 +10,7 @@ use lib.Dec.{eqb, ltb, ltb→lt}
 use lib.ListN.{length, getD, set, drop, replicate, length-append, length-replicate, length-drop, length-set, getD-replicate, List·getD-append}
 use lib.Seq.{getD-append-add, getD-drop, getD-set-same, getD-set-other, ext-getD}
 use borrow.Author.Tests.{ne-eqb}
-use Rattle.record.specs.Record.{pick, kindOf, fieldOf}
+use Rattle.record.specs.Record.{pick, File, kindOf, fieldOf}
 use Rattle.unification.proofs.Tests.{to-T}
 use Rattle.derivation.specs.Derivation.{Derivation, input, resolve, factor, clauseNumber, Use, uses}
 use Rattle.tables.specs.Cells.{clearedPart}
@@ -61,7 +61,7 @@ twice n x true false = refl
 twice n x false true = refl
 twice n x false false = refl
 
-module _ (F C : List ℕ) where
+module _ (F : File) (C : List ℕ) where
   parents-cell : (B : List ℕ) (n : ℕ) (c : Derivation) → Recorded (recordOfClause F C n) c → (q : ℕ) → q < length B → getD (childPut F C n B) q 0 ≡ pick (hasParent c q) (8 * n + getD B q 0 % 8) (getD B q 0)
   unfolding childPut
   parents-cell B n c R q l = by c R
@@ -129,7 +129,7 @@ small L i = try (eqb (getD L i 0) 1)
     try false = omega arith
 
 -- ── The board ──
-module _ (day : ℕ) (S : State) (board : List ℕ) (few : length (derivations S) ≤ 4096) (long : 4097 ≤ length board) (F C L : List ℕ) (H : Kept F S)
+module _ (day : ℕ) (S : State) (board : List ℕ) (few : length (derivations S) ≤ 4096) (long : 4097 ≤ length board) (F : File) (C L : List ℕ) (H : Kept F S)
     (records-in : (n k : ℕ) (c : Derivation) → entry (S .clauses) n ≡ some (k, c) → getD C (5 * n) 0 ≡ k)
     (flags : (n : ℕ) (c : Derivation) → clauseOf S n ≡ some c → getD L n 0 ≡ pick (usesInForce S day c) 1 0) where
   abbrev cleared : List ℕ

@@ -1,4 +1,5 @@
 // The last child of each clause, written into its cell: clauses are gone through in order, and a later child replaces an earlier one.
+use record::Form;
 use record::field;
 use record::kind;
 use record::record_part;
@@ -6,6 +7,7 @@ use tables::cell;
 use tables::set_cell;
 ghost use mathlib.Core.Path.{_≡_};
 ghost use Prim.Native.Nat.{_≤_, _<_};
+ghost use Rattle.record.specs.Record.{oldFile};
 ghost use Rattle.board_opening.specs.Filling.{withChild, childPut, childrenPut};
 
 // Clause n is a child of clause p.
@@ -20,9 +22,9 @@ fn put_child(board: &mut [u16], p: u16, n: u16)
 // Clause n is a child of its parents, by its record: a factor has one and a resolve two.
 fn put_parents(file: &[u8], clauses: &[u16], n: u16, board: &mut [u16])
     requires { ⌜ n < 4096 ⌝ }
-    ensures { λ _. ⌜ now (board .exit) ≡ childPut (now (file .entry)) (now (clauses .entry)) n (now (board .entry)) ⌝ }
+    ensures { λ _. ⌜ now (board .exit) ≡ childPut (oldFile (now (file .entry))) (now (clauses .entry)) n (now (board .entry)) ⌝ }
 {
-    let part = record_part(file, cell(clauses, 5 * (n as usize)) as usize);
+    let part = record_part(Form::Old, file, cell(clauses, 5 * (n as usize)) as usize);
     let k = kind(part);
     if k == 4 {
         return;
@@ -37,7 +39,7 @@ fn put_parents(file: &[u8], clauses: &[u16], n: u16, board: &mut [u16])
 // All of the first clauses.
 pub fn put_children(file: &[u8], clauses: &[u16], count: u16, board: &mut [u16])
     requires { ⌜ count ≤ 4096 ⌝ }
-    ensures { λ _. ⌜ now (board .exit) ≡ childrenPut (now (file .entry)) (now (clauses .entry)) count (now (board .entry)) ⌝ }
+    ensures { λ _. ⌜ now (board .exit) ≡ childrenPut (oldFile (now (file .entry))) (now (clauses .entry)) count (now (board .entry)) ⌝ }
 {
     let mut n: u16 = 0;
     while n < count {

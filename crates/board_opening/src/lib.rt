@@ -5,10 +5,12 @@ mod children;
 use children::put_children;
 use flagging::in_force;
 use following::nodes::Origins;
+use record::Form;
 use tables::cell;
 use tables::clear;
 use tables::set_cell;
 ghost use mathlib.Core.Path.{_≡_};
+ghost use Rattle.record.specs.Record.{oldFile};
 ghost use Rattle.answer.specs.Given.{allSet};
 ghost use Rattle.force.specs.Flags.{flagsInForce};
 ghost use Rattle.board_opening.specs.Filling.{firstCell, cellsPut, filledBoard, Fillable, Openable};
@@ -35,7 +37,7 @@ fn put_cells(flags: &[u16], count: u16, board: &mut [u16])
 // All cells of a board, by flags that say which clauses are in force.
 fn fill(day: u16, file: &[u8], clauses: &[u16], flags: &[u16], count: u16, board: &mut [u16])
     requires { ⌜ Fillable count (now board) ⌝ }
-    ensures { λ _. ⌜ now (board .exit) ≡ filledBoard day (now (file .entry)) (now (clauses .entry)) (now (flags .entry)) count (now (board .entry)) ⌝ }
+    ensures { λ _. ⌜ now (board .exit) ≡ filledBoard day (oldFile (now (file .entry))) (now (clauses .entry)) (now (flags .entry)) count (now (board .entry)) ⌝ }
 {
     clear(board, 0, 4096);
     set_cell(board, 4096, day);
@@ -53,9 +55,9 @@ pub fn open_cells(
     board: &mut [u16],
 )
     requires { ⌜ Openable (now origins) count (now board) ⌝ }
-    ensures { λ _. ⌜ now (board .exit) ≡ filledBoard day (now (file .entry)) (now (clauses .entry)) (flagsInForce day (now (file .entry)) (now (origins .entry)) count allSet) count (now (board .entry)) ⌝ }
+    ensures { λ _. ⌜ now (board .exit) ≡ filledBoard day (oldFile (now (file .entry))) (now (clauses .entry)) (flagsInForce day (oldFile (now (file .entry))) (now (origins .entry)) count allSet) count (now (board .entry)) ⌝ }
 {
     let mut flags = [1u16; 4096];
-    in_force(day, file, origins, count, &mut flags);
+    in_force(Form::Old, day, file, origins, count, &mut flags);
     fill(day, file, clauses, &flags, count, board);
 }

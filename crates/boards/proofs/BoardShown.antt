@@ -8,7 +8,7 @@ use native.Mathlib.Omega.{arith}
 use lib.Dec.{eqb, leb, ltb}
 use lib.ListN.{length, getD, length-map}
 use borrow.Author.Tests.{le-ltb}
-use Rattle.record.specs.Record.{pick, records}
+use Rattle.record.specs.Record.{pick, File, records}
 use Rattle.record.proofs.Records.{records-length, records-shaped}
 use Rattle.unification.proofs.Lists.{Each}
 use Rattle.unification.proofs.Tests.{both-true}
@@ -37,7 +37,7 @@ use Rattle.boards.specs.Promised.{UsesPresent, UsesClause, boardAfterCal
 use Rattle.boards.proofs.Calls.{all-uses, unused-same, changed-other, present-all, all-present, cell-same, boards-called, call-answered, same-inputs}
 use Rattle.boards.proofs.Parents.{Kept, stands-kept}
 
-module _ (day : ℕ) (file : List ℕ) (tables : Tables) (board : List ℕ) (S : State) (st : Stands file S) (tablesLong : ¬ TableShort tables) (long : 4097 ≤ length board) where
+module _ (day : ℕ) (file : File) (tables : Tables) (board : List ℕ) (S : State) (st : Stands file S) (tablesLong : ¬ TableShort tables) (long : 4097 ≤ length board) where
   abbrev C : List ℕ
   C = tablesAfter file tables .clauses
 

@@ -10,7 +10,7 @@ use lib.Dec.{eqb, ltb, eqb-refl, ltb→lt}
 use lib.ListN.{length, getD, set, length-set}
 use lib.Seq.{getD-set-same, getD-set-other, ext-getD}
 use borrow.Author.Tests.{eq-eqb, ne-eqb, lt-ltb, le-ltb}
-use Rattle.record.specs.Record.{pick, kindOf}
+use Rattle.record.specs.Record.{pick, File, kindOf}
 use Rattle.unification.proofs.Lists.{Each, each-append, each-more}
 use Rattle.unification.proofs.Tests.{to-T, from-T, both-true, true-not-false, some-not-none}
 use Rattle.derivation.specs.Derivation.{Derivation, literals, input, resolve, factor, clauseNumber, Use, uses, Literal}
@@ -85,7 +85,7 @@ empty-true [] q = refl
 empty-true (l ∷ ls) q = absurd (true-not-false q refl)
 
 -- ── A board of a state ──
-module _ (day : ℕ) (S : State) (board : List ℕ) (few : length (derivations S) ≤ 4096) (long : 4097 ≤ length board) (F C : List ℕ) (H : Kept F S)
+module _ (day : ℕ) (S : State) (board : List ℕ) (few : length (derivations S) ≤ 4096) (long : 4097 ≤ length board) (F : File) (C : List ℕ) (H : Kept F S)
     (records-in : (n k : ℕ) (c : Derivation) → entry (S .clauses) n ≡ some (k, c) → getD C (5 * n) 0 ≡ k)
     (literals-in : (n k : ℕ) (c : Derivation) → entry (S .clauses) n ≡ some (k, c) → getD C (5 * n + 1) 0 ≡ length (literals c)) where
   abbrev boardWith : Presence → List ℕ

@@ -8,7 +8,7 @@ use Prim.Native.Nat.{ℕ, suc}
 use native.Mathlib.Omega.{arith}
 use lib.Dec.{eqb}
 use lib.ListN.{length, drop, length-drop, length-map}
-use Rattle.record.specs.Record.{pick, Record, records, recordPart, decoded, kindOf, fieldOf, fieldA, fieldC}
+use Rattle.record.specs.Record.{pick, File, Record, records, recordPart, decoded, kindOf, fieldOf, fieldA, fieldC}
 use Rattle.record.proofs.Records.{Shaped, records-length, records-shaped, record-numbered}
 use Rattle.unification.proofs.Lists.{Each}
 use Rattle.unification.proofs.Tests.{some-not-none, some-injective}
@@ -28,7 +28,7 @@ Recorded part (input number ls) = kindOf part ≡ 4
 Recorded part (resolve number l a r ns bs) = ((kindOf part ≡ 5) ⊎ (kindOf part ≡ 7)) × (fieldOf part 0 ≡ clauseNumber l) × (fieldOf part 2 ≡ clauseNumber r)
 Recorded part (factor number d a b bs) = (kindOf part ≡ 6) × (fieldOf part 0 ≡ clauseNumber d)
 
-pub record Kept (F : List ℕ) (S : State) : Type 0 where
+pub record Kept (F : File) (S : State) : Type 0 where
   pub recorded : Each (λ (c : ℕ × Derivation). Recorded (recordPart F (c .0)) (c .1)) (S .clauses)
   pub sourced : Sourced (derivations S)
 
@@ -39,7 +39,7 @@ same-tail : {p q : Record} {ps qs : List Record} → p ∷ ps ≡ q ∷ qs → p
 same-tail e = cc
 
 -- Record k of a file, in its list of records.
-record-here : (F : List ℕ) (k : ℕ) (r : Record) (rs : List Record) → drop k (records F) ≡ r ∷ rs → (decoded (recordPart F k) ≡ r) × (drop (suc k) (records F) ≡ rs)
+record-here : (F : File) (k : ℕ) (r : Record) (rs : List Record) → drop k (records F) ≡ r ∷ rs → (decoded (recordPart F k) ≡ r) × (drop (suc k) (records F) ≡ rs)
 record-here F k r rs q =
     let n = records-length F in
     let l = length-drop k (records F) in
@@ -47,7 +47,7 @@ record-here F k r rs q =
     let e = sym (record-numbered F k (omega arith)) ∙ q in
     (same-head e, same-tail e)
 
-module _ (F : List ℕ) (S : State) (k : ℕ) (r : Record) (T : State) (H : Kept F S) (here : decoded (recordPart F k) ≡ r) where
+module _ (F : File) (S : State) (k : ℕ) (r : Record) (T : State) (H : Kept F S) (here : decoded (recordPart F k) ≡ r) where
   -- A record that makes no clause.
   unchanged : (U : State) → T ≡ U → U .clauses ≡ S .clauses → Each (λ (c : ℕ × Derivation). Recorded (recordPart F (c .0)) (c .1)) (T .clauses)
   unchanged U e w = subst (Each (λ (c : ℕ × Derivation). Recorded (recordPart F (c .0)) (c .1))) (sym (ap (λ (X : State). X .clauses) e ∙ w)) (H .recorded)
@@ -83,7 +83,7 @@ module _ (F : List ℕ) (S : State) (k : ℕ) (r : Record) (T : State) (H : Kept
   pub step-kept : length (r .fields) ≡ 7 → step S k r ≡ stands T → Kept F T
   step-kept seven q = record { recorded = recorded-by (step-adds S k r T seven q); sourced = step-sourced S k r T seven q (H .sourced) }
 
-read-kept : (F : List ℕ) (S : State) (k : ℕ) (rs : List Record) (T : State) → drop k (records F) ≡ rs → Shaped rs → Kept F S → read S k rs ≡ allStand T → Kept F T
+read-kept : (F : File) (S : State) (k : ℕ) (rs : List Record) (T : State) → drop k (records F) ≡ rs → Shaped rs → Kept F S → read S k rs ≡ allStand T → Kept F T
 read-kept F S k [] T d h H q = subst (Kept F) (ending-stands q) H
 read-kept F S k (r ∷ rs) T d h H q = try (step S k r) refl q (λ U g p. read-kept F U (suc k) rs T (record-here F k r rs d .1) (h .1) g p)
   where
@@ -92,7 +92,7 @@ read-kept F S k (r ∷ rs) T d h H q = try (step S k r) refl q (λ U g p. read-k
     try (stands U) e p ih = ih U (step-kept F S k r U H (record-here F k r rs d .0) (h .0) e) p
     try (refused p) e z ih = absurd (stands-not-refused (sym z))
 
-pub stands-kept : (file : List ℕ) (S : State) → Stands file S → Kept file S
+pub stands-kept : (file : File) (S : State) → Stands file S → Kept file S
 unfolding ending
 stands-kept file S st = read-kept file emptyState 0 (records file) S refl (records-shaped file) (record { recorded = tt; sourced = tt }) (st .reads)
 

@@ -10,7 +10,7 @@ use lib.Dec.{eqb, leb, ltb, eqb-refl, ltb→lt}
 use lib.ListN.{length, getD, set, drop, replicate, length-append, length-map, length-reverse, length-replicate, length-drop, length-set, getD-replicate, List·getD-append}
 use lib.Seq.{getD-append-add, getD-set-same, getD-set-other, ext-getD}
 use borrow.Author.Tests.{eq-eqb, ne-eqb, le-leb, leb-true, leb-false}
-use Rattle.record.specs.Record.{pick, recordPart, kindOf, fieldOf}
+use Rattle.record.specs.Record.{pick, File, recordPart, kindOf, fieldOf}
 use Rattle.unification.proofs.Tests.{to-T, from-T, some-not-none, some-injective}
 use Rattle.derivation.specs.Derivation.{Derivation, input, resolve, factor, clauseNumber, Use, uses}
 use Rattle.verdict.specs.Force.{usesInForce}
@@ -154,7 +154,7 @@ module _ (day : ℕ) (S : State) (board : List ℕ) (few : length (derivations S
       omega arith
 
   -- ── The pass ──
-  module _ (F C : List ℕ) (H : Kept F S) (records-in : (n k : ℕ) (c : Derivation) → entry (S .clauses) n ≡ some (k, c) → getD C (5 * n) 0 ≡ k) where
+  module _ (F : File) (C : List ℕ) (H : Kept F S) (records-in : (n k : ℕ) (c : Derivation) → entry (S .clauses) n ≡ some (k, c) → getD C (5 * n) 0 ≡ k) where
     pub recorded : (n : ℕ) (c : Derivation) → clauseOf S n ≡ some c → Recorded (recordOfClause F C n) c
     recorded n c q =
         let w = with-record (S .clauses) n c q in

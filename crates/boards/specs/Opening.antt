@@ -12,7 +12,7 @@ use Rattle.boards.specs.Board.{allPresent, answerAfresh, Answer, answere
 use Rattle.boards.specs.Cells.{boardOf}
 
 -- The state that the check of a file leaves.
-abbrev pub stateLeft : List ℕ → Tables → State
+abbrev pub stateLeft : File → Tables → State
 stateLeft file tables = stateGiven (reading file (lengthsOf tables))
 
 -- A file that its check refuses gets that refusal, and no board.
@@ -27,7 +27,7 @@ boardUnlessRefused (accepted n) before next = next
 boardUnlessRefused open′ before next = next
 
 -- The answer: 2 at record 0 for a board of fewer than 4,097 cells, before all else; the refusal of the file's check; and else that of all input clauses present.
-unfoldable pub openingAnswer : ℕ → List ℕ → Tables → ℕ → Answer
+unfoldable pub openingAnswer : ℕ → File → Tables → ℕ → Answer
 openingAnswer day file tables room =
     elim (ltb room 4097) [
       | true ↦ refusedWith 2 0
@@ -35,7 +35,7 @@ openingAnswer day file tables room =
     ]
 
 -- The board: that of all input clauses present, or as it was where the answer is a refusal.
-unfoldable pub boardOpened : ℕ → List ℕ → Tables → List ℕ → List ℕ
+unfoldable pub boardOpened : ℕ → File → Tables → List ℕ → List ℕ
 boardOpened day file tables board =
     elim (ltb (length board) 4097) [
       | true ↦ board

@@ -5,6 +5,7 @@ use mathlib.Core.Option.{some}
 use mathlib.Core.List.{List, [], _∷_, _++_}
 use Prim.Native.Nat.{ℕ}
 use lib.ListN.{length, getD}
+use Rattle.record.specs.Record.{File}
 use Rattle.derivation.specs.Derivation.{Derivation, Use, uses}
 use Rattle.demands.specs.Conditions.{OneOf}
 use Rattle.demands.specs.Demands.{UsesInForce, Refutation}
@@ -29,7 +30,7 @@ boardAfterCalls F C B [] = B
 boardAfterCalls F C B (call ∷ calls) = boardAfterCalls F C (boardAfter F C B (call .clause) (call .present)) calls
 
 -- S is what the file leaves, and the tables are as its check left them.
-pub record BoardPromised (day : ℕ) (file : List ℕ) (tables : Tables) (board : List ℕ) (S : State) : Type 0 where
+pub record BoardPromised (day : ℕ) (file : File) (tables : Tables) (board : List ℕ) (S : State) : Type 0 where
   -- The board that is opened is that of all input clauses present, and its answer is the one worked out afresh.
   pub opened : boardOpened day file tables board ≡ boardOf day S allPresent board
   pub first : openingAnswer day file tables (length board) ≡ answered (answerAfresh day S allPresent)

@@ -7,7 +7,7 @@ use Prim.Native.Nat.{ℕ, zero, suc, _+_, _≤_, _<_}
 use native.Mathlib.Omega.{arith}
 use lib.Dec.{eqb}
 use lib.ListN.{length, length-map}
-use Rattle.record.specs.Record.{pick, recordCount, recordPart, decoded}
+use Rattle.record.specs.Record.{pick, File, recordCount, recordAt}
 use Rattle.unification.specs.Repeated.{IsEarliest}
 use Rattle.unification.specs.Row.{variable, Row, Expression, Variable, rowAt}
 use Rattle.unification.proofs.Lists.{Each}
@@ -21,7 +21,7 @@ use Rattle.verdict.specs.Refusal.{mostLiterals, mostIndex}
 use Rattle.verdict.specs.State.{State, arities, emptyState, rowsOf, derivations, clauseOf, arityOf, rowOf, termOf}
 use Rattle.verdict.specs.Step.{stands, refused, Result, step, allStand, stateOf}
 use Rattle.verdict.specs.Text.{decimal, variableNumber, numberAndIndex}
-use Rattle.verdict.specs.Verdict.{Lengths, longEnough, fittingLength, ending, reading, stateGiven}
+use Rattle.verdict.specs.Verdict.{Lengths, longEnough, fitting, ending, reading, stateGiven}
 use Rattle.verdict.proofs.Endings.{reading-length, reading-tables, reading-records}
 use Rattle.demands.proofs.Advance.{RowFits, Standing, standing-start, advance, refused-there, all-read}
 use Rattle.demands.proofs.Inversions.{entry-below, entry-each}
@@ -46,33 +46,33 @@ record StateLeft (S : State) : Type 0 where
   rowsFit : Each RowFits (rowsOf S)
 
 -- Reading goes on from record k to the end or to a refusal, and what stands so far keeps in order.
-left-standing : (F : List ℕ) (n k : ℕ) (S : State) → Standing F k S → k + n ≡ recordCount F → (j : ℕ) × Standing F j (stateOf (ending F))
+left-standing : (F : File) (n k : ℕ) (S : State) → Standing F k S → k + n ≡ recordCount F → (j : ℕ) × Standing F j (stateOf (ending F))
 left-standing F zero k S H e =
     let z : k ≡ recordCount F = omega arith in
     let q : ending F ≡ allStand S = all-read F S (subst (λ (i : ℕ). Standing F i S) z H) in
     (k, subst (Standing F k) (sym (ap stateOf q)) H)
-left-standing F (suc n) k S H e = try (step S k (decoded (recordPart F k))) refl (λ T G. left-standing F n (suc k) T G (omega arith))
+left-standing F (suc n) k S H e = try (step S k (recordAt F k)) refl (λ T G. left-standing F n (suc k) T G (omega arith))
   where
     here : k < recordCount F
     here = omega arith
 
-    try : (o : Result) → step S k (decoded (recordPart F k)) ≡ o → ((T : State) → Standing F (suc k) T → (j : ℕ) × Standing F j (stateOf (ending F))) → (j : ℕ) × Standing F j (stateOf (ending F))
+    try : (o : Result) → step S k (recordAt F k) ≡ o → ((T : State) → Standing F (suc k) T → (j : ℕ) × Standing F j (stateOf (ending F))) → (j : ℕ) × Standing F j (stateOf (ending F))
     try (stands T) q ih = ih T (advance F k S H here T q)
     try (refused p) q ih = (k, subst (Standing F k) (sym (ap stateOf (refused-there F k S H here p q))) H)
 
-left-ending : (F : List ℕ) → fittingLength (length F) ≡ true → StateLeft (stateOf (ending F))
+left-ending : (F : File) → fitting F ≡ true → StateLeft (stateOf (ending F))
 left-ending F fit =
     let s = left-standing F (recordCount F) 0 emptyState (standing-start F) (omega arith) in
     record { ok = ending-ok F fit; shared = s .1 .shared; rowsFit = s .1 .tally .rowsFit }
 
 -- A file that lists a clause was read.
-left-listed : (F : List ℕ) (lengths : Lengths) (n : ℕ) (c : Derivation) → clauseOf (stateGiven (reading F lengths)) n ≡ some c → StateLeft (stateGiven (reading F lengths))
-left-listed F lengths n c q = try (fittingLength (length F)) refl (longEnough lengths) refl
+left-listed : (F : File) (lengths : Lengths) (n : ℕ) (c : Derivation) → clauseOf (stateGiven (reading F lengths)) n ≡ some c → StateLeft (stateGiven (reading F lengths))
+left-listed F lengths n c q = try (fitting F) refl (longEnough lengths) refl
   where
     none-listed : stateGiven (reading F lengths) ≡ emptyState → ⊥
     none-listed e = omega (arith, entry-below [] n c (ap (λ (S : State). clauseOf S n) (sym e) ∙ q))
 
-    try : (f : Bool) → fittingLength (length F) ≡ f → (g : Bool) → longEnough lengths ≡ g → StateLeft (stateGiven (reading F lengths))
+    try : (f : Bool) → fitting F ≡ f → (g : Bool) → longEnough lengths ≡ g → StateLeft (stateGiven (reading F lengths))
     try true f true g = subst StateLeft (sym (ap stateGiven (reading-records F lengths f g))) (left-ending F f)
     try true f false g = absurd (none-listed (ap stateGiven (reading-tables F lengths f g)))
     try false f g h = absurd (none-listed (ap stateGiven (reading-length F lengths f)))
@@ -154,12 +154,12 @@ module _ (S : State) (H : StateLeft S) (n : ℕ) (c : Derivation) (q : clauseOf 
   one-name x y h k e = told-apart x y (clause-occurring Told (written (termOf S) c) all-told x h) (clause-occurring Told (written (termOf S) c) all-told y k) e
 
 -- ── Of clauses that are listed ──
-pub listed-numbers : (file : List ℕ) (lengths : Lengths) (ls : Clause) → Listed file lengths ls → FiveDigitLiterals (numberedClause ls)
+pub listed-numbers : (file : File) (lengths : Lengths) (ls : Clause) → Listed file lengths ls → FiveDigitLiterals (numberedClause ls)
 listed-numbers file lengths ls L =
     subst (λ (ms : Clause). FiveDigitLiterals (numberedClause ms)) (L .isWritten)
     (numbers-small (stateGiven (reading file lengths)) (left-listed file lengths (L .number) (L .clause) (L .isClause)) (L .number) (L .clause) (L .isClause))
 
-pub listed-names : (file : List ℕ) (lengths : Lengths) (ls : Clause) → Listed file lengths ls → (x y : Variable) → OccursInClause x ls → OccursInClause y ls
+pub listed-names : (file : File) (lengths : Lengths) (ls : Clause) → Listed file lengths ls → (x y : Variable) → OccursInClause x ls → OccursInClause y ls
     → numberAndIndex (rowOf (stateGiven (reading file lengths))) x ≡ numberAndIndex (rowOf (stateGiven (reading file lengths))) y → x ≡ y
 listed-names file lengths ls L x y h k e =
     let S = stateGiven (reading file lengths) in

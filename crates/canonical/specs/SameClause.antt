@@ -7,7 +7,7 @@ use mathlib.Core.Logic.{_⊎_}
 use mathlib.Core.List.{List, [], _∷_, _++_, map}
 use Prim.Native.Nat.{ℕ, suc, _≤_, _<_}
 use lib.Dec.{eqb, leb}
-use Rattle.record.specs.Record.{pick}
+use Rattle.record.specs.Record.{pick, File}
 use Rattle.unification.specs.Row.{Variable}
 use Rattle.unification.specs.Term.{Term, Terms, var, app, nil, cons, apply, occurrences}
 use Rattle.derivation.specs.Derivation.{Derivation}
@@ -106,7 +106,7 @@ pub record NumberedByAppearance (ls : Clause) : Type 0 where
 -- ── What is shown ──
 
 -- ls are the literals of a clause that a readout of the file lists.
-pub record Listed (file : List ℕ) (lengths : Lengths) (ls : Clause) : Type 0 where
+pub record Listed (file : File) (lengths : Lengths) (ls : Clause) : Type 0 where
   pub number : ℕ
   pub clause : Derivation
   pub isClause : clauseOf (stateGiven (reading file lengths)) number ≡ some clause
@@ -115,12 +115,12 @@ pub record Listed (file : List ℕ) (lengths : Lengths) (ls : Clause) : Type 0 w
 -- Two clauses, of one file or of two.
 pub record SameClauseSameLine : Type 0 where
   pub sameText : (ls ms : Clause) → SameUpToRenaming ls ms → canonicalText ls ≡ canonicalText ms
-  pub related : (file other : List ℕ) (lengths otherLengths : Lengths) (ls ms : Clause) → Listed file lengths ls → Listed other otherLengths ms
+  pub related : (file other : File) (lengths otherLengths : Lengths) (ls ms : Clause) → Listed file lengths ls → Listed other otherLengths ms
       → canonicalText ls ≡ canonicalText ms → hasTilde (canonicalText ls) ≡ false → SameUpToRenaming ls ms
   -- There is no `~` where, and only where, every literal has at most 64 occurrences.
   pub tilde : (ls : Clause) → (hasTilde (canonicalText ls) ≡ false → AllPrinted ls) × (AllPrinted ls → hasTilde (canonicalText ls) ≡ false)
   pub readInOneWay : ReadInOneWay
   pub numbered : (ls : Clause) → NumberedByAppearance ls
   -- Variables of a clause are told apart as the first readout tells them apart, by number and index: no variable of a clause gets two numbers because two rows declare it.
-  pub oneVariable : (file : List ℕ) (lengths : Lengths) (ls : Clause) → Listed file lengths ls → (x y : Variable) → OccursInClause x ls → OccursInClause y ls
+  pub oneVariable : (file : File) (lengths : Lengths) (ls : Clause) → Listed file lengths ls → (x y : Variable) → OccursInClause x ls → OccursInClause y ls
       → numberAndIndex (rowOf (stateGiven (reading file lengths))) x ≡ numberAndIndex (rowOf (stateGiven (reading file lengths))) y → x ≡ y

@@ -4,6 +4,8 @@ use exported::cells::put;
 use following::nodes::Nodes;
 use following::nodes::Origins;
 use following::values::ValueCells;
+use record::Form;
+ghost use Rattle.record.specs.Record.{oldFile};
 ghost use Rattle.entry.specs.Progress.{tablesWith};
 ghost use Rattle.checker.specs.Contract.{workspaceWith};
 ghost use Rattle.exported.specs.ExportedWith.{ExportedWith};
@@ -22,12 +24,13 @@ pub fn check_with_to_cells(
     values: &mut ValueCells,
     answer: &mut [u16],
 )
-    ensures { λ _. ⌜ ExportedWith day (now (file .entry)) (tablesWith (now (symbols .entry)) (now (rows .entry)) (now (clauses .entry)) (now (bindings .entry))) (workspaceWith (now (nodes .entry)) (now (origins .entry)) (now (values .entry))) (now (answer .entry)) (tablesWith (now (symbols .exit)) (now (rows .exit)) (now (clauses .exit)) (now (bindings .exit))) (workspaceWith (now (nodes .exit)) (now (origins .exit)) (now (values .exit))) (now (answer .exit)) ⌝ }
+    ensures { λ _. ⌜ ExportedWith day (oldFile (now (file .entry))) (tablesWith (now (symbols .entry)) (now (rows .entry)) (now (clauses .entry)) (now (bindings .entry))) (workspaceWith (now (nodes .entry)) (now (origins .entry)) (now (values .entry))) (now (answer .entry)) (tablesWith (now (symbols .exit)) (now (rows .exit)) (now (clauses .exit)) (now (bindings .exit))) (workspaceWith (now (nodes .exit)) (now (origins .exit)) (now (values .exit))) (now (answer .exit)) ⌝ }
 {
     if answer.len() < 7 {
         return;
     }
     let a = check_with(
+        Form::Old,
         day,
         file,
         symbols,

@@ -15,6 +15,7 @@ use merge_c::merge_to_cells;
 use readout_c::canonical_to_cells;
 use readout_c::readout_to_cells;
 ghost use mathlib.Core.Bool.{true, false};
+ghost use Rattle.record.specs.Record.{oldFile};
 ghost use Rattle.entry.specs.Progress.{tablesWith};
 ghost use Rattle.checker.specs.Contract.{workspaceWith};
 ghost use Rattle.exported.specs.Exported.{Exported};
@@ -36,7 +37,7 @@ pub extern "C" fn checker_check(
     bindings: &mut [u16],
     answer: &mut [u16],
 )
-    ensures { λ _. ⌜ Exported day (now (file .entry)) (tablesWith (now (symbols .entry)) (now (rows .entry)) (now (clauses .entry)) (now (bindings .entry))) (now (answer .entry)) (tablesWith (now (symbols .exit)) (now (rows .exit)) (now (clauses .exit)) (now (bindings .exit))) (now (answer .exit)) ⌝ }
+    ensures { λ _. ⌜ Exported day (oldFile (now (file .entry))) (tablesWith (now (symbols .entry)) (now (rows .entry)) (now (clauses .entry)) (now (bindings .entry))) (now (answer .entry)) (tablesWith (now (symbols .exit)) (now (rows .exit)) (now (clauses .exit)) (now (bindings .exit))) (now (answer .exit)) ⌝ }
 {
     check_to_cells(day, file, symbols, rows, clauses, bindings, answer);
 }
@@ -55,7 +56,7 @@ pub extern "C" fn checker_check_with(
     values: &mut ValueCells,
     answer: &mut [u16],
 )
-    ensures { λ _. ⌜ ExportedWith day (now (file .entry)) (tablesWith (now (symbols .entry)) (now (rows .entry)) (now (clauses .entry)) (now (bindings .entry))) (workspaceWith (now (nodes .entry)) (now (origins .entry)) (now (values .entry))) (now (answer .entry)) (tablesWith (now (symbols .exit)) (now (rows .exit)) (now (clauses .exit)) (now (bindings .exit))) (workspaceWith (now (nodes .exit)) (now (origins .exit)) (now (values .exit))) (now (answer .exit)) ⌝ }
+    ensures { λ _. ⌜ ExportedWith day (oldFile (now (file .entry))) (tablesWith (now (symbols .entry)) (now (rows .entry)) (now (clauses .entry)) (now (bindings .entry))) (workspaceWith (now (nodes .entry)) (now (origins .entry)) (now (values .entry))) (now (answer .entry)) (tablesWith (now (symbols .exit)) (now (rows .exit)) (now (clauses .exit)) (now (bindings .exit))) (workspaceWith (now (nodes .exit)) (now (origins .exit)) (now (values .exit))) (now (answer .exit)) ⌝ }
 {
     check_with_to_cells(
         day,
@@ -83,7 +84,7 @@ pub extern "C" fn checker_covers(
     bindings: &mut [u16],
     answer: &mut [u16],
 )
-    ensures { λ _. ⌜ ExportedCovers (now (file .entry)) (tablesWith (now (symbols .entry)) (now (rows .entry)) (now (clauses .entry)) (now (bindings .entry))) c d (now (answer .entry)) (tablesWith (now (symbols .exit)) (now (rows .exit)) (now (clauses .exit)) (now (bindings .exit))) (now (answer .exit)) ⌝ }
+    ensures { λ _. ⌜ ExportedCovers (oldFile (now (file .entry))) (tablesWith (now (symbols .entry)) (now (rows .entry)) (now (clauses .entry)) (now (bindings .entry))) c d (now (answer .entry)) (tablesWith (now (symbols .exit)) (now (rows .exit)) (now (clauses .exit)) (now (bindings .exit))) (now (answer .exit)) ⌝ }
 {
     covers_to_cells(file, c, d, symbols, rows, clauses, bindings, answer);
 }
@@ -101,7 +102,7 @@ pub extern "C" fn checker_readout(
     output: &mut [u8],
     progress: &mut [u64],
 )
-    ensures { λ _. ⌜ ExportedReadout clauseLine day (now (file .entry)) (tablesWith (now (symbols .entry)) (now (rows .entry)) (now (clauses .entry)) (now (bindings .entry))) clause (now (output .entry)) (now (progress .entry)) (tablesWith (now (symbols .exit)) (now (rows .exit)) (now (clauses .exit)) (now (bindings .exit))) (now (output .exit)) (now (progress .exit)) ⌝ }
+    ensures { λ _. ⌜ ExportedReadout clauseLine day (oldFile (now (file .entry))) (tablesWith (now (symbols .entry)) (now (rows .entry)) (now (clauses .entry)) (now (bindings .entry))) clause (now (output .entry)) (now (progress .entry)) (tablesWith (now (symbols .exit)) (now (rows .exit)) (now (clauses .exit)) (now (bindings .exit))) (now (output .exit)) (now (progress .exit)) ⌝ }
 {
     readout_to_cells(
         day,
@@ -129,7 +130,7 @@ pub extern "C" fn checker_canonical_readout(
     output: &mut [u8],
     progress: &mut [u64],
 )
-    ensures { λ _. ⌜ ExportedCanonical day (now (file .entry)) (tablesWith (now (symbols .entry)) (now (rows .entry)) (now (clauses .entry)) (now (bindings .entry))) clause (now (output .entry)) (now (progress .entry)) (tablesWith (now (symbols .exit)) (now (rows .exit)) (now (clauses .exit)) (now (bindings .exit))) (now (output .exit)) (now (progress .exit)) ⌝ }
+    ensures { λ _. ⌜ ExportedCanonical day (oldFile (now (file .entry))) (tablesWith (now (symbols .entry)) (now (rows .entry)) (now (clauses .entry)) (now (bindings .entry))) clause (now (output .entry)) (now (progress .entry)) (tablesWith (now (symbols .exit)) (now (rows .exit)) (now (clauses .exit)) (now (bindings .exit))) (now (output .exit)) (now (progress .exit)) ⌝ }
 {
     canonical_to_cells(
         day,
@@ -182,7 +183,7 @@ pub extern "C" fn checker_board_open(
     board: &mut [u16],
     answer: &mut [u16],
 )
-    ensures { λ _. ⌜ ExportedOpening day (now (file .entry)) (tablesWith (now (symbols .entry)) (now (rows .entry)) (now (clauses .entry)) (now (bindings .entry))) (now (board .entry)) (now (answer .entry)) (tablesWith (now (symbols .exit)) (now (rows .exit)) (now (clauses .exit)) (now (bindings .exit))) (now (board .exit)) (now (answer .exit)) ⌝ }
+    ensures { λ _. ⌜ ExportedOpening day (oldFile (now (file .entry))) (tablesWith (now (symbols .entry)) (now (rows .entry)) (now (clauses .entry)) (now (bindings .entry))) (now (board .entry)) (now (answer .entry)) (tablesWith (now (symbols .exit)) (now (rows .exit)) (now (clauses .exit)) (now (bindings .exit))) (now (board .exit)) (now (answer .exit)) ⌝ }
 {
     open_to_cells(day, file, symbols, rows, clauses, bindings, board, answer);
 }
@@ -196,7 +197,7 @@ pub extern "C" fn checker_board_withdraw(
     clause: u16,
     answer: &mut [u16],
 )
-    ensures { λ _. ⌜ ExportedCall (now (file .entry)) (now (clauses .entry)) (now (board .entry)) clause false (now (answer .entry)) (now (board .exit)) (now (answer .exit)) ⌝ }
+    ensures { λ _. ⌜ ExportedCall (oldFile (now (file .entry))) (now (clauses .entry)) (now (board .entry)) clause false (now (answer .entry)) (now (board .exit)) (now (answer .exit)) ⌝ }
 {
     withdraw_to_cells(file, clauses, board, clause, answer);
 }
@@ -210,7 +211,7 @@ pub extern "C" fn checker_board_return(
     clause: u16,
     answer: &mut [u16],
 )
-    ensures { λ _. ⌜ ExportedCall (now (file .entry)) (now (clauses .entry)) (now (board .entry)) clause true (now (answer .entry)) (now (board .exit)) (now (answer .exit)) ⌝ }
+    ensures { λ _. ⌜ ExportedCall (oldFile (now (file .entry))) (now (clauses .entry)) (now (board .entry)) clause true (now (answer .entry)) (now (board .exit)) (now (answer .exit)) ⌝ }
 {
     return_to_cells(file, clauses, board, clause, answer);
 }

@@ -8,6 +8,7 @@ use native.Mathlib.Omega.{arith}
 use lib.Dec.{eqb, ltb, ltb→lt, lt→ltb}
 use lib.ListN.{length, replicate, length-map}
 use borrow.Author.Tests.{eqb-true, eq-eqb}
+use Rattle.record.specs.Record.{File}
 use Rattle.unification.proofs.Tests.{to-T, from-T, both-true, true-not-false}
 use Rattle.derivation.specs.Derivation.{input, RowLiteral, Derivation}
 use Rattle.derivation.specs.Stored.{originCode, literalsCell}
@@ -33,7 +34,7 @@ use Rattle.coverings.proofs.StateTerms.{terms-of, row-formed, InputHere, input-
 use Rattle.coverings.proofs.Truth.{Formed}
 use Rattle.coverings.proofs.Settling.{numbers-of, Settled, settled, nothing-due, yes-due, no-due}
 
-pub refused-covering : (file : List ℕ) (before : Tables) (c d : ℕ) (r : given.Covering) → coveringGiven r ≡ 2 ∷ 15 ∷ 0 ∷ replicate 7 0 → ((S : State) (C D : List RowLiteral) → ¬ Comparable file before c d S C D) → CoveringOf file before c d r
+pub refused-covering : (file : File) (before : Tables) (c d : ℕ) (r : given.Covering) → coveringGiven r ≡ 2 ∷ 15 ∷ 0 ∷ replicate 7 0 → ((S : State) (C D : List RowLiteral) → ¬ Comparable file before c d S C D) → CoveringOf file before c d r
 refused-covering file before c d r e h = record { answer = refusedWith 15 0; numbers = e; promised = nothing-due file before c d h }
 
 module _ (CL N O : List ℕ) (a : answer.Answer) (c d : ℕ) (R : AfterCheck CL N O a) where

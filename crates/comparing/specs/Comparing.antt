@@ -4,6 +4,7 @@ use mathlib.Core.Bool.{Bool, _&&_}
 use mathlib.Core.List.{List}
 use Prim.Native.Nat.{ℕ}
 use lib.Dec.{eqb, ltb}
+use Rattle.record.specs.Record.{File}
 use Rattle.derivation.specs.Stored.{originCode}
 use Rattle.verdict.specs.Tables.{Tables}
 use Rattle.entry.specs.Progress.{tablesWith}
@@ -20,7 +21,7 @@ isInput O count c = ltb c count && eqb (originCode O c) 1
 -- What is there after a check of some file: its answer, for some tables before it, with the workspace that it left.
 pub record AfterCheck (C N O : List ℕ) (a : answer.Answer) : Type 0 where
   pub day : ℕ
-  pub file : List ℕ
+  pub file : File
   pub before : Tables
   pub lent : Workspace
   pub symbols : List ℕ
@@ -30,7 +31,7 @@ pub record AfterCheck (C N O : List ℕ) (a : answer.Answer) : Type 0 where
   pub checked : CheckedWith day file before lent a (tablesWith symbols rows C bindings) (workspaceWith N O values)
 
 -- What comparing says, whichever file was checked and whichever tables there were before.
-pub record CoveringOf (file : List ℕ) (before : Tables) (c d : ℕ) (r : Covering) : Type 0 where
+pub record CoveringOf (file : File) (before : Tables) (c d : ℕ) (r : Covering) : Type 0 where
   pub answer : Answer
   pub numbers : coveringGiven r ≡ tenNumbers answer
   pub promised : AnswerPromised file before c d answer

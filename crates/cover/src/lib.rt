@@ -3,6 +3,8 @@
 use checker::check_with;
 use comparing::compare::compare;
 use comparing::covering::Covering;
+use record::Form;
+ghost use Rattle.record.specs.Record.{oldFile};
 ghost use Rattle.entry.specs.Progress.{tablesWith};
 ghost use Rattle.cover.specs.Contract.{CoversAnswered};
 
@@ -17,12 +19,13 @@ pub fn covers(
     c: u16,
     d: u16,
 ) -> Covering
-    ensures { λ r. ⌜ CoversAnswered (now (file .entry)) (tablesWith (now (symbols .entry)) (now (rows .entry)) (now (clauses .entry)) (now (bindings .entry))) c d r (tablesWith (now (symbols .exit)) (now (rows .exit)) (now (clauses .exit)) (now (bindings .exit))) ⌝ }
+    ensures { λ r. ⌜ CoversAnswered (oldFile (now (file .entry))) (tablesWith (now (symbols .entry)) (now (rows .entry)) (now (clauses .entry)) (now (bindings .entry))) c d r (tablesWith (now (symbols .exit)) (now (rows .exit)) (now (clauses .exit)) (now (bindings .exit))) ⌝ }
 {
     let mut nodes = [0u16; 32768];
     let mut origins = [0u16; 32768];
     let mut values = [0u16; 524416];
     let a = check_with(
+        Form::Old,
         0,
         file,
         symbols,

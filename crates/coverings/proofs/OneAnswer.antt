@@ -5,6 +5,7 @@ use mathlib.Core.Bool.{Bool, true, false}
 use mathlib.Core.List.{List, [], _∷_}
 use Prim.Native.Nat.{ℕ}
 use native.Mathlib.Omega.{arith}
+use Rattle.record.specs.Record.{File}
 use Rattle.unification.specs.Repeated.{equalLists}
 use Rattle.unification.proofs.Repeats.{lists-equal, list-itself}
 use Rattle.unification.proofs.Tests.{true-not-false}
@@ -30,7 +31,7 @@ one-choice (n ∷ ns) (m ∷ ms) (inl a) (inr q) = let b = q .0 in absurd (omega
 one-choice (n ∷ ns) (m ∷ ms) (inr p) (inl b) = let a = p .0 in absurd (omega arith)
 one-choice (n ∷ ns) (m ∷ ms) (inr p) (inr q) = ap₂ (λ (x : ℕ) (xs : List ℕ). x ∷ xs) (p .0) (one-choice ns ms (p .1) (q .1))
 
-module _ (file : List ℕ) (tables : Tables) (c d : ℕ) where
+module _ (file : File) (tables : Tables) (c d : ℕ) where
   -- Where there is something to compare, one clause with another has one earliest choice.
   same-choice : (ns ms : List ℕ) → AnswerPromised file tables c d (covers ns) → AnswerPromised file tables c d (covers ms) → ns ≡ ms
   same-choice ns ms A B = try (equalLists ns ms) refl

@@ -6,6 +6,7 @@ use mathlib.Core.List.{List, _∷_, _++_}
 use Prim.Native.Nat.{ℕ, zero, suc, _+_, _-_, _/_, _≤_, _<_}
 use native.Mathlib.Omega.{arith}
 use lib.ListN.{length, getD, replicate, length-replicate}
+use Rattle.record.specs.Record.{File}
 use Rattle.unification.specs.Nodes.{part, HasRow}
 use Rattle.unification.specs.Term.{Term, var}
 use Rattle.derivation.specs.Derivation.{input, RowLiteral, Derivation}
@@ -90,7 +91,7 @@ module _ (N O : List ℕ) (term : ℕ → Term ℕ) (H : TermsOf N term) (c d le
 -- ── The answer that is due ──
 
 -- Nothing to compare: the answer is the refusal.
-pub nothing-due : (file : List ℕ) (before : Tables) (c d : ℕ) → ((S : State) (C D : List RowLiteral) → ¬ Comparable file before c d S C D) → AnswerPromised file before c d (refusedWith 15 0)
+pub nothing-due : (file : File) (before : Tables) (c d : ℕ) → ((S : State) (C D : List RowLiteral) → ¬ Comparable file before c d S C D) → AnswerPromised file before c d (refusedWith 15 0)
 nothing-due file before c d h = record {
   refusedIf = λ k. refl;
   refusedOnly = λ n k e. h;
@@ -112,7 +113,7 @@ not-covers : {ns : List ℕ} → coversNot ≡ covers ns → ⊥
 not-covers e = let z : _≡_ {A = ℕ} 0 1 = cc in omega arith
 
 -- What is due of one comparison is due of the file: there is one state and one list of literals for each clause.
-module _ (file : List ℕ) (before : Tables) (c d : ℕ) (S : State) (C D : List RowLiteral) (K : Comparable file before c d S C D) where
+module _ (file : File) (before : Tables) (c d : ℕ) (S : State) (C D : List RowLiteral) (K : Comparable file before c d S C D) where
   one-state : (T : State) → Stands file T → T ≡ S
   one-state T st = ending-stands (sym (st .reads) ∙ K .stands .reads)
 

@@ -8,7 +8,7 @@ use native.Mathlib.Omega.{arith}
 use lib.Dec.{eqb}
 use lib.ListN.{length, take, length-map, length-take}
 use borrow.Author.Tests.{eqb-true}
-use Rattle.record.specs.Record.{pick, recordCount}
+use Rattle.record.specs.Record.{pick, File, recordCount}
 use Rattle.unification.specs.Nodes.{isVariable, part, HasRow, argumentsFrom, nodeArity}
 use Rattle.unification.specs.Repeated.{IsEarliest}
 use Rattle.unification.specs.Row.{variable, Row, application, rowAt, argumentTerms}
@@ -64,7 +64,7 @@ input-case (storedFactor e a x b f K) q = absurd (omega arith)
 input-code : {O C B : List ℕ} {c k : ℕ} {ls : List RowLiteral} → Stored O C B c (input k ls) → originCode O c ≡ 1
 input-code (storedInput e l K) = e
 
-module _ {F : List ℕ} {t : Tables} {k : ℕ} {S : State} {n : Counts} {here : Tables} {N O A : List ℕ} (K : Kept F t k S n here N O A) (few : k ≤ recordCount F) where
+module _ {F : File} {t : Tables} {k : ℕ} {S : State} {n : Counts} {here : Tables} {N O A : List ℕ} (K : Kept F t k S n here N O A) (few : k ≤ recordCount F) where
   abbrev ws : List Row
   ws = rowsOf S
 

@@ -4,6 +4,7 @@ use mathlib.Core.Option.{some}
 use mathlib.Core.List.{List, _∷_, _++_}
 use Prim.Native.Nat.{ℕ, _-_}
 use lib.ListN.{length, replicate}
+use Rattle.record.specs.Record.{File}
 use Rattle.unification.specs.Term.{Term}
 use Rattle.derivation.specs.Derivation.{input, RowLiteral}
 use Rattle.derivation.specs.Ground.{Assignment}
@@ -27,7 +28,7 @@ tenNumbers coversNot = 0 ∷ 0 ∷ 0 ∷ replicate 7 0
 tenNumbers (refusedWith number k) = 2 ∷ number ∷ k ∷ replicate 7 0
 
 -- The file stands, with tables long enough for its check, and C and D are the literals of its input clauses c and d.
-pub record Comparable (file : List ℕ) (tables : Tables) (c d : ℕ) (S : State) (C D : List RowLiteral) : Type 0 where
+pub record Comparable (file : File) (tables : Tables) (c d : ℕ) (S : State) (C D : List RowLiteral) : Type 0 where
   pub stands : Stands file S
   pub tablesLong : ¬ TableShort tables
   pub isLeft : clauseOf S c ≡ some (input c C)
@@ -38,7 +39,7 @@ abbrev pub termIn : State → ℕ → Term ℕ
 termIn S r = termByNumbers (rowsOf S) r
 
 -- What is promised of the answer to a call: each of refused, yes and no is given exactly in its case.
-pub record AnswerPromised (file : List ℕ) (tables : Tables) (c d : ℕ) (answer : Answer) : Type 0 where
+pub record AnswerPromised (file : File) (tables : Tables) (c d : ℕ) (answer : Answer) : Type 0 where
   -- Refused with 15 at record 0 exactly if there is nothing to compare: the file does not stand, a table is too short, or a clause is not an input clause
   -- of the file.
   pub refusedIf : ((S : State) (C D : List RowLiteral) → ¬ Comparable file tables c d S C D) → answer ≡ refusedWith 15 0

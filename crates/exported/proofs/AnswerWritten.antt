@@ -4,6 +4,7 @@ use mathlib.Core.List.{List, [], _∷_, _++_}
 use Prim.Native.Nat.{ℕ, _<_, _≤_}
 use native.Mathlib.Omega.{arith}
 use lib.ListN.{length, drop, set}
+use Rattle.record.specs.Record.{File}
 use Rattle.checker.specs.Contract.{Checked, Workspace, CheckedWith}
 use Rattle.answer.specs.Given.{verdictCoded, answerGiven}
 use Rattle.verdict.specs.Tables.{Tables}
@@ -28,7 +29,7 @@ written a k w r xs q l =
     ∙ ap (λ (v : List ℕ). (v ++ (a .symbols ∷ a .rows ∷ a .clauses ∷ a .bindings ∷ [])) ++ drop 7 xs) q
 
 -- The two ways that the exported check can go.
-pub left-alone : (day : ℕ) (F : List ℕ) (t : Tables) (A : List ℕ) → length A < 7 → Exported day F t A t A
+pub left-alone : (day : ℕ) (F : File) (t : Tables) (A : List ℕ) → length A < 7 → Exported day F t A t A
 left-alone day F t A l = record {
   answerLeft = λ m. refl;
   symbolsLeft = λ m. refl;
@@ -42,7 +43,7 @@ left-alone day F t A l = record {
   bindings = λ m. absurd (omega arith);
 }
 
-pub answered : (day : ℕ) (F : List ℕ) (t : Tables) (A : List ℕ) (a : Answer) (here : Tables) (B : List ℕ) → 7 ≤ length A → Checked day F t a here → B ≡ answerGiven a ++ drop 7 A → Exported day F t A here B
+pub answered : (day : ℕ) (F : File) (t : Tables) (A : List ℕ) (a : Answer) (here : Tables) (B : List ℕ) → 7 ≤ length A → Checked day F t a here → B ≡ answerGiven a ++ drop 7 A → Exported day F t A here B
 answered day F t A a here B l C q = record {
   answerLeft = λ m. absurd (omega arith);
   symbolsLeft = λ m. absurd (omega arith);
@@ -57,7 +58,7 @@ answered day F t A a here B l C q = record {
 }
 
 -- The same with a workspace.
-pub left-alone-with : (day : ℕ) (file : List ℕ) (before : Tables) (w : Workspace) (answer : List ℕ) → length answer < 7 → ExportedWith day file before w answer before w answer
+pub left-alone-with : (day : ℕ) (file : File) (before : Tables) (w : Workspace) (answer : List ℕ) → length answer < 7 → ExportedWith day file before w answer before w answer
 left-alone-with day file before w answer l = record {
   exported = left-alone day file before answer l;
   workspaceLeft = λ _. refl;
@@ -67,7 +68,7 @@ left-alone-with day file before w answer l = record {
   valuesLeft = λ m reason q. absurd (omega arith);
 }
 
-pub answered-with : (day : ℕ) (file : List ℕ) (before : Tables) (w : Workspace) (answer : List ℕ) (a : Answer) (after : Tables) (left : Workspace) (answer′ : List ℕ) → 7 ≤ length answer → CheckedWith day file before w a after left → answer′ ≡ answerGiven a ++ drop 7 answer
+pub answered-with : (day : ℕ) (file : File) (before : Tables) (w : Workspace) (answer : List ℕ) (a : Answer) (after : Tables) (left : Workspace) (answer′ : List ℕ) → 7 ≤ length answer → CheckedWith day file before w a after left → answer′ ≡ answerGiven a ++ drop 7 answer
     → ExportedWith day file before w answer after left answer′
 answered-with day file before w answer a after left answer′ l X q = record {
   exported = answered day file before answer a after answer′ l (X .checked) q;

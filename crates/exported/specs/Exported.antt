@@ -4,10 +4,11 @@ use mathlib.Core.Path.{_≡_}
 use mathlib.Core.List.{List, _++_}
 use Prim.Native.Nat.{ℕ, _<_, _≤_}
 use lib.ListN.{length, drop}
+use Rattle.record.specs.Record.{File}
 use Rattle.verdict.specs.Tables.{Tables, lengthsOf, tablesAfter}
 use Rattle.verdict.specs.Verdict.{check, answerNumbers}
 
-pub record Exported (day : ℕ) (file : List ℕ) (before : Tables) (answerBefore : List ℕ) (after : Tables) (answerAfter : List ℕ) : Type 0 where
+pub record Exported (day : ℕ) (file : File) (before : Tables) (answerBefore : List ℕ) (after : Tables) (answerAfter : List ℕ) : Type 0 where
   -- An answer slice of fewer than seven cells: it and every table are left as they were.
   pub answerLeft : length answerBefore < 7 → answerAfter ≡ answerBefore
   pub symbolsLeft : length answerBefore < 7 → after .symbols ≡ before .symbols

@@ -4,13 +4,14 @@ use mathlib.Core.Path.{_≡_}
 use mathlib.Core.List.{List}
 use Prim.Native.Nat.{ℕ, _<_, _≤_}
 use lib.ListN.{length}
+use Rattle.record.specs.Record.{File}
 use Rattle.verdict.specs.Refusal.{Reason}
 use Rattle.verdict.specs.Tables.{Tables, lengthsOf}
 use Rattle.verdict.specs.Verdict.{reading, untouched}
 use Rattle.checker.specs.Contract.{Workspace, nodesGiven, originsGiven}
 use Rattle.exported.specs.Exported.{Exported}
 
-pub record ExportedWith (day : ℕ) (file : List ℕ) (before : Tables) (lent : Workspace) (answerBefore : List ℕ) (after : Tables) (left : Workspace) (answerAfter : List ℕ) : Type 0 where
+pub record ExportedWith (day : ℕ) (file : File) (before : Tables) (lent : Workspace) (answerBefore : List ℕ) (after : Tables) (left : Workspace) (answerAfter : List ℕ) : Type 0 where
   -- The answer and the tables as `checker_check` leaves them.
   pub exported : Exported day file before answerBefore after answerAfter
   -- An answer slice of fewer than seven cells: the workspace is left as it was.

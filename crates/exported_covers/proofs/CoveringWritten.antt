@@ -4,6 +4,7 @@ use mathlib.Core.List.{List, [], _∷_, _++_}
 use Prim.Native.Nat.{ℕ, _<_, _≤_}
 use native.Mathlib.Omega.{arith}
 use lib.ListN.{length, drop, set, length-set}
+use Rattle.record.specs.Record.{File}
 use Rattle.verdict.specs.Tables.{Tables}
 use Rattle.comparing.specs.Given.{outcomeNumbers, coveringGiven}
 use Rattle.cover.specs.Contract.{CoversAnswered}
@@ -55,7 +56,7 @@ pub still-nine : (X Y : List ℕ) (a b c d e f : ℕ) → X ≡ Y → 10 ≤ len
 still-nine X Y a b c d e f q l = simp length-set (at-least 9 (length X) (omega arith) l)
 
 -- The two ways that the exported function can go.
-pub covers-left-alone : (F : List ℕ) (t : Tables) (c d : ℕ) (A : List ℕ) → length A < 10 → ExportedCovers F t c d A t A
+pub covers-left-alone : (F : File) (t : Tables) (c d : ℕ) (A : List ℕ) → length A < 10 → ExportedCovers F t c d A t A
 covers-left-alone F t c d A l = record {
   answerLeft = λ m. refl;
   symbolsLeft = λ m. refl;
@@ -69,7 +70,7 @@ covers-left-alone F t c d A l = record {
   bindings = λ m. absurd (omega arith);
 }
 
-pub covers-exported : (F : List ℕ) (t : Tables) (c d : ℕ) (A : List ℕ) (r : Covering) (here : Tables) (A′ : List ℕ) → 10 ≤ length A → CoversAnswered F t c d r here → A′ ≡ coveringGiven r ++ drop 10 A → ExportedCovers F t c d A here A′
+pub covers-exported : (F : File) (t : Tables) (c d : ℕ) (A : List ℕ) (r : Covering) (here : Tables) (A′ : List ℕ) → 10 ≤ length A → CoversAnswered F t c d r here → A′ ≡ coveringGiven r ++ drop 10 A → ExportedCovers F t c d A here A′
 covers-exported F t c d A r here A′ l K q = record {
   answerLeft = λ m. absurd (omega arith);
   symbolsLeft = λ m. absurd (omega arith);

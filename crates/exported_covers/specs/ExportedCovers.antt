@@ -4,17 +4,18 @@ use mathlib.Core.Path.{_≡_}
 use mathlib.Core.List.{List, _++_}
 use Prim.Native.Nat.{ℕ, _<_, _≤_}
 use lib.ListN.{length, drop}
+use Rattle.record.specs.Record.{File}
 use Rattle.verdict.specs.Tables.{Tables, tablesAfter}
 use Rattle.coverings.specs.Answering.{Answer, tenNumbers, AnswerPromised}
 
 -- The ten numbers of an answer of which all is true that is promised, and the cells past the tenth as they were.
-pub record AnswerIn (file : List ℕ) (before : Tables) (c d : ℕ) (answerBefore answerAfter : List ℕ) : Type 0 where
+pub record AnswerIn (file : File) (before : Tables) (c d : ℕ) (answerBefore answerAfter : List ℕ) : Type 0 where
   pub answer : Answer
   pub numbers : answerAfter ≡ tenNumbers answer ++ drop 10 answerBefore
   pub promised : AnswerPromised file before c d answer
   pub only : (other : Answer) → AnswerPromised file before c d other → other ≡ answer
 
-pub record ExportedCovers (file : List ℕ) (before : Tables) (c d : ℕ) (answerBefore : List ℕ) (after : Tables) (answerAfter : List ℕ) : Type 0 where
+pub record ExportedCovers (file : File) (before : Tables) (c d : ℕ) (answerBefore : List ℕ) (after : Tables) (answerAfter : List ℕ) : Type 0 where
   -- An answer slice of fewer than ten cells: it and every table are left as they were.
   pub answerLeft : length answerBefore < 10 → answerAfter ≡ answerBefore
   pub symbolsLeft : length answerBefore < 10 → after .symbols ≡ before .symbols

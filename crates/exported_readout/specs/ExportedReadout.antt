@@ -4,6 +4,7 @@ use mathlib.Core.Path.{_≡_}
 use mathlib.Core.List.{List, [], _∷_, _++_}
 use Prim.Native.Nat.{ℕ, _<_, _≤_}
 use lib.ListN.{length, drop}
+use Rattle.record.specs.Record.{File}
 use Rattle.verdict.specs.Tables.{Tables, lengthsOf, tablesAfter}
 use Rattle.verdict.specs.Readout.{LineWriter}
 use Rattle.appearance.specs.Appearance.{canonicalLine}
@@ -18,16 +19,16 @@ progressNumbers (goOnWith n) written = 1 ∷ written ∷ n ∷ []
 progressNumbers (tooShortFor n) written = 2 ∷ written ∷ n ∷ []
 
 -- The same for the piece of a file, on a day, from a clause on, with so much room.
-abbrev pub pieceNumbers : LineWriter → ℕ → List ℕ → Tables → ℕ → ℕ → List ℕ
+abbrev pub pieceNumbers : LineWriter → ℕ → File → Tables → ℕ → ℕ → List ℕ
 pieceNumbers line day file before clause room =
     progressNumbers (progress line day file (lengthsOf before) clause room) (length (pieceBytes line day file (lengthsOf before) clause room))
 
 -- An output with the bytes of that piece at its start, and the rest of it as it was.
-abbrev pub outputWith : LineWriter → ℕ → List ℕ → Tables → ℕ → List ℕ → List ℕ
+abbrev pub outputWith : LineWriter → ℕ → File → Tables → ℕ → List ℕ → List ℕ
 outputWith line day file before clause output =
     pieceBytes line day file (lengthsOf before) clause (length output) ++ drop (length (pieceBytes line day file (lengthsOf before) clause (length output))) output
 
-pub record ExportedReadout (line : LineWriter) (day : ℕ) (file : List ℕ) (before : Tables) (clause : ℕ) (outputBefore progressBefore : List ℕ) (after : Tables) (outputAfter progressAfter : List ℕ) : Type 0 where
+pub record ExportedReadout (line : LineWriter) (day : ℕ) (file : File) (before : Tables) (clause : ℕ) (outputBefore progressBefore : List ℕ) (after : Tables) (outputAfter progressAfter : List ℕ) : Type 0 where
   -- A progress slice of fewer than three cells: it, the output and every table are left as they were.
   pub progressLeft : length progressBefore < 3 → progressAfter ≡ progressBefore
   pub outputLeft : length progressBefore < 3 → outputAfter ≡ outputBefore
@@ -48,6 +49,6 @@ pub record ExportedReadout (line : LineWriter) (day : ℕ) (file : List ℕ) (be
   pub pieces : 3 ≤ length progressBefore → PiecesHold line day file (lengthsOf before)
 
 -- Document 02, Q-10: the second readout, and what it is for.
-pub record ExportedCanonical (day : ℕ) (file : List ℕ) (before : Tables) (clause : ℕ) (outputBefore progressBefore : List ℕ) (after : Tables) (outputAfter progressAfter : List ℕ) : Type 0 where
+pub record ExportedCanonical (day : ℕ) (file : File) (before : Tables) (clause : ℕ) (outputBefore progressBefore : List ℕ) (after : Tables) (outputAfter progressAfter : List ℕ) : Type 0 where
   pub exported : ExportedReadout canonicalLine day file before clause outputBefore progressBefore after outputAfter progressAfter
   pub sameLine : SameClauseSameLine

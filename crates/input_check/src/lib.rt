@@ -6,6 +6,7 @@ use following::nodes::Origins;
 use following::values::ValueCells;
 use program_input::day_of;
 use program_input::file_part;
+use record::Form;
 ghost use Rattle.checker.specs.Contract.{workspaceWith};
 ghost use Rattle.entry.specs.Progress.{tablesWith};
 ghost use Rattle.input_check.specs.Checking.{Holds, InputChecked};
@@ -30,6 +31,7 @@ pub fn check_input(
     let first = part.first;
     let end = part.end;
     check_with(
+        Form::Old,
         day,
         &space[first..end],
         symbols,

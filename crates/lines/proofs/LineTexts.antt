@@ -8,7 +8,7 @@ use native.Mathlib.Numerals.{add-one}
 use native.Mathlib.Omega.{arith}
 use lib.Dec.{eqb}
 use lib.ListN.{length, drop, length-append, length-map}
-use Rattle.record.specs.Record.{pick}
+use Rattle.record.specs.Record.{pick, File}
 use Rattle.following.specs.Clearing.{Cleared}
 use Rattle.unification.specs.Environment.{Environment}
 use Rattle.unification.specs.Row.{Row, Variable, writtenOut}
@@ -261,13 +261,13 @@ module _ {naming : Naming} {C B N O A T K L : List ℕ} {c : ℕ} (R : LineReady
   line-nodes = kept.nodes-room (R .read .kept) (R .read .few)
 
 -- What the check left is left with any array in the array's place: between lines it does not matter what the array holds.
-pub read-again : (F : List ℕ) (t : Tables) (S : State) (here : Tables) (N O A A′ : List ℕ) → ReadTo F t S here N O A → length A′ ≡ 524416 → ReadTo F t S here N O A′
+pub read-again : (F : File) (t : Tables) (S : State) (here : Tables) (N O A A′ : List ℕ) → ReadTo F t S here N O A → length A′ ≡ 524416 → ReadTo F t S here N O A′
 read-again F t S here N O A A′ R v =
     let K = R .kept in
     record { count = R .count; few = R .few; counts = R .counts; kept = record { fit = K .fit; long = K .long; before = K .before; counts = K .counts; held = K .held; tables = K .tables; nodes = K .nodes; origins = K .origins; values = v } }
 
 -- The clause, loaded into a cleared array, can be written out.
-module _ {F C B N O A : List ℕ} {t : Tables} {S : State} {symbols rows : List ℕ} (R : ReadTo F t S (tablesWith symbols rows C B) N O A) (c : ℕ) (d : Derivation) (q : clauseOf S c ≡ some d) where
+module _ {F : File} {C B N O A : List ℕ} {t : Tables} {S : State} {symbols rows : List ℕ} (R : ReadTo F t S (tablesWith symbols rows C B) N O A) (c : ℕ) (d : Derivation) (q : clauseOf S c ≡ some d) where
   pub line-index : indexCell C c ≡ maximumIndex d
   line-index = kept.index-of (R .kept) (R .few) c d q
 
@@ -305,7 +305,7 @@ line-literals {c = c} R top p A₁ A₂ X Y T′ room =
 module _ (naming : Naming) (C B N O A T K L : List ℕ) (at c top : ℕ) (p : top ≡ indexCell C c) (A₁ A₂ A₃ : List ℕ) (X : Cleared A A₁ (128 * (top + 1))) (Y : Loaded O C B N A₁ A₂ c 0)
     (T₁ : List ℕ) (blank : ℕ) (v₁ : Wrote T T₁ at blank (decimal c)) (T₂ : List ℕ) (index : ℕ) (v₂ : Wrote T₁ T₂ blank index (32 ∷ [])) (T₃ : List ℕ) (first : ℕ) (v₃ : Wrote T₂ T₃ index first (decimal top))
     (T₄ K′ L′ : List ℕ) (last : Place) (G : WritesLiterals naming O C N A₂ A₃ T₃ T₄ K K′ L L′ first c last) (Z : Sized N A₃ T₄) (T₅ : List ℕ) (end : ℕ) (v₄ : Wrote T₄ T₅ (last .end) end (10 ∷ [])) where
-  parts : (F : List ℕ) (t : Tables) (S : State) (symbols rows : List ℕ) → ReadTo F t S (tablesWith symbols rows C B) N O A → (d : Derivation) → clauseOf S c ≡ some d → NumberRoom naming K L
+  parts : (F : File) (t : Tables) (S : State) (symbols rows : List ℕ) → ReadTo F t S (tablesWith symbols rows C B) N O A → (d : Derivation) → clauseOf S c ≡ some d → NumberRoom naming K L
       → PartWritten naming N top A₃ (lookup d) (rowOf S) T₃ T₄ K′ L′ first (λ name. literalsText name (written (termOf S) d)) (allShown [] (written (termOf S) d)) last
   parts F t S symbols rows R d q room =
       let m : top ≡ maximumIndex d = p ∙ line-index {t = t} {symbols = symbols} {rows = rows} R c d q in

@@ -5,6 +5,7 @@ use mathlib.Core.Option.{some}
 use mathlib.Core.List.{List, [], map}
 use Prim.Native.Nat.{ℕ, _≤_, _<_}
 use lib.ListN.{length}
+use Rattle.record.specs.Record.{File}
 use Rattle.unification.specs.Environment.{Environment}
 use Rattle.unification.specs.Nodes.{HasRow, nodeRow}
 use Rattle.unification.specs.Row.{Row, Variable, rowTerm}
@@ -71,7 +72,7 @@ WritesLiterals naming O C N A A′ T T′ K K′ L L′ at c p =
 
 -- What writing the line of clause c asks: what the check of the file left of some state, which has a clause c, the buffer's length, and room for numbers.
 pub record LineReady (naming : Naming) (C B N O A T K L : List ℕ) (c : ℕ) : Type 0 where
-  pub file : List ℕ
+  pub file : File
   pub tablesBefore : Tables
   pub state : State
   pub symbols : List ℕ
@@ -83,6 +84,6 @@ pub record LineReady (naming : Naming) (C B N O A T K L : List ℕ) (c : ℕ) : 
 
 -- What it says: the clause's line, whichever state the check left; and the lengths, which is all that the next line needs besides.
 pub record LineWritten (naming : Naming) (C B N O A A′ T T′ : List ℕ) (at c end : ℕ) : Type 0 where
-  pub wrote : (F : List ℕ) (t : Tables) (S : State) (symbols rows : List ℕ) → ReadTo F t S (tablesWith symbols rows C B) N O A
+  pub wrote : (F : File) (t : Tables) (S : State) (symbols rows : List ℕ) → ReadTo F t S (tablesWith symbols rows C B) N O A
       → (d : Derivation) → clauseOf S c ≡ some d → Wrote T T′ at end (lineOf naming S c d)
   pub sized : Sized N A′ T′

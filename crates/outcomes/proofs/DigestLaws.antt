@@ -20,6 +20,7 @@ use Rattle.pieces.specs.declared.Rest.the-variants.{Complete, GoOn, TooShort}
 use Rattle.pieces.proofs.Rest.{the-type}
 use denote.Enum.Declared.{tagOf}
 use mathlib.Core.Logic.{_⊎_, inl, inr}
+use Rattle.record.specs.Record.{File}
 use Rattle.units.proofs.UnitSizes.{pieces-always}
 use Rattle.units.proofs.UnitWriting.{after-again}
 use Rattle.outcomes.specs.Digest.{DigestOf, DigestAfter}
@@ -28,12 +29,12 @@ use Rattle.outcomes.specs.declared.digest.Digest.{Digest}
 use Rattle.hash.proofs.HashLaws.{bytes-append}
 
 -- A piece that was written into an output with room for the longest line: its bytes, and where it ended.
-record Ended (naming : Naming) (day : ℕ) (F : List ℕ) (L : Lengths) (n : ℕ) (output output′ : List ℕ) (p : Piece) : Type 0 where
+record Ended (naming : Naming) (day : ℕ) (F : File) (L : Lengths) (n : ℕ) (output output′ : List ℕ) (p : Piece) : Type 0 where
   pub bytes : take (p .written) output′ ≡ pieceBytes (lineOf naming) day F L n 131072
   pub written : p .written ≡ length (pieceBytes (lineOf naming) day F L n 131072)
   pub rest : restGiven (p .rest) ≡ progress (lineOf naming) day F L n 131072
 
-ended : {naming : Naming} {day : ℕ} {F : List ℕ} {L : Lengths} {n : ℕ} {output output′ : List ℕ} {p : Piece} → length output ≡ 131072 → PieceAt (lineOf naming) day F L n output output′ p → Ended naming day F L n output output′ p
+ended : {naming : Naming} {day : ℕ} {F : File} {L : Lengths} {n : ℕ} {output output′ : List ℕ} {p : Piece} → length output ≡ 131072 → PieceAt (lineOf naming) day F L n output output′ p → Ended naming day F L n output output′ p
 ended {naming} {day} {F} {L} {n} {output} {output′} {p} room P = record {
   bytes = ap (take (p .written)) (P .bytes) ∙ take-at (pieceBytes (lineOf naming) day F L n (length output)) (drop (length (pieceBytes (lineOf naming) day F L n (length output))) output) (p .written) (sym (P .written)) ∙ ap (pieceBytes (lineOf naming) day F L n) room;
   written = P .written ∙ ap (λ (k : ℕ). length (pieceBytes (lineOf naming) day F L n k)) room;
@@ -41,17 +42,17 @@ ended {naming} {day} {F} {L} {n} {output} {output′} {p} room P = record {
 }
 
 -- The pieces so far, up to clause n.
-pub record Taken (naming : Naming) (day : ℕ) (F : List ℕ) (L : Lengths) (n size hash : ℕ) : Type 0 where
+pub record Taken (naming : Naming) (day : ℕ) (F : File) (L : Lengths) (n size hash : ℕ) : Type 0 where
   pub text : List ℕ
   pub onward : (more : List ℕ) → Pieces (lineOf naming) day F L n more → Pieces (lineOf naming) day F L 0 (text ++ more)
   pub sizes : size ≡ length text
   pub hashes : hash ≡ hashBytes start text
 
-taken-none : (naming : Naming) (day : ℕ) (F : List ℕ) (L : Lengths) → Taken naming day F L 0 0 start
+taken-none : (naming : Naming) (day : ℕ) (F : File) (L : Lengths) → Taken naming day F L 0 0 start
 unfolding hashBytes
 taken-none naming day F L = record { text = []; onward = λ more P. P; sizes = refl; hashes = refl }
 
-module _ {naming : Naming} {day : ℕ} {F : List ℕ} {L : Lengths} {n size hash : ℕ} (T : Taken naming day F L n size hash) {output output′ : List ℕ} {p : Piece} (E : Ended naming day F L n output output′ p) {hash′ : ℕ} (h : hash′ ≡ hashBytes hash (take (p .written) output′)) where
+module _ {naming : Naming} {day : ℕ} {F : File} {L : Lengths} {n size hash : ℕ} (T : Taken naming day F L n size hash) {output output′ : List ℕ} {p : Piece} (E : Ended naming day F L n output output′ p) {hash′ : ℕ} (h : hash′ ≡ hashBytes hash (take (p .written) output′)) where
   sum : size + p .written ≡ length (T .text ++ pieceBytes (lineOf naming) day F L n 131072)
   sum = omega (arith, T .sizes, E .written, length-append (T .text) (pieceBytes (lineOf naming) day F L n 131072))
 

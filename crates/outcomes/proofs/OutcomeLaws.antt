@@ -2,6 +2,7 @@
 use mathlib.Core.Path.{_≡_, ap, _∙_}
 use mathlib.Core.List.{List}
 use Prim.Native.Nat.{ℕ}
+use Rattle.record.specs.Record.{File}
 use Rattle.checker.specs.Contract.{Workspace, workspaceWith, CheckedWith}
 use Rattle.entry.specs.Progress.{tablesWith}
 use Rattle.verdict.specs.Tables.{Tables}
@@ -15,7 +16,7 @@ use Rattle.outcomes.specs.Outcome.{OutcomeOf}
 use Rattle.outcomes.specs.declared.digest.Digest.{Digest}
 
 -- The array does not matter, only its length.
-pub outcome-given : (day : ℕ) (file : List ℕ) (before : Tables) (w : Workspace) (a : Answer) (S R C B N O A A₁ A₂ : List ℕ) (s r c b : ℕ) (d e : Digest) → CheckedWith day file before w a (tablesWith S R C B) (workspaceWith N O A) → s ≡ hashCells start S → r ≡ hashCells start R → c ≡ hashCells start C → b ≡ hashCells start B → DigestAfter ByIndex C B N O A A₁ a d → DigestAfter ByAppearance C B N O A₁ A₂ a e
+pub outcome-given : (day : ℕ) (file : File) (before : Tables) (w : Workspace) (a : Answer) (S R C B N O A A₁ A₂ : List ℕ) (s r c b : ℕ) (d e : Digest) → CheckedWith day file before w a (tablesWith S R C B) (workspaceWith N O A) → s ≡ hashCells start S → r ≡ hashCells start R → c ≡ hashCells start C → b ≡ hashCells start B → DigestAfter ByIndex C B N O A A₁ a d → DigestAfter ByAppearance C B N O A₁ A₂ a e
     → OutcomeOf day file before (record { answer = a; hashes = record { symbols = s; rows = r; clauses = c; bindings = b }; readout = d; canonical = e })
 unfolding after-again
 outcome-given day file before w a S R C B N O A A₁ A₂ s r c b d e X ps pr pc pb D E =

@@ -3,6 +3,7 @@ use mathlib.Core.Path.{_≡_}
 use mathlib.Core.List.{List}
 use Prim.Native.Nat.{ℕ}
 use lib.ListN.{length}
+use Rattle.record.specs.Record.{File}
 use Rattle.verdict.specs.Tables.{lengthsOf}
 use Rattle.verdict.specs.Verdict.{Lengths}
 use Rattle.answer.specs.declared.Answer.{Answer}
@@ -14,7 +15,7 @@ use Rattle.hash.specs.Hash.{start, hashBytes}
 use Rattle.outcomes.specs.declared.digest.Digest.{Digest}
 
 -- The number of bytes of a file's readout on a day, and their hash.
-pub record DigestOf (line : LineWriter) (day : ℕ) (file : List ℕ) (lengths : Lengths) (d : Digest) : Type 0 where
+pub record DigestOf (line : LineWriter) (day : ℕ) (file : File) (lengths : Lengths) (d : Digest) : Type 0 where
   pub length : d .length ≡ length (readoutBy line day file lengths)
   pub hash : d .hash ≡ hashBytes start (readoutBy line day file lengths)
 

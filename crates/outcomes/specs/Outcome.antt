@@ -3,6 +3,7 @@ use mathlib.Core.Path.{_≡_}
 use mathlib.Core.List.{List}
 use Prim.Native.Nat.{ℕ}
 use lib.ListN.{replicate}
+use Rattle.record.specs.Record.{File}
 use Rattle.answer.specs.Given.{answerGiven}
 use Rattle.verdict.specs.Tables.{Tables, lengthsOf, tablesAfter}
 use Rattle.verdict.specs.Verdict.{check, answerNumbers, leastLengths}
@@ -18,7 +19,7 @@ zeroTables = record { symbols = replicate (leastLengths .symbols) 0; rows = repl
 
 -- The seven numbers of the answer, the hash of each table, and the length and the hash of both readouts, for a file that is checked on a
 -- day with some tables.
-pub record OutcomeOf (day : ℕ) (file : List ℕ) (before : Tables) (o : Outcome) : Type 0 where
+pub record OutcomeOf (day : ℕ) (file : File) (before : Tables) (o : Outcome) : Type 0 where
   pub answer : answerGiven (o .answer) ≡ answerNumbers (check day file (lengthsOf before))
   pub symbols : o .hashes .symbols ≡ hashCells start (tablesAfter file before .symbols)
   pub rows : o .hashes .rows ≡ hashCells start (tablesAfter file before .rows)

@@ -8,6 +8,8 @@ use following::nodes::Origins;
 use following::values::ValueCells;
 use hash::hash_of;
 use numbering::Naming;
+use record::Form;
+ghost use Rattle.record.specs.Record.{oldFile};
 ghost use Rattle.entry.specs.Progress.{tablesWith};
 ghost use Rattle.numbering.specs.Numbering.{NumberRoom};
 ghost use Rattle.numbering.specs.declared.Naming.the-variants.{ByAppearance};
@@ -44,9 +46,10 @@ fn outcome_with(
     order: &mut [u32],
 ) -> Outcome
     requires { ⌜ NumberRoom ByAppearance (now cells) (now order) ⌝ }
-    ensures { λ o. ⌜ OutcomeOf day (now (file .entry)) (tablesWith (now (symbols .entry)) (now (rows .entry)) (now (clauses .entry)) (now (bindings .entry))) o ⌝ }
+    ensures { λ o. ⌜ OutcomeOf day (oldFile (now (file .entry))) (tablesWith (now (symbols .entry)) (now (rows .entry)) (now (clauses .entry)) (now (bindings .entry))) o ⌝ }
 {
     let answer = check_with(
+        Form::Old,
         day,
         file,
         symbols,
@@ -95,7 +98,7 @@ fn outcome_with(
 
 // The same with tables that are just long enough and zero before.
 pub fn outcome_of(day: u16, file: &[u8]) -> Outcome
-    ensures { λ o. ⌜ OutcomeOf day (now (file .entry)) zeroTables o ⌝ }
+    ensures { λ o. ⌜ OutcomeOf day (oldFile (now (file .entry))) zeroTables o ⌝ }
 {
     let mut symbols = [0u16; 4096];
     let mut rows = [0u16; 4096];

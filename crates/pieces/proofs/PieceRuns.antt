@@ -9,7 +9,7 @@ use lib.Dec.{eqb}
 use lib.ListN.{length, getD, set, take, drop, length-append, drop-of-length-le}
 use lib.Seq.{paste, paste-suc, drop-cons, take-at, drop-at}
 use borrow.Author.Tests.{le-leb, lt-leb, eq-eqb, ne-eqb}
-use Rattle.record.specs.Record.{pick}
+use Rattle.record.specs.Record.{pick, File}
 use Rattle.verdict.specs.Verdict.{Lengths}
 use Rattle.units.specs.Pieces.{units, fitting, goOnWith, tooShortFor, afterPiece, unitsFrom, pieceLines}
 use Rattle.verdict.specs.Readout.{LineWriter, readoutLines, joinedLines}
@@ -28,7 +28,7 @@ joined-more : (us : List (List ℕ)) (u : List ℕ) → joinedLines (us ++ (u �
 joined-more [] u = append-nil u
 joined-more (v ∷ us) u = ap (λ (x : List ℕ). v ++ x) (joined-more us u) ∙ sym (append-assoc v (joinedLines us) u)
 
-module _ (line : LineWriter) (day : ℕ) (F : List ℕ) (lengths : Lengths) (begin : ℕ) (out₀ : List ℕ) where
+module _ (line : LineWriter) (day : ℕ) (F : File) (lengths : Lengths) (begin : ℕ) (out₀ : List ℕ) where
   pub record SoFar (out : List ℕ) (n written : ℕ) : Type 0 where
     pub taken : List (List ℕ)
     pub count : begin + length taken ≡ n

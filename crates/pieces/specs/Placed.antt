@@ -5,7 +5,7 @@ use mathlib.Core.List.{List, _++_}
 use Prim.Native.Nat.{ℕ}
 use lib.Dec.{eqb}
 use lib.ListN.{length, drop}
-use Rattle.record.specs.Record.{pick}
+use Rattle.record.specs.Record.{pick, File}
 use Rattle.verdict.specs.Tables.{lengthsOf}
 use Rattle.verdict.specs.Verdict.{Lengths}
 use Rattle.verdict.specs.Readout.{LineWriter}
@@ -28,7 +28,7 @@ abbrev pub stoppedAt : ℕ → ℕ → Progress
 stoppedAt begin n = pick (eqb n begin) (tooShortFor begin) (goOnWith n)
 
 -- The bytes of a piece at the start of an output, and the rest of it as it was.
-pub record PieceAt (line : LineWriter) (day : ℕ) (file : List ℕ) (lengths : Lengths) (begin : ℕ) (output output′ : List ℕ) (p : Piece) : Type 0 where
+pub record PieceAt (line : LineWriter) (day : ℕ) (file : File) (lengths : Lengths) (begin : ℕ) (output output′ : List ℕ) (p : Piece) : Type 0 where
   pub written : p .written ≡ length (pieceBytes line day file lengths begin (length output))
   pub rest : restGiven (p .rest) ≡ progress line day file lengths begin (length output)
   pub bytes : output′ ≡ pieceBytes line day file lengths begin (length output) ++ drop (length (pieceBytes line day file lengths begin (length output))) output

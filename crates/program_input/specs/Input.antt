@@ -4,7 +4,7 @@ use mathlib.Core.List.{List}
 use Prim.Native.Nat.{ℕ, _+_, _-_, _*_, _≤_, _<_}
 use lib.Dec.{ltb}
 use lib.ListN.{length, getD, take, drop}
-use Rattle.record.specs.Record.{pick}
+use Rattle.record.specs.Record.{pick, oldFile}
 use Rattle.verdict.specs.Refusal.{badLength}
 use Rattle.verdict.specs.Verdict.{refusal, check, Lengths}
 use Rattle.program_input.specs.declared.Part.{Part}
@@ -23,6 +23,6 @@ pub record InputsRead : Type 0 where
   -- The file is what comes after the two bytes of day.
   pub afterDay : (space : List ℕ) (n : ℕ) → 2 ≤ n → n ≤ length space → fileIn space n ≡ drop 2 (take n space)
   -- Fewer than two bytes are refused with 1, at record 0, whatever the tables.
-  pub short : (space : List ℕ) (n day : ℕ) (lengths : Lengths) → n < 2 → 1 ≤ length space → check day (fileIn space n) lengths .verdict ≡ refusal badLength 0
+  pub short : (space : List ℕ) (n day : ℕ) (lengths : Lengths) → n < 2 → 1 ≤ length space → check day (oldFile (fileIn space n)) lengths .verdict ≡ refusal badLength 0
   -- More bytes than a day and the longest file have are refused with 1 too: a space of 65,539 bytes is room enough to notice.
-  pub long : (space : List ℕ) (n day : ℕ) (lengths : Lengths) → 65538 < n → n ≤ length space → check day (fileIn space n) lengths .verdict ≡ refusal badLength 0
+  pub long : (space : List ℕ) (n day : ℕ) (lengths : Lengths) → 65538 < n → n ≤ length space → check day (oldFile (fileIn space n)) lengths .verdict ≡ refusal badLength 0

@@ -5,6 +5,7 @@ mod piece;
 use numbering::Naming;
 use piece::piece_by;
 use pieces::Piece;
+ghost use Rattle.record.specs.Record.{oldFile};
 ghost use Rattle.verdict.specs.Readout.{clauseLine};
 ghost use Rattle.entry.specs.Progress.{tablesWith};
 ghost use Rattle.readout.specs.Contract.{PieceWritten, CanonicalWritten};
@@ -21,7 +22,7 @@ pub fn readout_piece(
     clause: u16,
     output: &mut [u8],
 ) -> Piece
-    ensures { λ p. ⌜ PieceWritten clauseLine day (now (file .entry)) (tablesWith (now (symbols .entry)) (now (rows .entry)) (now (clauses .entry)) (now (bindings .entry))) clause (now (output .entry)) p (tablesWith (now (symbols .exit)) (now (rows .exit)) (now (clauses .exit)) (now (bindings .exit))) (now (output .exit)) ⌝ }
+    ensures { λ p. ⌜ PieceWritten clauseLine day (oldFile (now (file .entry))) (tablesWith (now (symbols .entry)) (now (rows .entry)) (now (clauses .entry)) (now (bindings .entry))) clause (now (output .entry)) p (tablesWith (now (symbols .exit)) (now (rows .exit)) (now (clauses .exit)) (now (bindings .exit))) (now (output .exit)) ⌝ }
 {
     piece_by(
         day,
@@ -47,7 +48,7 @@ pub fn canonical_piece(
     clause: u16,
     output: &mut [u8],
 ) -> Piece
-    ensures { λ p. ⌜ CanonicalWritten day (now (file .entry)) (tablesWith (now (symbols .entry)) (now (rows .entry)) (now (clauses .entry)) (now (bindings .entry))) clause (now (output .entry)) p (tablesWith (now (symbols .exit)) (now (rows .exit)) (now (clauses .exit)) (now (bindings .exit))) (now (output .exit)) ⌝ }
+    ensures { λ p. ⌜ CanonicalWritten day (oldFile (now (file .entry))) (tablesWith (now (symbols .entry)) (now (rows .entry)) (now (clauses .entry)) (now (bindings .entry))) clause (now (output .entry)) p (tablesWith (now (symbols .exit)) (now (rows .exit)) (now (clauses .exit)) (now (bindings .exit))) (now (output .exit)) ⌝ }
 {
     piece_by(
         day,

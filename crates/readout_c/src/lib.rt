@@ -2,6 +2,7 @@
 use exported_readout::put_progress;
 use readout::canonical_piece;
 use readout::readout_piece;
+ghost use Rattle.record.specs.Record.{oldFile};
 ghost use Rattle.entry.specs.Progress.{tablesWith};
 ghost use Rattle.verdict.specs.Readout.{clauseLine};
 ghost use Rattle.exported_readout.specs.ExportedReadout.{ExportedReadout, ExportedCanonical};
@@ -18,7 +19,7 @@ pub fn readout_to_cells(
     output: &mut [u8],
     progress: &mut [u64],
 )
-    ensures { λ _. ⌜ ExportedReadout clauseLine day (now (file .entry)) (tablesWith (now (symbols .entry)) (now (rows .entry)) (now (clauses .entry)) (now (bindings .entry))) clause (now (output .entry)) (now (progress .entry)) (tablesWith (now (symbols .exit)) (now (rows .exit)) (now (clauses .exit)) (now (bindings .exit))) (now (output .exit)) (now (progress .exit)) ⌝ }
+    ensures { λ _. ⌜ ExportedReadout clauseLine day (oldFile (now (file .entry))) (tablesWith (now (symbols .entry)) (now (rows .entry)) (now (clauses .entry)) (now (bindings .entry))) clause (now (output .entry)) (now (progress .entry)) (tablesWith (now (symbols .exit)) (now (rows .exit)) (now (clauses .exit)) (now (bindings .exit))) (now (output .exit)) (now (progress .exit)) ⌝ }
 {
     if progress.len() < 3 {
         return;
@@ -39,7 +40,7 @@ pub fn canonical_to_cells(
     output: &mut [u8],
     progress: &mut [u64],
 )
-    ensures { λ _. ⌜ ExportedCanonical day (now (file .entry)) (tablesWith (now (symbols .entry)) (now (rows .entry)) (now (clauses .entry)) (now (bindings .entry))) clause (now (output .entry)) (now (progress .entry)) (tablesWith (now (symbols .exit)) (now (rows .exit)) (now (clauses .exit)) (now (bindings .exit))) (now (output .exit)) (now (progress .exit)) ⌝ }
+    ensures { λ _. ⌜ ExportedCanonical day (oldFile (now (file .entry))) (tablesWith (now (symbols .entry)) (now (rows .entry)) (now (clauses .entry)) (now (bindings .entry))) clause (now (output .entry)) (now (progress .entry)) (tablesWith (now (symbols .exit)) (now (rows .exit)) (now (clauses .exit)) (now (bindings .exit))) (now (output .exit)) (now (progress .exit)) ⌝ }
 {
     if progress.len() < 3 {
         return;

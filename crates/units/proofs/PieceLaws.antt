@@ -7,7 +7,7 @@ use native.Mathlib.Omega.{arith}
 use lib.Dec.{eqb, leb}
 use lib.ListN.{length, drop, length-append, drop-of-length-le}
 use borrow.Author.Tests.{eqb-true, eqb-false, leb-true, leb-false, le-leb}
-use Rattle.record.specs.Record.{pick}
+use Rattle.record.specs.Record.{pick, File}
 use Rattle.verdict.specs.Verdict.{check, Lengths}
 use Rattle.verdict.specs.Readout.{LineWriter, readoutLines, joinedLines, readoutBy}
 use Rattle.units.specs.Pieces.{units, unitsWithin, fitting, Progress, complete, goOnWith, tooShortFor, afterPiece, unitsFrom, pieceLines, pieceBytes, progress, Pieces, lastPiece, piece, PiecesHold}
@@ -51,7 +51,7 @@ all-fit (u ∷ us) room l =
     ap (λ (b : Bool). pick b (u ∷ fitting (room - length u) us) []) (le-leb (length u) room (omega arith)) ∙ ap (λ (xs : List (List ℕ)). u ∷ xs) (all-fit us (room - length u) (omega arith))
 
 -- A piece is no longer than its room.
-pub piece-size : (line : LineWriter) (day : ℕ) (file : List ℕ) (lengths : Lengths) (n room : ℕ) → length (pieceBytes line day file lengths n room) ≤ room
+pub piece-size : (line : LineWriter) (day : ℕ) (file : File) (lengths : Lengths) (n room : ℕ) → length (pieceBytes line day file lengths n room) ≤ room
 piece-size line day file lengths n room = fitting-size room (unitsFrom line day file lengths n)
 
 complete-none : (us : List (List ℕ)) (n taken : ℕ) → afterPiece us n taken ≡ complete → us ≡ []
@@ -118,7 +118,7 @@ first-fits room (u ∷ us) n h q = absurd (try (leb (length u) room) refl q)
     try true p z = omega arith
     try false p z = let y = leb-false (length u) room p in let x = h .0 in omega arith
 
-module _ (line : LineWriter) (day : ℕ) (file : List ℕ) (lengths : Lengths) where
+module _ (line : LineWriter) (day : ℕ) (file : File) (lengths : Lengths) where
   from-rest : (n room : ℕ) → joinedLines (unitsFrom line day file lengths n) ≡ pieceBytes line day file lengths n room ++ joinedLines (unitsFrom line day file lengths (n + length (pieceLines line day file lengths n room)))
   unfolding unitsFrom
   from-rest n room =

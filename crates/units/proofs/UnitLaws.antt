@@ -8,7 +8,7 @@ use native.Mathlib.Omega.{arith}
 use lib.Dec.{eqb}
 use lib.ListN.{length, getD, length-map}
 use borrow.Author.Tests.{ne-eqb}
-use Rattle.record.specs.Record.{pick}
+use Rattle.record.specs.Record.{pick, File}
 use Rattle.derivation.specs.Derivation.{Derivation}
 use Rattle.demands.proofs.DaysShown.{clause-lines-length, clause-line-at}
 use Rattle.verdict.specs.State.{State, derivations, clauseOf}
@@ -20,7 +20,7 @@ use Rattle.verdict.specs.Readout.{LineWriter, verdictLine, clauseLines, linesOf
 use Rattle.units.specs.Units.{unitAt}
 
 -- The lines of a file are those of the verdict and the state that its check leaves.
-pub lines-left : (line : LineWriter) (day : ℕ) (F : List ℕ) (lengths : Lengths) → readoutLines line day F lengths ≡ linesOf line (check day F lengths .verdict) (stateLeft F lengths)
+pub lines-left : (line : LineWriter) (day : ℕ) (F : File) (lengths : Lengths) → readoutLines line day F lengths ≡ linesOf line (check day F lengths .verdict) (stateLeft F lengths)
 unfolding readoutLines check
 lines-left line day F lengths = refl
 
@@ -42,7 +42,7 @@ units-length : (v : List ℕ) (ls : List (List ℕ)) → length (units (v ∷ ls
 units-length v [] = refl
 units-length v (l ∷ ls) = sym (ap (λ (b : Bool). pick b 1 (suc (length ls))) (ne-eqb (suc (length ls)) 0 (λ q. omega arith)))
 
-module _ (line : LineWriter) (day : ℕ) (F : List ℕ) (lengths : Lengths) where
+module _ (line : LineWriter) (day : ℕ) (F : File) (lengths : Lengths) where
   abbrev S : State
   S = stateLeft F lengths
 

@@ -6,12 +6,13 @@ use mathlib.Core.List.{List, [], _∷_, _++_}
 use Prim.Native.Nat.{ℕ, zero, suc, _+_, _≤_, _<_}
 use native.Mathlib.Omega.{arith}
 use lib.ListN.{length, getD, length-append, length-take}
+use Rattle.record.specs.Record.{File}
 use Rattle.derivation.specs.Derivation.{Derivation}
 use Rattle.verdict.specs.Refusal.{reasonNumber}
 use Rattle.verdict.specs.State.{State, emptyState, derivations, entry, clauseOf}
 use Rattle.verdict.specs.Step.{stateOf}
 use Rattle.verdict.specs.Tables.{lengthsOf}
-use Rattle.verdict.specs.Verdict.{Verdict, accepted, open′, refusal, check, Lengths, longEnough, fittingLength, ending}
+use Rattle.verdict.specs.Verdict.{Verdict, accepted, open′, refusal, check, Lengths, longEnough, fitting, ending}
 use Rattle.demands.proofs.Inversions.{entry-below, entry-more, entry-new}
 use Rattle.demands.proofs.Reading.{ending-ok}
 use Rattle.answer.specs.declared.Answer.{Answer}
@@ -56,16 +57,16 @@ units-within v (u ∷ us) l h = let x = h .0 in (omega (arith, length-append v u
 abbrev Short : Naming → State → Type 0
 Short naming S = (n : ℕ) (d : Derivation) → clauseOf S n ≡ some d → length (lineOf naming S n d) ≤ 106780
 
-pub all-within : (naming : Naming) (day : ℕ) (F : List ℕ) (lengths : Lengths) → AllWithin 131072 (units (readoutLines (lineOf naming) day F lengths))
+pub all-within : (naming : Naming) (day : ℕ) (F : File) (lengths : Lengths) → AllWithin 131072 (units (readoutLines (lineOf naming) day F lengths))
 all-within naming day F lengths =
     subst (λ (ls : List (List ℕ)). AllWithin 131072 (units ls)) (sym (lines-left (lineOf naming) day F lengths))
     (units-within (verdictLine (check day F lengths .verdict)) (clauseLines (lineOf naming) (stateLeft F lengths) (derivations (stateLeft F lengths))) (verdict-short (check day F lengths .verdict))
-    (lines-within (lineOf naming) (stateLeft F lengths) (derivations (stateLeft F lengths)) (try (fittingLength (length F)) refl (longEnough lengths) refl)))
+    (lines-within (lineOf naming) (stateLeft F lengths) (derivations (stateLeft F lengths)) (try (fitting F) refl (longEnough lengths) refl)))
   where
     none : (n : ℕ) (d : Derivation) → clauseOf emptyState n ≡ some d → length (lineOf naming emptyState n d) ≤ 106780
     none n d q = let z = entry-below [] n d q in absurd (omega arith)
 
-    try : (f : Bool) → fittingLength (length F) ≡ f → (g : Bool) → longEnough lengths ≡ g → (n : ℕ) (d : Derivation) → clauseOf (stateLeft F lengths) n ≡ some d → length (lineOf naming (stateLeft F lengths) n d) ≤ 106780
+    try : (f : Bool) → fitting F ≡ f → (g : Bool) → longEnough lengths ≡ g → (n : ℕ) (d : Derivation) → clauseOf (stateLeft F lengths) n ≡ some d → length (lineOf naming (stateLeft F lengths) n d) ≤ 106780
     try true p true q = let e : stateLeft F lengths ≡ stateOf (ending F) = rw (p, q) refl in subst (Short naming) (sym e) (λ n d z. line-short naming (stateOf (ending F)) (ending-ok F p) n d z)
     try true p false q = let e : stateLeft F lengths ≡ emptyState = rw (p, q) refl in subst (Short naming) (sym e) none
     try false p g q = let e : stateLeft F lengths ≡ emptyState = rw p refl in subst (Short naming) (sym e) none
@@ -80,12 +81,12 @@ module _ (naming : Naming) {C B N O A : List ℕ} {a : Answer} (R : AfterCheck C
   number = ap unitsWithin (clauses-given (R .day) (R .file) (lengthsOf (R .before)) a (R .checked .checked .answer)) ∙ sym (unit-count (lineOf naming) (R .day) (R .file) (lengthsOf (R .before)))
 
 -- The count of units, by the answer.
-pub units-counted : (naming : Naming) (day : ℕ) (F : List ℕ) (lengths : Lengths) → length (units (readoutLines (lineOf naming) day F lengths)) ≡ unitsWithin (check day F lengths .clauses)
+pub units-counted : (naming : Naming) (day : ℕ) (F : File) (lengths : Lengths) → length (units (readoutLines (lineOf naming) day F lengths)) ≡ unitsWithin (check day F lengths .clauses)
 unfolding check
 units-counted naming day F lengths = unit-count (lineOf naming) day F lengths
 
 -- What holds of pieces holds of the pieces of every file.
-pub pieces-always : (naming : Naming) (day : ℕ) (F : List ℕ) (lengths : Lengths) → PiecesHold (lineOf naming) day F lengths
+pub pieces-always : (naming : Naming) (day : ℕ) (F : File) (lengths : Lengths) → PiecesHold (lineOf naming) day F lengths
 pieces-always naming day F lengths = pieces-hold (lineOf naming) day F lengths (all-within naming day F lengths) (units-counted naming day F lengths)
 
 -- What was written is the whole unit.

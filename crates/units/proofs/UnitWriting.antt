@@ -12,7 +12,7 @@ use Rattle.record.specs.Record.{pick}
 use Rattle.verdict.specs.State.{State, clauseOf}
 use Rattle.verdict.specs.Step.{stateOf}
 use Rattle.verdict.specs.Tables.{lengthsOf}
-use Rattle.verdict.specs.Verdict.{check, longEnough, fittingLength, ending}
+use Rattle.verdict.specs.Verdict.{check, longEnough, fitting, ending}
 use Rattle.entry.specs.Progress.{ReadTo, tablesWith}
 use Rattle.checker.specs.Contract.{workspaceWith}
 use Rattle.answer.specs.declared.Answer.{Answer}
@@ -44,14 +44,14 @@ module _ (naming : Naming) {C B N O A : List ℕ} {a : Answer} (R : AfterCheck C
 
   -- Where there is a clause, records were read.
   record WasRead : Type 0 where
-    fit : fittingLength (length (R .file)) ≡ true
+    fit : fitting (R .file) ≡ true
     long : longEnough (lengthsOf (R .before)) ≡ true
     state : stateLeft (R .file) (lengthsOf (R .before)) ≡ stateOf (ending (R .file))
 
   was-read : (n : ℕ) → n < a .clauses → WasRead
-  was-read n l = try (fittingLength (length (R .file))) refl (longEnough (lengthsOf (R .before))) refl
+  was-read n l = try (fitting (R .file)) refl (longEnough (lengthsOf (R .before))) refl
     where
-      try : (f : Bool) → fittingLength (length (R .file)) ≡ f → (g : Bool) → longEnough (lengthsOf (R .before)) ≡ g → WasRead
+      try : (f : Bool) → fitting (R .file) ≡ f → (g : Bool) → longEnough (lengthsOf (R .before)) ≡ g → WasRead
       try true p true q = record { fit = p; long = q; state = rw (p, q) refl }
       try true p false q = let z : length (stateLeft (R .file) (lengthsOf (R .before)) .clauses) ≡ 0 = rw (p, q) refl in absurd (omega (arith, count, l, z))
       try false p g q = let z : length (stateLeft (R .file) (lengthsOf (R .before)) .clauses) ≡ 0 = rw p refl in absurd (omega (arith, count, l, z))

@@ -4,7 +4,7 @@ use mathlib.Core.List.{List, [], _∷_, _++_}
 use Prim.Native.Nat.{ℕ, _+_, _-_, _<_, _≤_}
 use lib.Dec.{eqb, leb}
 use lib.ListN.{length, drop}
-use Rattle.record.specs.Record.{pick}
+use Rattle.record.specs.Record.{pick, File}
 use Rattle.verdict.specs.Verdict.{check, Lengths}
 use Rattle.verdict.specs.Readout.{LineWriter, readoutLines, joinedLines, readoutBy}
 
@@ -33,7 +33,7 @@ abbrev pub afterPiece : List (List ℕ) → ℕ → ℕ → Progress
 afterPiece [] n taken = complete
 afterPiece (u ∷ us) n taken = pick (eqb taken 0) (tooShortFor n) (goOnWith (n + taken))
 
-module _ (line : LineWriter) (day : ℕ) (file : List ℕ) (lengths : Lengths) where
+module _ (line : LineWriter) (day : ℕ) (file : File) (lengths : Lengths) where
   unfoldable pub unitsFrom : ℕ → List (List ℕ)
   unitsFrom n = drop n (units (readoutLines line day file lengths))
 
@@ -55,7 +55,7 @@ module _ (line : LineWriter) (day : ℕ) (file : List ℕ) (lengths : Lengths) w
 -- What holds of the pieces of every file: put together they are the readout; each moves on, or its room is too short for the next line and
 -- nothing is written; and room for the longest line is never too short. Line by line too: there are as many units as the answer's number of clauses says,
 -- and one after another they are the readout.
-pub record PiecesHold (line : LineWriter) (day : ℕ) (file : List ℕ) (lengths : Lengths) : Type 0 where
+pub record PiecesHold (line : LineWriter) (day : ℕ) (file : File) (lengths : Lengths) : Type 0 where
   pub count : length (units (readoutLines line day file lengths)) ≡ unitsWithin (check day file lengths .clauses)
   pub lines : joinedLines (units (readoutLines line day file lengths)) ≡ readoutBy line day file lengths
   pub together : (text : List ℕ) → Pieces line day file lengths 0 text → text ≡ readoutBy line day file lengths

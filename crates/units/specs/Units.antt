@@ -4,6 +4,7 @@ use mathlib.Core.Path.{_≡_}
 use mathlib.Core.List.{List, []}
 use Prim.Native.Nat.{ℕ, _<_}
 use lib.ListN.{length, getD, take}
+use Rattle.record.specs.Record.{File}
 use Rattle.verdict.specs.Tables.{Tables, lengthsOf}
 use Rattle.verdict.specs.Verdict.{Lengths}
 use Rattle.checker.specs.Contract.{Workspace, workspaceWith, CheckedWith}
@@ -16,13 +17,13 @@ use Rattle.numbering.specs.declared.Naming.{Naming}
 use Rattle.terms.specs.Writing.{Sized}
 
 -- Unit n of a file.
-unfoldable pub unitAt : LineWriter → ℕ → List ℕ → Lengths → ℕ → List ℕ
+unfoldable pub unitAt : LineWriter → ℕ → File → Lengths → ℕ → List ℕ
 unitAt line day file lengths n = getD (units (readoutLines line day file lengths)) n []
 
 -- What is there after a check of some file: its answer, for some tables before it, with the workspace that it left.
 pub record AfterCheck (C B N O A : List ℕ) (a : Answer) : Type 0 where
   pub day : ℕ
-  pub file : List ℕ
+  pub file : File
   pub before : Tables
   pub lent : Workspace
   pub symbols : List ℕ
