@@ -74,7 +74,7 @@ put-length F C n B = try (eqb (kindOf (recordOfClause F C n)) 4) (eqb (kindOf (r
 pub same-board : (F : File) (C B : List ℕ) (n : ℕ) {B′ : List ℕ} → B′ ≡ childPut F C n B → length B′ ≡ length B
 same-board F C B n q = ap length q ∙ put-length F C n B
 
-pub child-more : (F C B₀ : List ℕ) (n : ℕ) {B B′ : List ℕ} → B ≡ childrenPut F C n B₀ → B′ ≡ childPut F C n B → B′ ≡ childrenPut F C (n + 1) B₀
+pub child-more : (F : File) (C B₀ : List ℕ) (n : ℕ) {B B′ : List ℕ} → B ≡ childrenPut F C n B₀ → B′ ≡ childPut F C n B → B′ ≡ childrenPut F C (n + 1) B₀
 child-more F C B₀ n h q = q ∙ ap (childPut F C n) h ∙ ap (λ (m : ℕ). childrenPut F C m B₀) (sym (add-one n))
 
 pub children-length : (F : File) (C : List ℕ) (n : ℕ) (B : List ℕ) → length (childrenPut F C n B) ≡ length B

@@ -4,7 +4,7 @@ use mathlib.Core.List.{List}
 use Prim.Native.Nat.{ℕ, zero, suc, _+_, _*_, _%_, _≤_}
 use lib.Dec.{eqb}
 use lib.ListN.{length, getD, set}
-use Rattle.record.specs.Record.{pick, kindOf, fieldOf}
+use Rattle.record.specs.Record.{pick, File, kindOf, fieldOf}
 use Rattle.tables.specs.Cells.{clearedPart}
 use Rattle.boards.specs.Cells.{recordOfClause}
 
@@ -26,15 +26,15 @@ childByKind part n B =
     (pick (eqb (kindOf part) 6) (withChild B (fieldOf part 0) n)
     (withChild (withChild B (fieldOf part 0) n) (fieldOf part 2) n))
 
-unfoldable pub childPut : List ℕ → List ℕ → ℕ → List ℕ → List ℕ
+unfoldable pub childPut : File → List ℕ → ℕ → List ℕ → List ℕ
 childPut F C n B = childByKind (recordOfClause F C n) n B
 
-abbrev pub childrenPut : List ℕ → List ℕ → ℕ → List ℕ → List ℕ
+abbrev pub childrenPut : File → List ℕ → ℕ → List ℕ → List ℕ
 childrenPut F C zero B = B
 childrenPut F C (suc n) B = childPut F C n (childrenPut F C n B)
 
 -- All cells: zeros, the day, the clauses' own, and their last children.
-unfoldable pub filledBoard : ℕ → List ℕ → List ℕ → List ℕ → ℕ → List ℕ → List ℕ
+unfoldable pub filledBoard : ℕ → File → List ℕ → List ℕ → ℕ → List ℕ → List ℕ
 filledBoard day F C L count B = childrenPut F C count (cellsPut L count (set (clearedPart 0 4096 B) 4096 day))
 
 -- What is needed: at most 4,096 clauses, a board with a cell for each and one for the day, and a whole table of origins.

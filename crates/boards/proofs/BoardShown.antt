@@ -26,7 +26,7 @@ use Rattle.demands.proofs.Acceptance.{first-lowest}
 use Rattle.demands.proofs.Demanded.{demand1, long-enough, refutation-of, stands-check}
 use Rattle.demands.proofs.InForceShown.{uses-in-force, of-uses-in-force}
 use Rattle.verdict.proofs.Endings.{reading-records}
-use Rattle.demands.proofs.Reading.{stands-ok}
+use Rattle.demands.proofs.Reading.{few-records, stands-ok}
 use Rattle.demands.proofs.RangeTests.{at-most}
 use Rattle.demands.proofs.Standing.{inputs-of}
 use Rattle.demands.proofs.TableCells.{sizeOf, read-size}
@@ -62,8 +62,7 @@ module _ (day : ℕ) (file : File) (tables : Tables) (board : List ℕ) (S : Sta
   unfolding ending
   few =
       let z = subst (λ (e : Ending). sizeOf (stateOf e) ≤ sizeOf emptyState + length (records file)) (st .reads) (read-size emptyState 0 (records file) (records-shaped file)) in
-      let n = records-length file in
-      let l = at-most (length file) 65536 (both-true (leb (length file) 65536) (eqb (length file % 16) 0) (st .fits) .0) in
+      let l = few-records file (st .fits) in
       let m = length-map (S .clauses) (λ (x : ℕ × Derivation). x .1) in
       omega arith
 

@@ -7,9 +7,9 @@ use mathlib.Core.List.{List, [], _∷_, map}
 use Prim.Native.Nat.{ℕ, suc}
 use native.Mathlib.Omega.{arith}
 use lib.Dec.{eqb}
-use lib.ListN.{length, drop, length-drop, length-map}
-use Rattle.record.specs.Record.{pick, File, Record, records, recordPart, decoded, kindOf, fieldOf, fieldA, fieldC}
-use Rattle.record.proofs.Records.{Shaped, records-length, records-shaped, record-numbered}
+use lib.ListN.{length, drop, length-drop, length-map, getD}
+use Rattle.record.specs.Record.{pick, recordAt, File, Record, records, recordPart, decoded, kindOf, fieldOf, fieldA, fieldC}
+use Rattle.record.proofs.Records.{decoded-fields, decoded-kind, Shaped, records-length, records-shaped, record-numbered}
 use Rattle.unification.proofs.Lists.{Each}
 use Rattle.unification.proofs.Tests.{some-not-none, some-injective}
 use Rattle.derivation.specs.Derivation.{Derivation, input, resolve, factor, clauseNumber}
@@ -39,7 +39,7 @@ same-tail : {p q : Record} {ps qs : List Record} → p ∷ ps ≡ q ∷ qs → p
 same-tail e = cc
 
 -- Record k of a file, in its list of records.
-record-here : (F : File) (k : ℕ) (r : Record) (rs : List Record) → drop k (records F) ≡ r ∷ rs → (decoded (recordPart F k) ≡ r) × (drop (suc k) (records F) ≡ rs)
+record-here : (F : File) (k : ℕ) (r : Record) (rs : List Record) → drop k (records F) ≡ r ∷ rs → (recordAt F k ≡ r) × (drop (suc k) (records F) ≡ rs)
 record-here F k r rs q =
     let n = records-length F in
     let l = length-drop k (records F) in
@@ -47,19 +47,19 @@ record-here F k r rs q =
     let e = sym (record-numbered F k (omega arith)) ∙ q in
     (same-head e, same-tail e)
 
-module _ (F : File) (S : State) (k : ℕ) (r : Record) (T : State) (H : Kept F S) (here : decoded (recordPart F k) ≡ r) where
+module _ (F : File) (S : State) (k : ℕ) (r : Record) (T : State) (H : Kept F S) (here : recordAt F k ≡ r) where
   -- A record that makes no clause.
   unchanged : (U : State) → T ≡ U → U .clauses ≡ S .clauses → Each (λ (c : ℕ × Derivation). Recorded (recordPart F (c .0)) (c .1)) (T .clauses)
   unchanged U e w = subst (Each (λ (c : ℕ × Derivation). Recorded (recordPart F (c .0)) (c .1))) (sym (ap (λ (X : State). X .clauses) e ∙ w)) (H .recorded)
 
   kind-here : kindOf (recordPart F k) ≡ r .kind
-  kind-here = ap (λ (x : Record). x .kind) here
+  kind-here = sym (decoded-kind (F .form) (recordPart F k)) ∙ ap (λ (x : Record). x .kind) here
 
   field-a : fieldOf (recordPart F k) 0 ≡ fieldA r
-  field-a = ap fieldA here
+  field-a = ap (λ (l : List ℕ). getD l 0 0) (sym (decoded-fields (F .form) (recordPart F k))) ∙ ap fieldA here
 
   field-c : fieldOf (recordPart F k) 2 ≡ fieldC r
-  field-c = ap fieldC here
+  field-c = ap (λ (l : List ℕ). getD l 2 0) (sym (decoded-fields (F .form) (recordPart F k))) ∙ ap fieldC here
 
   new : (c : Derivation) → T .clauses ≡ (k, c) ∷ S .clauses → Recorded (recordPart F k) c → Each (λ (x : ℕ × Derivation). Recorded (recordPart F (x .0)) (x .1)) (T .clauses)
   new c e R = subst (Each (λ (x : ℕ × Derivation). Recorded (recordPart F (x .0)) (x .1))) (sym e) (R, H .recorded)

@@ -6,7 +6,7 @@ use mathlib.Core.List.{List, [], _∷_, _++_, map, reverse}
 use Prim.Native.Nat.{ℕ, zero, suc, _+_, _-_, _*_, _/_, _%_}
 use lib.Dec.{eqb, leb, ltb}
 use lib.ListN.{length, getD, set, drop, replicate}
-use Rattle.record.specs.Record.{pick, recordPart, kindOf, fieldOf}
+use Rattle.record.specs.Record.{pick, File, recordPart, kindOf, fieldOf}
 use Rattle.derivation.specs.Derivation.{Derivation, input, resolve, factor, clauseNumber}
 use Rattle.verdict.specs.Force.{usesInForce}
 use Rattle.verdict.specs.State.{State, derivations}
@@ -55,7 +55,7 @@ boardOf day S P board = clauseCells day S P ++ (replicate (4096 - length (deriva
 -- ── A call, on cells ──
 
 -- The record of clause n, by the table of clauses C: its kind and its parents.
-abbrev pub recordOfClause : List ℕ → List ℕ → ℕ → List ℕ
+abbrev pub recordOfClause : File → List ℕ → ℕ → List ℕ
 recordOfClause F C n = recordPart F (getD C (5 * n) 0)
 
 -- The cell of a clause from its own, x, and those of its parents; an input clause's is its own. A factor's one parent is its left and its right.
@@ -68,7 +68,7 @@ rightParent part = pick (eqb (kindOf part) 6) (fieldOf part 0) (fieldOf part 2)
 abbrev pub cellByKind : List ℕ → List ℕ → ℕ → ℕ
 cellByKind part B n = pick (eqb (kindOf part) 4) (getD B n 0) (fromParents (getD B n 0) (getD B (fieldOf part 0) 0) (getD B (rightParent part) 0))
 
-unfoldable pub newCell : List ℕ → List ℕ → List ℕ → ℕ → ℕ
+unfoldable pub newCell : File → List ℕ → List ℕ → ℕ → ℕ
 newCell F C B n = cellByKind (recordOfClause F C n) B n
 
 -- One pass over the clauses from n on, at most k of them, each from its parents. It ends behind `last`, the last child of the clauses that have changed: a clause
@@ -79,7 +79,7 @@ larger a b = pick (ltb a b) b a
 abbrev pub lastAfter : ℕ → ℕ → ℕ → ℕ
 lastAfter last before after = pick (eqb before after) last (larger last (childCell before))
 
-abbrev pub passed : List ℕ → List ℕ → ℕ → ℕ → ℕ → List ℕ → List ℕ
+abbrev pub passed : File → List ℕ → ℕ → ℕ → ℕ → List ℕ → List ℕ
 passed F C zero n last B = B
 passed F C (suc k) n last B =
     elim (leb n last) [ true ↦ passed F C k (suc n) (lastAfter last (getD B n 0) (newCell F C B n)) (set B n (newCell F C B n)) | false ↦ B ]
@@ -93,21 +93,21 @@ lowestAnswer C B zero n = none
 lowestAnswer C B (suc k) n = elim (answers C B n) [ true ↦ some n | false ↦ lowestAnswer C B k (suc n) ]
 
 -- Whether there is an input clause of number n.
-abbrev pub isInputCell : List ℕ → List ℕ → List ℕ → ℕ → Bool
+abbrev pub isInputCell : File → List ℕ → List ℕ → ℕ → Bool
 isInputCell F C B n = ltb n 4096 && (isClauseCell (getD B n 0) && eqb (kindOf (recordOfClause F C n)) 4)
 
 -- The board after clause n is withdrawn or returned, and the answer: 2 for a board that is too short, 20 for no input clause of that number, 21 where it is in
 -- that condition already; and else its own cell changes, and those of the clauses after it.
-abbrev pub withCell : List ℕ → List ℕ → List ℕ → ℕ → Bool → List ℕ
+abbrev pub withCell : File → List ℕ → List ℕ → ℕ → Bool → List ℕ
 withCell F C B n present = passed F C (4095 - n) (suc n) (childCell (getD B n 0)) (set B n (cellWith (childCell (getD B n 0)) (forceCell (getD B n 0)) present))
 
-abbrev pub refusal : List ℕ → List ℕ → List ℕ → ℕ → Bool → Option ℕ
+abbrev pub refusal : File → List ℕ → List ℕ → ℕ → Bool → Option ℕ
 refusal F C B n present =
     pick (ltb (length B) 4097) (some 2)
     (pick (isInputCell F C B n) (pick (Bool·beq (standsCell (getD B n 0)) present) (some 21) none) (some 20))
 
-unfoldable pub boardAfter : List ℕ → List ℕ → List ℕ → ℕ → Bool → List ℕ
+unfoldable pub boardAfter : File → List ℕ → List ℕ → ℕ → Bool → List ℕ
 boardAfter F C B n present = elim (refusal F C B n present) [ some number ↦ B | none ↦ withCell F C B n present ]
 
-unfoldable pub callAnswer : List ℕ → List ℕ → List ℕ → ℕ → Bool → Answer
+unfoldable pub callAnswer : File → List ℕ → List ℕ → ℕ → Bool → Answer
 callAnswer F C B n present = elim (refusal F C B n present) [ some number ↦ refusedWith number 0 | none ↦ answered (lowestAnswer C (withCell F C B n present) 4096 0) ]

@@ -4,6 +4,7 @@ use mathlib.Core.List.{List}
 use Prim.Native.Nat.{ℕ}
 use lib.Dec.{ltb}
 use lib.ListN.{length}
+use Rattle.record.specs.Record.{File}
 use Rattle.verdict.specs.Refusal.{reasonNumber}
 use Rattle.verdict.specs.State.{State}
 use Rattle.verdict.specs.Tables.{Tables, lengthsOf, tablesAfter}
@@ -43,5 +44,5 @@ boardOpened day file tables board =
     ]
 
 -- The tables: untouched where the board is too short, and else as the check leaves them.
-unfoldable pub tablesOpened : List ℕ → Tables → ℕ → Tables
+unfoldable pub tablesOpened : File → Tables → ℕ → Tables
 tablesOpened file tables room = elim (ltb room 4097) [ true ↦ tables | false ↦ tablesAfter file tables ]

@@ -25,7 +25,7 @@ abbrev pub UsesClause : Derivation → ℕ → Type 0
 UsesClause c n = (u : Use) × OneOf u (uses c) × (u .0 ≡ n)
 
 -- The board after calls, one after another.
-abbrev pub boardAfterCalls : List ℕ → List ℕ → List ℕ → List Call → List ℕ
+abbrev pub boardAfterCalls : File → List ℕ → List ℕ → List Call → List ℕ
 boardAfterCalls F C B [] = B
 boardAfterCalls F C B (call ∷ calls) = boardAfterCalls F C (boardAfter F C B (call .clause) (call .present)) calls
 

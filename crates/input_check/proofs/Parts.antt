@@ -7,7 +7,7 @@ use native.Mathlib.Omega.{arith}
 use lib.Dec.{ltb}
 use lib.ListN.{length, take, drop, length-take}
 use borrow.Author.Tests.{ltb-false}
-use Rattle.record.specs.Record.{pick}
+use Rattle.record.specs.Record.{pick, oldFile}
 use Rattle.program_input.specs.Input.{dayOf, filePart}
 use Rattle.verdict.specs.Tables.{Tables}
 use Rattle.checker.specs.Contract.{Workspace, CheckedWith}
@@ -34,6 +34,6 @@ within-space xs n H e = part-within n (length xs) e (H .inside) (omega (arith, H
 
 -- What is checked is the file of the input, on its day.
 pub input-checked : (space : List ℕ) (n : ℕ) {day : ℕ} {p : Part} {before after : Tables} {lent left : Workspace} {a : Answer} → day ≡ dayOf (take n space) → p ≡ filePart n
-    → CheckedWith day (take (p .end - p .first) (drop (p .first) space)) before lent a after left → InputChecked space n before lent a after left
+    → CheckedWith day (oldFile (take (p .end - p .first) (drop (p .first) space))) before lent a after left → InputChecked space n before lent a after left
 input-checked space n {before = before} {after} {lent} {left} {a} e f X =
-    record { checked = subst₂ (λ (d : ℕ) (q : Part). CheckedWith d (take (q .end - q .first) (drop (q .first) space)) before lent a after left) e f X }
+    record { checked = subst₂ (λ (d : ℕ) (q : Part). CheckedWith d (oldFile (take (q .end - q .first) (drop (q .first) space))) before lent a after left) e f X }

@@ -3,6 +3,7 @@ use mathlib.Core.Path.{_≡_}
 use mathlib.Core.List.{List}
 use Prim.Native.Nat.{ℕ, _≤_}
 use lib.ListN.{length, take}
+use Rattle.record.specs.Record.{oldFile}
 use Rattle.verdict.specs.Tables.{Tables}
 use Rattle.checker.specs.Contract.{Workspace, CheckedWith}
 use Rattle.program_input.specs.Input.{dayOf, fileIn}
@@ -14,4 +15,4 @@ pub record Holds (space : List ℕ) (n : ℕ) : Type 0 where
   pub room : length space ≡ 65539
 
 pub record InputChecked (space : List ℕ) (n : ℕ) (before : Tables) (lent : Workspace) (a : Answer) (after : Tables) (left : Workspace) : Type 0 where
-  pub checked : CheckedWith (dayOf (take n space)) (fileIn space n) before lent a after left
+  pub checked : CheckedWith (dayOf (take n space)) (oldFile (fileIn space n)) before lent a after left

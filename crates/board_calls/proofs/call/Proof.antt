@@ -1,3 +1,4 @@
+use Rattle.record.specs.Record.{oldFile}
 use borrow.Author.Tests.{not-true, not-false}
 use Rattle.board_calls.proofs.CallSteps.{inside, too-short, no-input, already, gone-through}
 use borrow.Author.Needs.{needs}
@@ -14,7 +15,7 @@ use Rattle.tables.proofs.cell.Reads as cell-reads
 
 returns : tie.Need-returns
 returns c =
-    too-short (c .before .before .before .before .args .file .now) (c .before .before .before .before .args .clauses .now) (c .before .before .before .before .args .board .now) (c .before .before .before .before .args .n) (c .before .before .before .before .args .present) (c .if1 .taken)
+    too-short (oldFile (c .before .before .before .before .args .file .now)) (c .before .before .before .before .args .clauses .now) (c .before .before .before .before .args .board .now) (c .before .before .before .before .args .n) (c .before .before .before .before .args .present) (c .if1 .taken)
 
 is-input-requires : tie.Need-is-input-requires
 is-input-requires c κs = search needs
@@ -24,7 +25,7 @@ same-length c = search needs
 
 returns-2 : tie.Need-returns-2
 returns-2 c =
-    no-input (c .before .before .before .before .before .before .before .args .file .now) (c .before .before .before .before .before .before .before .args .clauses .now) (c .before .before .before .before .before .before .before .args .board .now) (c .before .before .before .before .before .before .before .args .n) (c .before .before .before .before .before .before .before .args .present) (c .before .before .before .if1 .left) (c .before .is-input .ensures) (not-true _ (c .if2 .taken))
+    no-input (oldFile (c .before .before .before .before .before .before .before .args .file .now)) (c .before .before .before .before .before .before .before .args .clauses .now) (c .before .before .before .before .before .before .before .args .board .now) (c .before .before .before .before .before .before .before .args .n) (c .before .before .before .before .before .before .before .args .present) (c .before .before .before .if1 .left) (c .before .is-input .ensures) (not-true _ (c .if2 .taken))
 
 cell-requires : tie.Need-cell-requires
 cell-requires c κs = search needs
@@ -40,11 +41,11 @@ same-length-2 c = search needs
 
 returns-3 : tie.Need-returns-3
 returns-3 c =
-    already (c .before .before .before .before .before .before .before .before .before .before .before .before .args .file .now) (c .before .before .before .before .before .before .before .before .before .before .before .before .args .clauses .now) (c .before .before .before .before .before .before .before .before .before .before .before .before .args .board .now) (c .before .before .before .before .before .before .before .before .before .before .before .before .args .n) (c .before .before .before .before .before .before .before .before .before .before .before .before .args .present) (c .before .before .before .before .before .before .before .before .if1 .left) (c .before .before .before .before .before .before .is-input .ensures) (not-false _ (c .before .before .before .before .before .if2 .left)) (c .before .before .before .cell .ensures) (c .before .before .stands-cell .ensures) (c .before .alike .ensures) (c .if3 .taken)
+    already (oldFile (c .before .before .before .before .before .before .before .before .before .before .before .before .args .file .now)) (c .before .before .before .before .before .before .before .before .before .before .before .before .args .clauses .now) (c .before .before .before .before .before .before .before .before .before .before .before .before .args .board .now) (c .before .before .before .before .before .before .before .before .before .before .before .before .args .n) (c .before .before .before .before .before .before .before .before .before .before .before .before .args .present) (c .before .before .before .before .before .before .before .before .if1 .left) (c .before .before .before .before .before .before .is-input .ensures) (not-false _ (c .before .before .before .before .before .if2 .left)) (c .before .before .before .cell .ensures) (c .before .before .stands-cell .ensures) (c .before .alike .ensures) (c .if3 .taken)
 
 change-requires : tie.Need-change-requires
 change-requires c κs =
-    inside (c .before .before .before .before .before .before .before .before .before .before .before .before .before .args .file .now) (c .before .before .before .before .before .before .before .before .before .before .before .before .before .args .clauses .now) (c .before .before .before .before .before .before .before .before .before .before .before .before .before .args .board .now) (c .before .before .before .before .before .before .before .before .before .before .before .before .before .args .n) (c .before .before .before .before .before .before .before .is-input .ensures) (not-false _ (c .before .before .before .before .before .before .if2 .left))
+    inside (oldFile (c .before .before .before .before .before .before .before .before .before .before .before .before .before .args .file .now)) (c .before .before .before .before .before .before .before .before .before .before .before .before .before .args .clauses .now) (c .before .before .before .before .before .before .before .before .before .before .before .before .before .args .board .now) (c .before .before .before .before .before .before .before .before .before .before .before .before .before .args .n) (c .before .before .before .before .before .before .before .is-input .ensures) (not-false _ (c .before .before .before .before .before .before .if2 .left))
 
 lowest-answer-requires : tie.Need-lowest-answer-requires
 lowest-answer-requires c κs = search needs
@@ -54,7 +55,7 @@ same-length-3 c = search needs
 
 returns-4 : tie.Need-returns-4
 returns-4 c =
-    gone-through (c .before .before .before .before .before .before .before .before .before .before .before .before .before .before .before .before .before .before .args .file .now) (c .before .before .before .before .before .before .before .before .before .before .before .before .before .before .before .before .before .before .args .clauses .now) (c .before .before .before .before .before .before .before .before .before .before .before .before .before .before .before .before .before .before .args .board .now) (c .before .before .before .before .before .before .before .before .before .before .before .before .before .before .before .before .before .before .args .n) (c .before .before .before .before .before .before .before .before .before .before .before .before .before .before .before .before .before .before .args .present) (c .before .before .before .before .before .before .before .before .before .before .before .before .before .before .if1 .left) (c .before .before .before .before .before .before .before .before .before .before .before .before .is-input .ensures) (not-false _ (c .before .before .before .before .before .before .before .before .before .before .before .if2 .left)) (c .before .before .before .before .before .before .before .before .before .cell .ensures) (c .before .before .before .before .before .before .before .before .stands-cell .ensures) (c .before .before .before .before .before .before .before .alike .ensures) (c .before .before .before .before .before .before .if3 .left) (c .before .before .before .before .change .ensures) _ (c .lowest-answer .ensures)
+    gone-through (oldFile (c .before .before .before .before .before .before .before .before .before .before .before .before .before .before .before .before .before .before .args .file .now)) (c .before .before .before .before .before .before .before .before .before .before .before .before .before .before .before .before .before .before .args .clauses .now) (c .before .before .before .before .before .before .before .before .before .before .before .before .before .before .before .before .before .before .args .board .now) (c .before .before .before .before .before .before .before .before .before .before .before .before .before .before .before .before .before .before .args .n) (c .before .before .before .before .before .before .before .before .before .before .before .before .before .before .before .before .before .before .args .present) (c .before .before .before .before .before .before .before .before .before .before .before .before .before .before .if1 .left) (c .before .before .before .before .before .before .before .before .before .before .before .before .is-input .ensures) (not-false _ (c .before .before .before .before .before .before .before .before .before .before .before .if2 .left)) (c .before .before .before .before .before .before .before .before .before .cell .ensures) (c .before .before .before .before .before .before .before .before .stands-cell .ensures) (c .before .before .before .before .before .before .before .alike .ensures) (c .before .before .before .before .before .before .if3 .left) (c .before .before .before .before .change .ensures) _ (c .lowest-answer .ensures)
 
 pub call-spec : {M : Type 1} → statement M
 call-spec =

@@ -1,3 +1,4 @@
+use Rattle.record.specs.Record.{oldFile}
 use Rattle.board_calls.proofs.CallSteps.{changed-board}
 use borrow.Author.Needs.{needs}
 use Rattle.board_calls.proofs.change.Statement.{statement}
@@ -37,7 +38,7 @@ same-length c = search needs
 
 returns : tie.Need-returns
 returns c =
-    changed-board (c .before .before .before .before .before .before .before .before .before .before .before .before .before .before .before .before .args .file .now) (c .before .before .before .before .before .before .before .before .before .before .before .before .before .before .before .before .args .clauses .now) (c .before .before .before .before .before .before .before .before .before .before .before .before .before .before .before .before .args .board .now) (c .before .before .before .before .before .before .before .before .before .before .before .before .before .before .before .before .args .n) (c .before .before .before .before .before .before .before .before .before .before .before .before .before .before .before .before .args .present) (c .before .before .before .before .before .before .before .before .before .before .before .before .before .before .before .before .pre) (c .before .before .before .before .before .before .before .before .before .before .before .cell .ensures) (c .before .before .before .before .before .before .before .before .before .before .force-cell .ensures) (c .before .before .before .before .before .before .before .before .before .cell-like .ensures) (c .before .before .before .before .before .before .before .set-cell .ensures) (c .before .before .before .child-cell .ensures) (c .before .before .pass .ensures)
+    changed-board (oldFile (c .before .before .before .before .before .before .before .before .before .before .before .before .before .before .before .before .args .file .now)) (c .before .before .before .before .before .before .before .before .before .before .before .before .before .before .before .before .args .clauses .now) (c .before .before .before .before .before .before .before .before .before .before .before .before .before .before .before .before .args .board .now) (c .before .before .before .before .before .before .before .before .before .before .before .before .before .before .before .before .args .n) (c .before .before .before .before .before .before .before .before .before .before .before .before .before .before .before .before .args .present) (c .before .before .before .before .before .before .before .before .before .before .before .before .before .before .before .before .pre) (c .before .before .before .before .before .before .before .before .before .before .before .cell .ensures) (c .before .before .before .before .before .before .before .before .before .before .force-cell .ensures) (c .before .before .before .before .before .before .before .before .before .cell-like .ensures) (c .before .before .before .before .before .before .before .set-cell .ensures) (c .before .before .before .child-cell .ensures) (c .before .before .pass .ensures)
 
 pub change-spec : {M : Type 1} → statement M
 change-spec =

@@ -1,3 +1,4 @@
+use Rattle.record.specs.Record.{oldFile}
 use Rattle.board_calls.proofs.CallSteps.{past-all, no-clause, by-kind}
 use borrow.Author.Needs.{needs}
 use Rattle.board_calls.proofs.is_input.Statement.{statement}
@@ -10,14 +11,14 @@ use Rattle.tables.proofs.cell.Reads as cell-reads
 
 returns : tie.Need-returns
 returns c =
-    past-all (c .before .before .before .before .args .file .now) (c .before .before .before .before .args .clauses .now) (c .before .before .before .before .args .board .now) (c .before .before .before .before .args .n) (c .if1 .taken)
+    past-all (oldFile (c .before .before .before .before .args .file .now)) (c .before .before .before .before .args .clauses .now) (c .before .before .before .before .args .board .now) (c .before .before .before .before .args .n) (c .if1 .taken)
 
 cell-requires : tie.Need-cell-requires
 cell-requires c κs = search needs
 
 returns-2 : tie.Need-returns-2
 returns-2 c =
-    no-clause (c .before .before .before .before .before .before .args .file .now) (c .before .before .before .before .before .before .args .clauses .now) (c .before .before .before .before .before .before .args .board .now) (c .before .before .before .before .before .before .args .n) (c .before .before .if1 .left) (c .before .cell .ensures) (c .if2 .taken)
+    no-clause (oldFile (c .before .before .before .before .before .before .args .file .now)) (c .before .before .before .before .before .before .args .clauses .now) (c .before .before .before .before .before .before .args .board .now) (c .before .before .before .before .before .before .args .n) (c .before .before .if1 .left) (c .before .cell .ensures) (c .if2 .taken)
 
 mul-cell : tie.Need-mul-cell
 mul-cell c = search needs
@@ -36,7 +37,7 @@ kind-requires c κs = search needs
 
 returns-3 : tie.Need-returns-3
 returns-3 c =
-    by-kind (c .before .before .before .before .before .before .before .before .before .args .file .now) (c .before .before .before .before .before .before .before .before .before .args .clauses .now) (c .before .before .before .before .before .before .before .before .before .args .board .now) (c .before .before .before .before .before .before .before .before .before .args .n) (c .before .before .before .before .before .if1 .left) (c .before .before .before .before .cell .ensures) (c .before .before .before .if2 .left) (c .before .before .cell2 .ensures) (c .before .record-part .ensures) (c .kind .ensures)
+    by-kind (oldFile (c .before .before .before .before .before .before .before .before .before .args .file .now)) (c .before .before .before .before .before .before .before .before .before .args .clauses .now) (c .before .before .before .before .before .before .before .before .before .args .board .now) (c .before .before .before .before .before .before .before .before .before .args .n) (c .before .before .before .before .before .if1 .left) (c .before .before .before .before .cell .ensures) (c .before .before .before .if2 .left) (c .before .before .cell2 .ensures) (c .before .record-part .ensures) (c .kind .ensures)
 
 pub is-input-spec : {M : Type 1} → statement M
 is-input-spec =

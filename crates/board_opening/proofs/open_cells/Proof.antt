@@ -1,6 +1,7 @@
 use mathlib.Core.Path.{_≡_, ap, _∙_}
 use mathlib.Core.List.{List}
 use Prim.Native.Nat.{ℕ}
+use Rattle.record.specs.Record.{oldFile}
 use Rattle.answer.specs.Given.{allSet}
 use Rattle.board_opening.specs.Filling.{filledBoard}
 use borrow.Author.Needs.{needs}
@@ -29,7 +30,7 @@ same-length c = search needs
 returns : tie.Need-returns
 unfolding allSet
 returns c =
-    c .before .before .fill .ensures ∙ ap (λ (L : List ℕ). filledBoard (c .before .before .before .before .before .before .before .before .before .before .before .args .day) (c .before .before .before .before .before .before .before .before .before .before .before .args .file .now) (c .before .before .before .before .before .before .before .before .before .before .before .args .clauses .now) L (c .before .before .before .before .before .before .before .before .before .before .before .args .count) (c .before .before .before .before .before .before .before .before .before .before .before .args .board .now)) (c .before .before .before .before .before .before .in-force .ensures)
+    c .before .before .fill .ensures ∙ ap (λ (L : List ℕ). filledBoard (c .before .before .before .before .before .before .before .before .before .before .before .args .day) (oldFile (c .before .before .before .before .before .before .before .before .before .before .before .args .file .now)) (c .before .before .before .before .before .before .before .before .before .before .before .args .clauses .now) L (c .before .before .before .before .before .before .before .before .before .before .before .args .count) (c .before .before .before .before .before .before .before .before .before .before .before .args .board .now)) (c .before .before .before .before .before .before .in-force .ensures)
 
 pub open-cells-spec : {M : Type 1} → statement M
 open-cells-spec =

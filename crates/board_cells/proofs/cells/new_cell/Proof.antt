@@ -1,3 +1,4 @@
+use Rattle.record.specs.Record.{oldFile}
 use Rattle.board_cells.proofs.CellSteps.{own-cell, parents-cell}
 use borrow.Author.Needs.{needs}
 use Rattle.board_cells.proofs.cells.new_cell.Statement.{statement}
@@ -52,11 +53,11 @@ from-parents-requires c κs = search needs
 
 returns : tie.Need-returns
 returns c =
-    own-cell (c .before .before .before .before .before .before .before .before .before .before .before .before .before .args .file .now) (c .before .before .before .before .before .before .before .before .before .before .before .before .before .args .clauses .now) (c .before .before .before .before .before .before .before .before .before .before .before .before .before .args .board .now) (c .before .before .before .before .before .before .before .before .before .before .before .before .before .args .n) (c .before .before .before .before .before .before .before .before .before .cell .ensures) (c .before .before .before .before .before .before .before .before .record-part .ensures) (c .before .before .before .before .before .before .kind .ensures) (c .if1 .taken) (c .before .before .before .before .before .before .before .cell2 .ensures)
+    own-cell (oldFile (c .before .before .before .before .before .before .before .before .before .before .before .before .before .args .file .now)) (c .before .before .before .before .before .before .before .before .before .before .before .before .before .args .clauses .now) (c .before .before .before .before .before .before .before .before .before .before .before .before .before .args .board .now) (c .before .before .before .before .before .before .before .before .before .before .before .before .before .args .n) (c .before .before .before .before .before .before .before .before .before .cell .ensures) (c .before .before .before .before .before .before .before .before .record-part .ensures) (c .before .before .before .before .before .before .kind .ensures) (c .if1 .taken) (c .before .before .before .before .before .before .before .cell2 .ensures)
 
 returns-2 : tie.Need-returns-2
 returns-2 c =
-    parents-cell (c .before .before .before .before .before .before .before .before .before .before .before .before .before .args .file .now) (c .before .before .before .before .before .before .before .before .before .before .before .before .before .args .clauses .now) (c .before .before .before .before .before .before .before .before .before .before .before .before .before .args .board .now) (c .before .before .before .before .before .before .before .before .before .before .before .before .before .args .n) (c .before .before .before .before .before .before .before .before .before .cell .ensures) (c .before .before .before .before .before .before .before .before .record-part .ensures) (c .before .before .before .before .before .before .kind .ensures) (c .if1 .left) (c .before .before .before .before .before .before .before .cell2 .ensures) (c .before .before .before .before .before .field .ensures) (c .before .before .before .before .cell3 .ensures) (c .before .before .before .right-parent .ensures) (c .before .before .cell4 .ensures) (c .before .from-parents .ensures)
+    parents-cell (oldFile (c .before .before .before .before .before .before .before .before .before .before .before .before .before .args .file .now)) (c .before .before .before .before .before .before .before .before .before .before .before .before .before .args .clauses .now) (c .before .before .before .before .before .before .before .before .before .before .before .before .before .args .board .now) (c .before .before .before .before .before .before .before .before .before .before .before .before .before .args .n) (c .before .before .before .before .before .before .before .before .before .cell .ensures) (c .before .before .before .before .before .before .before .before .record-part .ensures) (c .before .before .before .before .before .before .kind .ensures) (c .if1 .left) (c .before .before .before .before .before .before .before .cell2 .ensures) (c .before .before .before .before .before .field .ensures) (c .before .before .before .before .cell3 .ensures) (c .before .before .before .right-parent .ensures) (c .before .before .cell4 .ensures) (c .before .from-parents .ensures)
 
 pub new-cell-spec : {M : Type 1} → statement M
 new-cell-spec =

@@ -1,6 +1,7 @@
 use native.Mathlib.Omega.{arith}
 use mathlib.Core.Path.{ap, _∙_}
 use lib.ListN.{length}
+use Rattle.record.specs.Record.{oldFile}
 use Rattle.board_opening.proofs.FillSteps.{child-length, no-parents, one-parent, two-parents}
 use borrow.Author.Needs.{needs}
 use Rattle.board_opening.proofs.children.put_parents.Statement.{statement}
@@ -30,7 +31,7 @@ kind-requires c κs = search needs
 
 returns : tie.Need-returns
 returns c =
-    no-parents (c .before .before .before .before .before .before .before .args .file .now) (c .before .before .before .before .before .before .before .args .clauses .now) (c .before .before .before .before .before .before .before .args .board .now) (c .before .before .before .before .before .before .before .args .n) (c .before .before .before .cell .ensures) (c .before .before .record-part .ensures) (c .before .kind .ensures) (c .if1 .taken)
+    no-parents (oldFile (c .before .before .before .before .before .before .before .args .file .now)) (c .before .before .before .before .before .before .before .args .clauses .now) (c .before .before .before .before .before .before .before .args .board .now) (c .before .before .before .before .before .before .before .args .n) (c .before .before .before .cell .ensures) (c .before .before .record-part .ensures) (c .before .kind .ensures) (c .if1 .taken)
 
 field-requires : tie.Need-field-requires
 field-requires c κs = search needs
@@ -44,7 +45,7 @@ same-length c =
 
 returns-2 : tie.Need-returns-2
 returns-2 c =
-    one-parent (c .before .before .before .before .before .before .before .before .before .before .before .before .before .args .file .now) (c .before .before .before .before .before .before .before .before .before .before .before .before .before .args .clauses .now) (c .before .before .before .before .before .before .before .before .before .before .before .before .before .args .board .now) (c .before .before .before .before .before .before .before .before .before .before .before .before .before .args .n) (c .before .before .before .before .before .before .before .before .before .cell .ensures) (c .before .before .before .before .before .before .before .before .record-part .ensures) (c .before .before .before .before .before .before .before .kind .ensures) (c .if2 .taken) (c .before .before .before .before .field .ensures) (c .before .before .before .put-child .ensures)
+    one-parent (oldFile (c .before .before .before .before .before .before .before .before .before .before .before .before .before .args .file .now)) (c .before .before .before .before .before .before .before .before .before .before .before .before .before .args .clauses .now) (c .before .before .before .before .before .before .before .before .before .before .before .before .before .args .board .now) (c .before .before .before .before .before .before .before .before .before .before .before .before .before .args .n) (c .before .before .before .before .before .before .before .before .before .cell .ensures) (c .before .before .before .before .before .before .before .before .record-part .ensures) (c .before .before .before .before .before .before .before .kind .ensures) (c .if2 .taken) (c .before .before .before .before .field .ensures) (c .before .before .before .put-child .ensures)
 
 field-requires-2 : tie.Need-field-requires-2
 field-requires-2 c κs = search needs
@@ -58,7 +59,7 @@ same-length-2 c =
 
 returns-3 : tie.Need-returns-3
 returns-3 c =
-    two-parents (c .before .before .before .before .before .before .before .before .before .before .before .before .before .before .before .before .before .before .args .file .now) (c .before .before .before .before .before .before .before .before .before .before .before .before .before .before .before .before .before .before .args .clauses .now) (c .before .before .before .before .before .before .before .before .before .before .before .before .before .before .before .before .before .before .args .board .now) (c .before .before .before .before .before .before .before .before .before .before .before .before .before .before .before .before .before .before .args .n) (c .before .before .before .before .before .before .before .before .before .before .before .before .before .before .cell .ensures) (c .before .before .before .before .before .before .before .before .before .before .before .before .before .record-part .ensures) (c .before .before .before .before .before .before .before .before .before .before .before .before .kind .ensures) (c .before .before .before .before .before .before .before .before .before .before .before .if1 .left) (c .before .before .before .before .before .if2 .left) (c .before .before .before .before .before .before .before .before .before .field .ensures) (c .before .before .before .before .before .before .before .before .put-child .ensures) (c .before .before .before .field2 .ensures) (c .before .before .put-child2 .ensures)
+    two-parents (oldFile (c .before .before .before .before .before .before .before .before .before .before .before .before .before .before .before .before .before .before .args .file .now)) (c .before .before .before .before .before .before .before .before .before .before .before .before .before .before .before .before .before .before .args .clauses .now) (c .before .before .before .before .before .before .before .before .before .before .before .before .before .before .before .before .before .before .args .board .now) (c .before .before .before .before .before .before .before .before .before .before .before .before .before .before .before .before .before .before .args .n) (c .before .before .before .before .before .before .before .before .before .before .before .before .before .before .cell .ensures) (c .before .before .before .before .before .before .before .before .before .before .before .before .before .record-part .ensures) (c .before .before .before .before .before .before .before .before .before .before .before .before .kind .ensures) (c .before .before .before .before .before .before .before .before .before .before .before .if1 .left) (c .before .before .before .before .before .if2 .left) (c .before .before .before .before .before .before .before .before .before .field .ensures) (c .before .before .before .before .before .before .before .before .put-child .ensures) (c .before .before .before .field2 .ensures) (c .before .before .put-child2 .ensures)
 
 pub put-parents-spec : {M : Type 1} → statement M
 put-parents-spec =
