@@ -1,2 +1,3 @@
 pub mod AnswerWritten
 pub mod ThreeStored
+pub mod FormTold

@@ -1,2 +1,3 @@
 pub mod Exported
 pub mod ExportedWith
+pub mod ExportedForm
