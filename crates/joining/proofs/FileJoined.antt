@@ -10,7 +10,8 @@ use lib.Dec.{eqb, leb, ltb, ltb→lt, lt→ltb}
 use lib.ListN.{length, getD, take, drop, length-map, length-append, length-drop, length-take, take-append-drop}
 use lib.Seq.{take-at, drop-at, drop-drop, drop-append-le}
 use Rattle.record.specs.Bytes.{fileBytes, Fits, AllFit, Bytes}
-use Rattle.record.specs.Record.{pick, Record, records, recordCount}
+use Rattle.record.specs.Record.{pick, oldFile, Record, records, recordCount}
+use Rattle.record.specs.declared.Form.the-variants.{Old}
 use Rattle.record.proofs.Bytes.{file-length, file-joined, file-rewritten}
 use Rattle.record.proofs.Records.{Shaped, records-length, records-shaped}
 use Rattle.unification.specs.Row.{Row}
@@ -35,18 +36,18 @@ small-list : (xs : List ℕ) → ((i : ℕ) → getD xs i 0 < 65536) → map (λ
 small-list [] h = refl
 small-list (x ∷ xs) h = let z : x % 65536 ≡ x = let l = h 0 in omega arith in ap₂ (λ (a : ℕ) (l : List ℕ). a ∷ l) z (small-list xs (λ i. h (suc i)))
 
-wrapped-same : (r : Record) → Fits r → wrapped r ≡ r
-wrapped-same r F = let e = small-list (r .fields) (F .fieldsBits) in λ i. record { kind = r .kind; count = r .count; fields = e i }
+wrapped-same : (r : Record) → Fits Old r → wrapped r ≡ r
+wrapped-same r F = let e = small-list (r .fields) (F .fieldsBits) in λ i. record { kind = r .kind; count = r .count; fields = e i; days = r .days }
 
-all-wrapped : (f : Record → Record) (rs : List Record) → AllFit (map f rs) → map (λ r. wrapped (f r)) rs ≡ map f rs
+all-wrapped : (f : Record → Record) (rs : List Record) → AllFit Old (map f rs) → map (λ r. wrapped (f r)) rs ≡ map f rs
 all-wrapped f [] F = refl
 all-wrapped f (r ∷ rs) F = ap₂ (λ (x : Record) (xs : List Record). x ∷ xs) (wrapped-same (f r) (F .0)) (all-wrapped f rs (F .1))
 
-kept-fit : (f : Record → Record) (n s : ℕ) (rs : List Record) → AllFit (map f rs) → AllFit (map f (withoutSymbols n s rs))
+kept-fit : (f : Record → Record) (n s : ℕ) (rs : List Record) → AllFit Old (map f rs) → AllFit Old (map f (withoutSymbols n s rs))
 kept-fit f n s [] F = tt
 kept-fit f n s (r ∷ rs) F = try (isSymbol r && ltb s n) (kept-fit f n (symbolsAfter s r) rs (F .1))
   where
-    try : (b : Bool) → AllFit (map f (withoutSymbols n (symbolsAfter s r) rs)) → AllFit (map f (unless b r (withoutSymbols n (symbolsAfter s r) rs)))
+    try : (b : Bool) → AllFit Old (map f (withoutSymbols n (symbolsAfter s r) rs)) → AllFit Old (map f (unless b r (withoutSymbols n (symbolsAfter s r) rs)))
     try true k = k
     try false k = (F .0, k)
 
@@ -78,7 +79,7 @@ ltb-same a b c d f g = try (ltb a b) refl (ltb c d) refl
     try false p true q = let l = g (ltb→lt c d (to-T (ltb c d) q)) in let m = not-below a b p in absurd (omega arith)
 
 -- The lengths of a file that stands.
-module _ (file : List ℕ) (S : State) (st : Stands file S) where
+module _ (file : List ℕ) (S : State) (st : Stands (oldFile file) S) where
   pub short-file : length file ≤ 65536
   short-file = at-most (length file) 65536 (both-true (leb (length file) 65536) (eqb (length file % 16) 0) (st .fits) .0)
 
@@ -94,14 +95,14 @@ some-many sort (r ∷ rs) = try (sort r) (some-many sort rs)
     try true l = omega arith
     try false l = omega arith
 
-few-counted : (file : List ℕ) (S : State) → Stands file S → (length (S .rows) ≤ 4096) × (length (S .clauses) ≤ 4096)
+few-counted : (file : List ℕ) (S : State) → Stands (oldFile file) S → (length (S .rows) ≤ 4096) × (length (S .clauses) ≤ 4096)
 few-counted file S st =
-    let c = stands-counted file S st in
+    let c = stands-counted (oldFile file) S st in
     let r = c .rows in
     let s = c .clauses in
-    let x = some-many isRow (records file) in
-    let y = some-many isClause (records file) in
-    let n = records-length file in
+    let x = some-many isRow (records (oldFile file)) in
+    let y = some-many isClause (records (oldFile file)) in
+    let n = records-length (oldFile file) in
     let l = short-file file S st in
     (omega arith, omega arith)
 
@@ -110,62 +111,62 @@ take-all [] = refl
 take-all (x ∷ xs) = ap (λ (l : List ℕ). x ∷ l) (take-all xs)
 
 module _ (first second : List ℕ) (symbols rows clauses others : ℕ) (output : List ℕ) (B : BothStand first second symbols rows clauses others output) where
-  symbols-first : symbols ≡ howMany isSymbol (records first)
-  symbols-first = let a = stands-counted first (B .ofFirst) (B .firstStands) .symbols in let b = B .symbolsOfFirst in omega arith
+  symbols-first : symbols ≡ howMany isSymbol (records (oldFile first))
+  symbols-first = let a = stands-counted (oldFile first) (B .ofFirst) (B .firstStands) .symbols in let b = B .symbolsOfFirst in omega arith
 
-  symbols-second : others ≡ howMany isSymbol (records second)
-  symbols-second = let a = stands-counted second (B .ofSecond) (B .secondStands) .symbols in let b = B .symbolsOfSecond in omega arith
+  symbols-second : others ≡ howMany isSymbol (records (oldFile second))
+  symbols-second = let a = stands-counted (oldFile second) (B .ofSecond) (B .secondStands) .symbols in let b = B .symbolsOfSecond in omega arith
 
-  merged-many : length (merged (records first) (records second)) + min symbols others ≡ length first / 16 + length second / 16
+  merged-many : length (merged (records (oldFile first)) (records (oldFile second))) + min symbols others ≡ length first / 16 + length second / 16
   merged-many =
-      let a = records-length first in
-      let b = records-length second in
+      let a = records-length (oldFile first) in
+      let b = records-length (oldFile second) in
       let s = symbols-first in
       let t = symbols-second in
-      let c = left-many (howMany isSymbol (records first)) 0 (records second) in
-      let d = length-append (records first) (map (λ r. shifted (howMany isRow (records first)) (howMany isClause (records first)) r) (withoutSymbols (howMany isSymbol (records first)) 0 (records second))) in
-      let e = length-map (withoutSymbols (howMany isSymbol (records first)) 0 (records second)) (λ r. shifted (howMany isRow (records first)) (howMany isClause (records first)) r) in
-      let z : min symbols others ≡ min (howMany isSymbol (records first) - 0) (howMany isSymbol (records second)) = omega arith in
+      let c = left-many (howMany isSymbol (records (oldFile first))) 0 (records (oldFile second)) in
+      let d = length-append (records (oldFile first)) (map (λ r. shifted (howMany isRow (records (oldFile first))) (howMany isClause (records (oldFile first))) r) (withoutSymbols (howMany isSymbol (records (oldFile first))) 0 (records (oldFile second)))) in
+      let e = length-map (withoutSymbols (howMany isSymbol (records (oldFile first))) 0 (records (oldFile second))) (λ r. shifted (howMany isRow (records (oldFile first))) (howMany isClause (records (oldFile first))) r) in
+      let z : min symbols others ≡ min (howMany isSymbol (records (oldFile first)) - 0) (howMany isSymbol (records (oldFile second))) = omega arith in
       omega arith
 
-  pub counted-many : tooMany (length first) (length second) symbols others ≡ ltb 4096 (length (merged (records first) (records second)))
+  pub counted-many : tooMany (length first) (length second) symbols others ≡ ltb 4096 (length (merged (records (oldFile first)) (records (oldFile second))))
   counted-many =
       let m = merged-many in
       let l = least symbols others in
       ap (λ (n : ℕ). ltb (4096 + n) (length first / 16 + length second / 16)) l
-      ∙ ltb-same (4096 + min symbols others) (length first / 16 + length second / 16) 4096 (length (merged (records first) (records second))) (λ x. omega arith) (λ x. omega arith)
+      ∙ ltb-same (4096 + min symbols others) (length first / 16 + length second / 16) 4096 (length (merged (records (oldFile first)) (records (oldFile second)))) (λ x. omega arith) (λ x. omega arith)
 
   pub to-join : (b : Bool) → b ≡ tooMany (length first) (length second) symbols others → b ≡ false → Joinable first second symbols rows clauses output
   to-join b q f = record {
     others = others;
     stand = B;
-    few = not-below 4096 (length (merged (records first) (records second))) (sym counted-many ∙ sym q ∙ f);
+    few = not-below 4096 (length (merged (records (oldFile first)) (records (oldFile second)))) (sym counted-many ∙ sym q ∙ f);
   }
 
 -- ── The file is written ──
 module _ (first second : List ℕ) (symbols rows clauses : ℕ) (output : List ℕ) (J : Joinable first second symbols rows clauses output) where
-  symbols-are : symbols ≡ howMany isSymbol (records first)
-  symbols-are = let a = stands-counted first (J .stand .ofFirst) (J .stand .firstStands) .symbols in let b = J .stand .symbolsOfFirst in omega arith
+  symbols-are : symbols ≡ howMany isSymbol (records (oldFile first))
+  symbols-are = let a = stands-counted (oldFile first) (J .stand .ofFirst) (J .stand .firstStands) .symbols in let b = J .stand .symbolsOfFirst in omega arith
 
-  rows-are : rows ≡ howMany isRow (records first)
-  rows-are = let a = stands-counted first (J .stand .ofFirst) (J .stand .firstStands) .rows in let b = J .stand .rowsOfFirst in omega arith
+  rows-are : rows ≡ howMany isRow (records (oldFile first))
+  rows-are = let a = stands-counted (oldFile first) (J .stand .ofFirst) (J .stand .firstStands) .rows in let b = J .stand .rowsOfFirst in omega arith
 
-  clauses-are : clauses ≡ howMany isClause (records first)
-  clauses-are = let a = stands-counted first (J .stand .ofFirst) (J .stand .firstStands) .clauses in let b = J .stand .clausesOfFirst in omega arith
+  clauses-are : clauses ≡ howMany isClause (records (oldFile first))
+  clauses-are = let a = stands-counted (oldFile first) (J .stand .ofFirst) (J .stand .firstStands) .clauses in let b = J .stand .clausesOfFirst in omega arith
 
   abbrev kept : List Record
-  kept = withoutSymbols symbols 0 (records second)
+  kept = withoutSymbols symbols 0 (records (oldFile second))
 
-  merged-is : merged (records first) (records second) ≡ records first ++ map (λ r. shifted rows clauses r) kept
+  merged-is : merged (records (oldFile first)) (records (oldFile second)) ≡ records (oldFile first) ++ map (λ r. shifted rows clauses r) kept
   merged-is =
       let a = sym rows-are in
       let b = sym clauses-are in
       let c = sym symbols-are in
-      λ i. records first ++ map (λ r. shifted (a i) (b i) r) (withoutSymbols (c i) 0 (records second))
+      λ i. records (oldFile first) ++ map (λ r. shifted (a i) (b i) r) (withoutSymbols (c i) 0 (records (oldFile second)))
 
-  merged-length : length (merged (records first) (records second)) ≡ length first / 16 + length kept
+  merged-length : length (merged (records (oldFile first)) (records (oldFile second))) ≡ length first / 16 + length kept
   merged-length =
-      ap length merged-is ∙ length-append (records first) (map (λ r. shifted rows clauses r) kept) ∙ ap₂ _+_ (records-length first) (length-map kept (λ r. shifted rows clauses r))
+      ap length merged-is ∙ length-append (records (oldFile first)) (map (λ r. shifted rows clauses r) kept) ∙ ap₂ _+_ (records-length (oldFile first)) (length-map kept (λ r. shifted rows clauses r))
 
   -- What copying and writing ask.
   pub copy-room : length first ≤ length output
@@ -190,14 +191,14 @@ module _ (first second : List ℕ) (symbols rows clauses : ℕ) (output : List �
       let y = few-counted second (J .stand .ofSecond) (J .stand .secondStands) in
       let r = J .stand .rowsOfFirst in
       let c = J .stand .clausesOfFirst in
-      ap fileBytes (all-wrapped (λ q. shifted rows clauses q) kept (kept-fit (λ q. shifted rows clauses q) symbols 0 (records second) (shifted-fit rows clauses (let z = x .0 in omega arith) (let z = x .1 in omega arith) second (J .stand .ofSecond) b (J .stand .secondStands) (y .0) (y .1))))
+      ap fileBytes (all-wrapped (λ q. shifted rows clauses q) kept (kept-fit (λ q. shifted rows clauses q) symbols 0 (records (oldFile second)) (shifted-fit rows clauses (let z = x .0 in omega arith) (let z = x .1 in omega arith) second (J .stand .ofSecond) b (J .stand .secondStands) (y .0) (y .1))))
 
   file-is : Bytes first → Bytes second → mergedFile first second ≡ first ++ shiftedBytes rows clauses kept
   unfolding mergedFile
   file-is a b =
       ap fileBytes merged-is
-      ∙ file-joined (records first) (map (λ r. shifted rows clauses r) kept)
-      ∙ ap₂ _++_ (file-rewritten first (whole-file first (J .stand .ofFirst) (J .stand .firstStands)) a) (sym (bytes-are b))
+      ∙ file-joined Old (records (oldFile first)) (map (λ r. shifted rows clauses r) kept)
+      ∙ ap₂ _++_ (file-rewritten Old first (whole-file first (J .stand .ofFirst) (J .stand .firstStands)) a) (sym (bytes-are b))
 
   pub both-written : Bytes first → Bytes second → (copied : List ℕ) (at : ℕ) → at ≡ length first → copied ≡ take (length first) first ++ drop (length first) output
       → (left : List ℕ) (end : ℕ) → SecondWritten second symbols rows clauses copied at left end → FileWritten first second output left end
@@ -215,13 +216,13 @@ module _ (first second : List ℕ) (symbols rows clauses : ℕ) (output : List �
         let X = shiftedBytes rows clauses kept in
         let f = file-is a b in
         let l = length-append first X in
-        let m : length X ≡ 16 * length kept = file-length (map (λ r. wrapped (shifted rows clauses r)) kept) ∙ ap (λ (i : ℕ). 16 * i) (length-map kept (λ r. wrapped (shifted rows clauses r))) in
+        let m : length X ≡ 16 * length kept = file-length Old (map (λ r. wrapped (shifted rows clauses r)) kept) ∙ ap (λ (i : ℕ). 16 * i) (length-map kept (λ r. wrapped (shifted rows clauses r))) in
         W .ends ∙ (let z = ap length f in omega arith);
   }
 
   pub short-end : (left : List ℕ) (end : ℕ) → FileWritten first second output left end → end ≤ 65536
   unfolding mergedFile
-  short-end left end W = let e = W .ends in let n = file-length (merged (records first) (records second)) in let l = J .few in omega arith
+  short-end left end W = let e = W .ends in let n = file-length Old (merged (records (oldFile first)) (records (oldFile second))) in let l = J .few in omega arith
 
 -- ── The ways of joining ──
 
@@ -234,34 +235,34 @@ afterSearches rs mine theirs other =
     ]
 
 module _ (first second output : List ℕ) (m : given.MergeOutcome) where
-  refused-joined : (number file k : ℕ) → afterChecks (records first) (records second) ≡ refusedWith number file k → mergeGiven m ≡ 2 ∷ number ∷ file ∷ k ∷ [] → Joined first second output m output
+  refused-joined : (number file k : ℕ) → afterChecks (records (oldFile first)) (records (oldFile second)) ≡ refusedWith number file k → mergeGiven m ≡ 2 ∷ number ∷ file ∷ k ∷ [] → Joined first second output m output
   refused-joined number file k e g = record { answer = g ∙ ap mergeNumbers (sym e); bytes = ap (λ (x : Merge). outputLeft x (mergedFile first second) output) (sym e) }
 
-  pub step-first : (k : ℕ) → some k ≡ firstWhere isStep 0 (records first) → mergeGiven m ≡ 2 ∷ 17 ∷ 1 ∷ k ∷ [] → Joined first second output m output
-  step-first k q g = refused-joined 17 1 k (λ i. afterSearches (merged (records first) (records second)) (sym q i) (firstWhere isStep 0 (records second)) (firstOther (symbolList (records first)) 0 (records second))) g
+  pub step-first : (k : ℕ) → some k ≡ firstWhere isStep 0 (records (oldFile first)) → mergeGiven m ≡ 2 ∷ 17 ∷ 1 ∷ k ∷ [] → Joined first second output m output
+  step-first k q g = refused-joined 17 1 k (λ i. afterSearches (merged (records (oldFile first)) (records (oldFile second))) (sym q i) (firstWhere isStep 0 (records (oldFile second))) (firstOther (symbolList (records (oldFile first))) 0 (records (oldFile second)))) g
 
-  module _ (q : none ≡ firstWhere isStep 0 (records first)) where
-    pub step-second : (k : ℕ) → some k ≡ firstWhere isStep 0 (records second) → mergeGiven m ≡ 2 ∷ 17 ∷ 2 ∷ k ∷ [] → Joined first second output m output
-    step-second k p g = refused-joined 17 2 k (λ i. afterSearches (merged (records first) (records second)) (sym q i) (sym p i) (firstOther (symbolList (records first)) 0 (records second))) g
+  module _ (q : none ≡ firstWhere isStep 0 (records (oldFile first))) where
+    pub step-second : (k : ℕ) → some k ≡ firstWhere isStep 0 (records (oldFile second)) → mergeGiven m ≡ 2 ∷ 17 ∷ 2 ∷ k ∷ [] → Joined first second output m output
+    step-second k p g = refused-joined 17 2 k (λ i. afterSearches (merged (records (oldFile first)) (records (oldFile second))) (sym q i) (sym p i) (firstOther (symbolList (records (oldFile first))) 0 (records (oldFile second)))) g
 
-    module _ (p : none ≡ firstWhere isStep 0 (records second)) where
-      pub other-symbol : (k : ℕ) → some k ≡ firstOther (symbolList (records first)) 0 (records second) → mergeGiven m ≡ 2 ∷ 18 ∷ 2 ∷ k ∷ [] → Joined first second output m output
-      other-symbol k o g = refused-joined 18 2 k (λ i. afterSearches (merged (records first) (records second)) (sym q i) (sym p i) (sym o i)) g
+    module _ (p : none ≡ firstWhere isStep 0 (records (oldFile second))) where
+      pub other-symbol : (k : ℕ) → some k ≡ firstOther (symbolList (records (oldFile first))) 0 (records (oldFile second)) → mergeGiven m ≡ 2 ∷ 18 ∷ 2 ∷ k ∷ [] → Joined first second output m output
+      other-symbol k o g = refused-joined 18 2 k (λ i. afterSearches (merged (records (oldFile first)) (records (oldFile second))) (sym q i) (sym p i) (sym o i)) g
 
-      module _ (o : none ≡ firstOther (symbolList (records first)) 0 (records second)) where
-        room-left : afterChecks (records first) (records second) ≡ roomFor (merged (records first) (records second))
-        room-left = λ i. afterSearches (merged (records first) (records second)) (sym q i) (sym p i) (sym o i)
+      module _ (o : none ≡ firstOther (symbolList (records (oldFile first))) 0 (records (oldFile second))) where
+        room-left : afterChecks (records (oldFile first)) (records (oldFile second)) ≡ roomFor (merged (records (oldFile first)) (records (oldFile second)))
+        room-left = λ i. afterSearches (merged (records (oldFile first)) (records (oldFile second))) (sym q i) (sym p i) (sym o i)
 
-        pub too-many : ltb 4096 (length (merged (records first) (records second))) ≡ true → mergeGiven m ≡ 2 ∷ 19 ∷ 0 ∷ 0 ∷ [] → Joined first second output m output
-        too-many t g = refused-joined 19 0 0 (room-left ∙ ap (λ (b : Bool). elim b [ true ↦ refusedWith 19 0 0 | false ↦ written (16 * length (merged (records first) (records second))) ]) t) g
+        pub too-many : ltb 4096 (length (merged (records (oldFile first)) (records (oldFile second)))) ≡ true → mergeGiven m ≡ 2 ∷ 19 ∷ 0 ∷ 0 ∷ [] → Joined first second output m output
+        too-many t g = refused-joined 19 0 0 (room-left ∙ ap (λ (b : Bool). elim b [ true ↦ refusedWith 19 0 0 | false ↦ written (16 * length (merged (records (oldFile first)) (records (oldFile second)))) ]) t) g
 
-        pub joined-whole : (left : List ℕ) (end : ℕ) → ltb 4096 (length (merged (records first) (records second))) ≡ false → FileWritten first second output left end → mergeGiven m ≡ 0 ∷ end ∷ 0 ∷ 0 ∷ [] → Joined first second output m left
+        pub joined-whole : (left : List ℕ) (end : ℕ) → ltb 4096 (length (merged (records (oldFile first)) (records (oldFile second)))) ≡ false → FileWritten first second output left end → mergeGiven m ≡ 0 ∷ end ∷ 0 ∷ 0 ∷ [] → Joined first second output m left
         unfolding mergedFile
         joined-whole left end t W g =
-            let e : afterChecks (records first) (records second) ≡ written (16 * length (merged (records first) (records second))) =
-            room-left ∙ ap (λ (b : Bool). elim b [ true ↦ refusedWith 19 0 0 | false ↦ written (16 * length (merged (records first) (records second))) ]) t
+            let e : afterChecks (records (oldFile first)) (records (oldFile second)) ≡ written (16 * length (merged (records (oldFile first)) (records (oldFile second)))) =
+            room-left ∙ ap (λ (b : Bool). elim b [ true ↦ refusedWith 19 0 0 | false ↦ written (16 * length (merged (records (oldFile first)) (records (oldFile second)))) ]) t
             in
-            let l = file-length (merged (records first) (records second)) in
+            let l = file-length Old (merged (records (oldFile first)) (records (oldFile second))) in
             record {
               answer = g ∙ ap (λ (n : ℕ). 0 ∷ n ∷ 0 ∷ 0 ∷ []) (W .ends ∙ l) ∙ ap mergeNumbers (sym e);
               bytes = W .bytes ∙ ap (λ (n : ℕ). mergedFile first second ++ drop n output) l ∙ ap (λ (x : Merge). outputLeft x (mergedFile first second) output) (sym e);

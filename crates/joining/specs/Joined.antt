@@ -5,7 +5,7 @@ use mathlib.Core.List.{List, _++_}
 use Prim.Native.Nat.{ℕ, _+_, _/_, _≤_}
 use lib.Dec.{ltb}
 use lib.ListN.{length, drop}
-use Rattle.record.specs.Record.{pick, records}
+use Rattle.record.specs.Record.{pick, oldFile, records}
 use Rattle.verdict.specs.State.{State}
 use Rattle.verdict.specs.Verdict.{Stands}
 use Rattle.merging.specs.Answer.{mergeNumbers, afterChecks, outputLeft}
@@ -21,8 +21,8 @@ tooMany first second symbols others = ltb (4096 + pick (ltb symbols others) symb
 pub record BothStand (first second : List ℕ) (symbols rows clauses others : ℕ) (output : List ℕ) : Type 0 where
   pub ofFirst : State
   pub ofSecond : State
-  pub firstStands : Stands first ofFirst
-  pub secondStands : Stands second ofSecond
+  pub firstStands : Stands (oldFile first) ofFirst
+  pub secondStands : Stands (oldFile second) ofSecond
   pub symbolsOfFirst : symbols ≡ length (ofFirst .symbols)
   pub rowsOfFirst : rows ≡ length (ofFirst .rows)
   pub clausesOfFirst : clauses ≡ length (ofFirst .clauses)
@@ -33,12 +33,12 @@ pub record BothStand (first second : List ℕ) (symbols rows clauses others : �
 pub record Joinable (first second : List ℕ) (symbols rows clauses : ℕ) (output : List ℕ) : Type 0 where
   pub others : ℕ
   pub stand : BothStand first second symbols rows clauses others output
-  pub few : length (merged (records first) (records second)) ≤ 4096
+  pub few : length (merged (records (oldFile first)) (records (oldFile second))) ≤ 4096
 
 pub record FileWritten (first second : List ℕ) (output : List ℕ) (left : List ℕ) (end : ℕ) : Type 0 where
   pub bytes : left ≡ mergedFile first second ++ drop (length (mergedFile first second)) output
   pub ends : end ≡ length (mergedFile first second)
 
 pub record Joined (first second : List ℕ) (output : List ℕ) (m : MergeOutcome) (left : List ℕ) : Type 0 where
-  pub answer : mergeGiven m ≡ mergeNumbers (afterChecks (records first) (records second))
-  pub bytes : left ≡ outputLeft (afterChecks (records first) (records second)) (mergedFile first second) output
+  pub answer : mergeGiven m ≡ mergeNumbers (afterChecks (records (oldFile first)) (records (oldFile second)))
+  pub bytes : left ≡ outputLeft (afterChecks (records (oldFile first)) (records (oldFile second))) (mergedFile first second) output

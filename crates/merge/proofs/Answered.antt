@@ -5,6 +5,7 @@ use mathlib.Core.List.{List, [], _∷_}
 use Prim.Native.Nat.{ℕ, _≤_, _<_}
 use lib.ListN.{length}
 use borrow.Author.Tests.{lt-ltb, le-ltb}
+use Rattle.record.specs.Record.{oldFile}
 use Rattle.verdict.specs.Refusal.{Reason}
 use Rattle.verdict.specs.State.{State}
 use Rattle.verdict.specs.Tables.{Tables, lengthsOf, tablesAfter}
@@ -27,15 +28,15 @@ use Rattle.joining.specs.declared.MergeOutcome as given
 
 module _ (first second : List ℕ) (before : Tables) (output : List ℕ) where
   abbrev verdict₁ : Verdict
-  verdict₁ = check 0 first (lengthsOf before) .verdict
+  verdict₁ = check 0 (oldFile first) (lengthsOf before) .verdict
 
   -- A short output.
   pub short-answered : (m : given.MergeOutcome) → length output < 65536 → mergeGiven m ≡ 2 ∷ 2 ∷ 0 ∷ 0 ∷ [] → MergeAnswered first second before output m before output
   unfolding mergeAnswer tablesLeft
   short-answered m l g =
       let z = lt-ltb (length output) 65536 l in
-      let t : tablesLeft first second before (length output) ≡ before = ap (λ (b : Bool). elim b [ true ↦ before | false ↦ tablesUnlessRefused verdict₁ (tablesAfter first before) (tablesAfter second (tablesAfter first before)) ]) z in
-      let a : mergeAnswer first second before (length output) ≡ refusedWith 2 0 0 = ap (λ (b : Bool). elim b [ true ↦ refusedWith 2 0 0 | false ↦ unlessRefused 1 verdict₁ (secondAnswer first second (tablesAfter first before)) ]) z in
+      let t : tablesLeft first second before (length output) ≡ before = ap (λ (b : Bool). elim b [ true ↦ before | false ↦ tablesUnlessRefused verdict₁ (tablesAfter (oldFile first) before) (tablesAfter (oldFile second) (tablesAfter (oldFile first) before)) ]) z in
+      let a : mergeAnswer first second before (length output) ≡ refusedWith 2 0 0 = ap (λ (b : Bool). elim b [ true ↦ refusedWith 2 0 0 | false ↦ unlessRefused 1 verdict₁ (secondAnswer first second (tablesAfter (oldFile first) before)) ]) z in
       record {
         answer = g ∙ ap mergeNumbers (sym a);
         symbols = ap (λ (x : Tables). x .symbols) (sym t);
@@ -47,13 +48,13 @@ module _ (first second : List ℕ) (before : Tables) (output : List ℕ) where
       }
 
   module _ (room : 65536 ≤ length output) where
-    answer-checked : mergeAnswer first second before (length output) ≡ unlessRefused 1 verdict₁ (secondAnswer first second (tablesAfter first before))
+    answer-checked : mergeAnswer first second before (length output) ≡ unlessRefused 1 verdict₁ (secondAnswer first second (tablesAfter (oldFile first) before))
     unfolding mergeAnswer
-    answer-checked = ap (λ (b : Bool). elim b [ true ↦ refusedWith 2 0 0 | false ↦ unlessRefused 1 verdict₁ (secondAnswer first second (tablesAfter first before)) ]) (le-ltb (length output) 65536 room)
+    answer-checked = ap (λ (b : Bool). elim b [ true ↦ refusedWith 2 0 0 | false ↦ unlessRefused 1 verdict₁ (secondAnswer first second (tablesAfter (oldFile first) before)) ]) (le-ltb (length output) 65536 room)
 
-    tables-checked : tablesLeft first second before (length output) ≡ tablesUnlessRefused verdict₁ (tablesAfter first before) (tablesAfter second (tablesAfter first before))
+    tables-checked : tablesLeft first second before (length output) ≡ tablesUnlessRefused verdict₁ (tablesAfter (oldFile first) before) (tablesAfter (oldFile second) (tablesAfter (oldFile first) before))
     unfolding tablesLeft
-    tables-checked = ap (λ (b : Bool). elim b [ true ↦ before | false ↦ tablesUnlessRefused verdict₁ (tablesAfter first before) (tablesAfter second (tablesAfter first before)) ]) (le-ltb (length output) 65536 room)
+    tables-checked = ap (λ (b : Bool). elim b [ true ↦ before | false ↦ tablesUnlessRefused verdict₁ (tablesAfter (oldFile first) before) (tablesAfter (oldFile second) (tablesAfter (oldFile first) before)) ]) (le-ltb (length output) 65536 room)
 
     -- All of it, from the answer, the tables and the output.
     answered : (m : given.MergeOutcome) (after : Tables) (left : List ℕ) → mergeGiven m ≡ mergeNumbers (mergeAnswer first second before (length output)) → after ≡ tablesLeft first second before (length output) → left ≡ outputLeft (mergeAnswer first second before (length output)) (mergedFile first second) output
@@ -68,41 +69,41 @@ module _ (first second : List ℕ) (before : Tables) (output : List ℕ) where
       promised = merge-promised first second before (length output);
     }
 
-    module _ (mine : answer.Answer) (between : Tables) (K : Checked 0 first before mine between) where
-      given₁ : verdictCoded (mine .verdict) ≡ verdictNumbers (check 0 first (lengthsOf before) .verdict)
-      given₁ = verdict-given 0 first (lengthsOf before) mine (K .answer)
+    module _ (mine : answer.Answer) (between : Tables) (K : Checked 0 (oldFile first) before mine between) where
+      given₁ : verdictCoded (mine .verdict) ≡ verdictNumbers (check 0 (oldFile first) (lengthsOf before) .verdict)
+      given₁ = verdict-given 0 (oldFile first) (lengthsOf before) mine (K .answer)
 
       pub first-refused : (m : given.MergeOutcome) (b : Bool) → b ≡ verdictStands (mine .verdict) → b ≡ false → mergeGiven m ≡ refusalGiven 1 (mine .verdict) → MergeAnswered first second before output m between output
       first-refused m b t f g =
           answered m between output
-          (g ∙ sym (refused-ends 1 (mine .verdict) verdict₁ (secondAnswer first second (tablesAfter first before)) given₁ (sym t ∙ f)) ∙ ap mergeNumbers (sym answer-checked))
-          (checked-tables first before mine between K ∙ sym (refused-tables (mine .verdict) verdict₁ (tablesAfter first before) (tablesAfter second (tablesAfter first before)) given₁ (sym t ∙ f)) ∙ sym tables-checked)
-          (sym (refused-is 1 (mine .verdict) verdict₁ (secondAnswer first second (tablesAfter first before)) given₁ (sym t ∙ f) (mergedFile first second) output) ∙ ap (λ (x : Merge). outputLeft x (mergedFile first second) output) (sym answer-checked))
+          (g ∙ sym (refused-ends 1 (mine .verdict) verdict₁ (secondAnswer first second (tablesAfter (oldFile first) before)) given₁ (sym t ∙ f)) ∙ ap mergeNumbers (sym answer-checked))
+          (checked-tables (oldFile first) before mine between K ∙ sym (refused-tables (mine .verdict) verdict₁ (tablesAfter (oldFile first) before) (tablesAfter (oldFile second) (tablesAfter (oldFile first) before)) given₁ (sym t ∙ f)) ∙ sym tables-checked)
+          (sym (refused-is 1 (mine .verdict) verdict₁ (secondAnswer first second (tablesAfter (oldFile first) before)) given₁ (sym t ∙ f) (mergedFile first second) output) ∙ ap (λ (x : Merge). outputLeft x (mergedFile first second) output) (sym answer-checked))
 
       module _ (b : Bool) (t : b ≡ verdictStands (mine .verdict)) (s : b ≡ true) where
-        not-first : (q : Reason) (k : ℕ) → ¬ (check 0 first (lengthsOf before) .verdict ≡ refusal q k)
+        not-first : (q : Reason) (k : ℕ) → ¬ (check 0 (oldFile first) (lengthsOf before) .verdict ≡ refusal q k)
         not-first = stands-not-refused (mine .verdict) verdict₁ given₁ (sym t ∙ s)
 
         pub first-stands : FirstStands first mine output
         first-stands =
-            let A = not-refused 0 first before not-first in
-            let S = left-state first before (A .1 .0) (A .0) (A .1 .1) in
+            let A = not-refused 0 (oldFile first) before not-first in
+            let S = left-state (oldFile first) before (A .1 .0) (A .0) (A .1 .1) in
             record {
               state = A .1 .0;
               stands = A .1 .1;
-              symbols = symbols-given 0 first (lengthsOf before) mine (K .answer) ∙ ap (λ (z : State). length (z .symbols)) S;
-              rows = rows-given 0 first (lengthsOf before) mine (K .answer) ∙ ap (λ (z : State). length (z .rows)) S;
-              clauses = clauses-given 0 first (lengthsOf before) mine (K .answer) ∙ ap (λ (z : State). length (z .clauses)) S;
+              symbols = symbols-given 0 (oldFile first) (lengthsOf before) mine (K .answer) ∙ ap (λ (z : State). length (z .symbols)) S;
+              rows = rows-given 0 (oldFile first) (lengthsOf before) mine (K .answer) ∙ ap (λ (z : State). length (z .rows)) S;
+              clauses = clauses-given 0 (oldFile first) (lengthsOf before) mine (K .answer) ∙ ap (λ (z : State). length (z .clauses)) S;
               room = room;
             }
 
         pub second-answered : (m : given.MergeOutcome) (after : Tables) (left : List ℕ) → SecondAnswered first second between output m after left → MergeAnswered first second before output m after left
         second-answered m after left A =
-            let w = checked-tables first before mine between K in
+            let w = checked-tables (oldFile first) before mine between K in
             let e : secondAnswer first second between ≡ mergeAnswer first second before (length output) =
-            ap (secondAnswer first second) w ∙ sym (stands-on 1 verdict₁ (secondAnswer first second (tablesAfter first before)) not-first) ∙ sym answer-checked
+            ap (secondAnswer first second) w ∙ sym (stands-on 1 verdict₁ (secondAnswer first second (tablesAfter (oldFile first) before)) not-first) ∙ sym answer-checked
             in
             answered m after left
             (A .answer ∙ ap mergeNumbers e)
-            (A .tables ∙ ap (tablesAfter second) w ∙ sym (tables-on verdict₁ (tablesAfter first before) (tablesAfter second (tablesAfter first before)) not-first) ∙ sym tables-checked)
+            (A .tables ∙ ap (tablesAfter (oldFile second)) w ∙ sym (tables-on verdict₁ (tablesAfter (oldFile first) before) (tablesAfter (oldFile second) (tablesAfter (oldFile first) before)) not-first) ∙ sym tables-checked)
             (A .bytes ∙ ap (λ (x : Merge). outputLeft x (mergedFile first second) output) e)

@@ -8,6 +8,7 @@ use following::values::ValueCells;
 use joining::MergeOutcome;
 use merge_second::answers::refusal;
 use merge_second::merge_second;
+use record::Form;
 ghost use Prim.Native.Nat.{_≤_};
 ghost use lib.ListN.{length};
 ghost use Rattle.entry.specs.Progress.{tablesWith};
@@ -30,6 +31,7 @@ fn merge_with(
     ensures { λ m. ⌜ MergeAnswered (now (first .entry)) (now (second .entry)) (tablesWith (now (symbols .entry)) (now (rows .entry)) (now (clauses .entry)) (now (bindings .entry))) (now (output .entry)) m (tablesWith (now (symbols .exit)) (now (rows .exit)) (now (clauses .exit)) (now (bindings .exit))) (now (output .exit)) ⌝ }
 {
     let mine = check_with(
+        Form::Old,
         0,
         first,
         symbols,

@@ -4,7 +4,7 @@ use mathlib.Core.Bool.{Bool, true, false}
 use mathlib.Core.List.{List, [], _∷_}
 use Prim.Native.Nat.{ℕ}
 use lib.ListN.{length}
-use Rattle.record.specs.Record.{records}
+use Rattle.record.specs.Record.{File, oldFile, records}
 use Rattle.unification.proofs.Tests.{true-not-false}
 use Rattle.verdict.specs.Refusal.{Reason}
 use Rattle.verdict.specs.State.{State}
@@ -58,7 +58,7 @@ tables-on open′ here next h = refl
 tables-on (refusal q k) here next h = absurd (h q k refl)
 
 -- Tables by their parts.
-pub checked-tables : (file : List ℕ) (before : Tables) (a : answer.Answer) (after : Tables) → Checked 0 file before a after → after ≡ tablesAfter file before
+pub checked-tables : (file : File) (before : Tables) (a : answer.Answer) (after : Tables) → Checked 0 file before a after → after ≡ tablesAfter file before
 checked-tables file before a after K =
     let s = K .symbols in
     let r = K .rows in
@@ -67,32 +67,32 @@ checked-tables file before a after K =
     λ i. record { symbols = s i; rows = r i; clauses = c i; bindings = b i }
 
 -- The state that a check leaves is that of the file that stands.
-pub left-state : (file : List ℕ) (tables : Tables) (S : State) → longEnough (lengthsOf tables) ≡ true → Stands file S → stateLeft file (lengthsOf tables) ≡ S
+pub left-state : (file : File) (tables : Tables) (S : State) → longEnough (lengthsOf tables) ≡ true → Stands file S → stateLeft file (lengthsOf tables) ≡ S
 left-state file tables S l st = ap stateGiven (reading-records file (lengthsOf tables) (st .fits) l) ∙ ap stateOf (st .reads)
 
 -- ── The second file's check ──
-module _ (first second : List ℕ) (between : Tables) (output : List ℕ) (mine theirs : answer.Answer) (after : Tables) (L : Checked 0 second between theirs after) where
+module _ (first second : List ℕ) (between : Tables) (output : List ℕ) (mine theirs : answer.Answer) (after : Tables) (L : Checked 0 (oldFile second) between theirs after) where
   abbrev verdict₂ : Verdict
-  verdict₂ = check 0 second (lengthsOf between) .verdict
+  verdict₂ = check 0 (oldFile second) (lengthsOf between) .verdict
 
-  given₂ : verdictCoded (theirs .verdict) ≡ verdictNumbers (check 0 second (lengthsOf between) .verdict)
-  given₂ = verdict-given 0 second (lengthsOf between) theirs (L .answer)
+  given₂ : verdictCoded (theirs .verdict) ≡ verdictNumbers (check 0 (oldFile second) (lengthsOf between) .verdict)
+  given₂ = verdict-given 0 (oldFile second) (lengthsOf between) theirs (L .answer)
 
   pub second-refused : (m : given.MergeOutcome) (b : Bool) → b ≡ verdictStands (theirs .verdict) → b ≡ false → mergeGiven m ≡ refusalGiven 2 (theirs .verdict) → SecondAnswered first second between output m after output
   second-refused m b t f g = record {
-    answer = g ∙ sym (refused-ends 2 (theirs .verdict) verdict₂ (afterChecks (records first) (records second)) given₂ (sym t ∙ f));
-    tables = checked-tables second between theirs after L;
-    bytes = sym (refused-is 2 (theirs .verdict) verdict₂ (afterChecks (records first) (records second)) given₂ (sym t ∙ f) (mergedFile first second) output);
+    answer = g ∙ sym (refused-ends 2 (theirs .verdict) verdict₂ (afterChecks (records (oldFile first)) (records (oldFile second))) given₂ (sym t ∙ f));
+    tables = checked-tables (oldFile second) between theirs after L;
+    bytes = sym (refused-is 2 (theirs .verdict) verdict₂ (afterChecks (records (oldFile first)) (records (oldFile second))) given₂ (sym t ∙ f) (mergedFile first second) output);
   }
 
   module _ (b : Bool) (t : b ≡ verdictStands (theirs .verdict)) (s : b ≡ true) where
-    not-second : (q : Reason) (k : ℕ) → ¬ (check 0 second (lengthsOf between) .verdict ≡ refusal q k)
+    not-second : (q : Reason) (k : ℕ) → ¬ (check 0 (oldFile second) (lengthsOf between) .verdict ≡ refusal q k)
     not-second = stands-not-refused (theirs .verdict) verdict₂ given₂ (sym t ∙ s)
 
     pub both-stand : FirstStands first mine output → BothStand first second (mine .symbols) (mine .rows) (mine .clauses) (theirs .symbols) output
     both-stand F =
-        let B = not-refused 0 second between not-second in
-        let T = left-state second between (B .1 .0) (B .0) (B .1 .1) in
+        let B = not-refused 0 (oldFile second) between not-second in
+        let T = left-state (oldFile second) between (B .1 .0) (B .0) (B .1 .1) in
         record {
           ofFirst = F .state;
           ofSecond = B .1 .0;
@@ -101,15 +101,15 @@ module _ (first second : List ℕ) (between : Tables) (output : List ℕ) (mine 
           symbolsOfFirst = F .symbols;
           rowsOfFirst = F .rows;
           clausesOfFirst = F .clauses;
-          symbolsOfSecond = symbols-given 0 second (lengthsOf between) theirs (L .answer) ∙ ap (λ (z : State). length (z .symbols)) T;
+          symbolsOfSecond = symbols-given 0 (oldFile second) (lengthsOf between) theirs (L .answer) ∙ ap (λ (z : State). length (z .symbols)) T;
           room = F .room;
         }
 
     pub both-joined : (m : given.MergeOutcome) (left : List ℕ) → Joined first second output m left → SecondAnswered first second between output m after left
     both-joined m left J =
-        let e = stands-on 2 verdict₂ (afterChecks (records first) (records second)) not-second in
+        let e = stands-on 2 verdict₂ (afterChecks (records (oldFile first)) (records (oldFile second))) not-second in
         record {
           answer = J .answer ∙ ap mergeNumbers (sym e);
-          tables = checked-tables second between theirs after L;
+          tables = checked-tables (oldFile second) between theirs after L;
           bytes = J .bytes ∙ ap (λ (y : Merge). outputLeft y (mergedFile first second) output) (sym e);
         }

@@ -3,7 +3,7 @@ use mathlib.Core.Path.{_≡_}
 use mathlib.Core.List.{List, [], _∷_}
 use Prim.Native.Nat.{ℕ, _≤_}
 use lib.ListN.{length}
-use Rattle.record.specs.Record.{records}
+use Rattle.record.specs.Record.{oldFile, records}
 use Rattle.verdict.specs.State.{State}
 use Rattle.verdict.specs.Tables.{Tables, lengthsOf, tablesAfter}
 use Rattle.verdict.specs.Verdict.{check, Stands}
@@ -24,7 +24,7 @@ refusalGiven file (verdict.Refused number k) = 2 ∷ number ∷ file ∷ k ∷ [
 -- The first file stands, and this is the answer of its check; the output has room for every file.
 pub record FirstStands (first : List ℕ) (mine : Answer) (output : List ℕ) : Type 0 where
   pub state : State
-  pub stands : Stands first state
+  pub stands : Stands (oldFile first) state
   pub symbols : mine .symbols ≡ length (state .symbols)
   pub rows : mine .rows ≡ length (state .rows)
   pub clauses : mine .clauses ≡ length (state .clauses)
@@ -32,9 +32,9 @@ pub record FirstStands (first : List ℕ) (mine : Answer) (output : List ℕ) : 
 
 -- The answer by the second file's check, with the tables as the first's has left them, and what comes after it.
 abbrev pub secondAnswer : List ℕ → List ℕ → Tables → Merge
-secondAnswer first second between = unlessRefused 2 (check 0 second (lengthsOf between) .verdict) (afterChecks (records first) (records second))
+secondAnswer first second between = unlessRefused 2 (check 0 (oldFile second) (lengthsOf between) .verdict) (afterChecks (records (oldFile first)) (records (oldFile second)))
 
 pub record SecondAnswered (first second : List ℕ) (between : Tables) (output : List ℕ) (m : MergeOutcome) (after : Tables) (left : List ℕ) : Type 0 where
   pub answer : mergeGiven m ≡ mergeNumbers (secondAnswer first second between)
-  pub tables : after ≡ tablesAfter second between
+  pub tables : after ≡ tablesAfter (oldFile second) between
   pub bytes : left ≡ outputLeft (secondAnswer first second between) (mergedFile first second) output

@@ -11,6 +11,7 @@ use following::nodes::Origins;
 use following::values::ValueCells;
 use joining::MergeOutcome;
 use joining::join;
+use record::Form;
 ghost use Rattle.entry.specs.Progress.{tablesWith};
 ghost use Rattle.merge_second.specs.Going.{FirstStands, SecondAnswered};
 
@@ -32,6 +33,7 @@ pub fn merge_second(
     ensures { λ m. ⌜ SecondAnswered (now (first .entry)) (now (second .entry)) (tablesWith (now (symbols .entry)) (now (rows .entry)) (now (clauses .entry)) (now (bindings .entry))) (now (output .entry)) m (tablesWith (now (symbols .exit)) (now (rows .exit)) (now (clauses .exit)) (now (bindings .exit))) (now (output .exit)) ⌝ }
 {
     let theirs = check_with(
+        Form::Old,
         0,
         second,
         symbols,

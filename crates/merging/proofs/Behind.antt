@@ -8,14 +8,14 @@ use native.Mathlib.Omega.{arith}
 use lib.Dec.{eqb, ltb, ltb→lt}
 use lib.ListN.{length, getD, drop, length-map, drop-of-length-le}
 use lib.Seq.{drop-cons}
-use Rattle.record.specs.Record.{pick, Record, Kind, symbolKind, kindNumbered}
+use Rattle.record.specs.Record.{pick, Record, Kind, symbolKind}
 use Rattle.record.proofs.Records.{Shaped}
 use Rattle.unification.proofs.Tests.{to-T, both-true, true-not-false, some-not-none}
 use Rattle.verdict.specs.Refusal.{kindOfRecord}
 use Rattle.verdict.specs.State.{State, withSymbol, arities, rowsOf, derivations, arityOf}
 use Rattle.verdict.specs.Step.{stands, refused, Result, enter, step, read, allStand, refusedAt}
 use Rattle.demands.proofs.Inversions.{stands-same, step-stands, not-below}
-use Rattle.demands.proofs.RangeTests.{equal}
+use Rattle.demands.proofs.RangeTests.{equal, kind-at}
 use Rattle.verdict.proofs.Endings.{ending-stands, stands-not-refused}
 use Rattle.merging.specs.Answer.{firstWhere, symbolList, firstOther}
 use Rattle.merging.specs.Merging.{isSymbol, isStep, shifted, symbolsAfter, unless, withoutSymbols}
@@ -80,7 +80,7 @@ module _ (S : State) (A : List ℕ) (L : Listed A S) where
 
       dropped : (U : State) → step T k r ≡ stands U → read U (suc k) rs ≡ allStand T″ → isSymbol r ≡ true → length (arities T) < length A → ((X W : State) (m : ℕ) → Beside S X W → read X (suc k) rs ≡ allStand T″ → firstOther (drop (length (arities X)) A) (suc n) rs ≡ none → Behind W m (kept (length (arities X)) rs) T″) → Behind M j (kept (symbolsAfter (length (arities T)) r) rs) T″
       dropped U e p z l ih =
-          let kind : kindOfRecord r ≡ symbolKind = ap kindNumbered (equal (r .kind) 1 z) in
+          let kind : kindOfRecord r ≡ symbolKind = kind-at r 1 (equal (r .kind) 1 z) refl in
           let entered : enter T k symbolKind r ≡ stands U = subst (λ (x : Kind). enter T k x r ≡ stands U) kind (step-stands T k r U e .1) in
           let same = same-here (getD A (length (arities T)) 0) (drop (suc (length (arities T))) A) n r rs z (ap (λ (xs : List ℕ). firstOther xs n (r ∷ rs)) (sym (drop-cons A (length (arities T)) 0 l)) ∙ o) in
           let few : length (arities T) < length (arities S) = let m = L .many in omega arith in

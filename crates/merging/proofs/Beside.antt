@@ -16,8 +16,8 @@ use Rattle.unification.proofs.Lists.{Each}
 use Rattle.unification.proofs.Rows.{Below}
 use Rattle.unification.proofs.Tests.{to-T, from-T, both-true, true-not-false, some-not-none, some-injective}
 use Rattle.derivation.specs.Derivation.{input, RowLiteral, inputLiterals, Derivation}
-use Rattle.verdict.specs.Refusal.{tests, outlineTests, kindOfRecord, zeros, inRange, argumentRows, hasArity, allBelow, isInput, isApplication, allApplications}
-use Rattle.verdict.specs.State.{State, Window, withSymbol, withRow, withClause, withWindow, entry, arities, rowsOf, derivations, arityOf, clauseOf, rowOf, recordOfRow, nextClause}
+use Rattle.verdict.specs.Refusal.{tests, outlineTests, kindOfRecord, zeros, zeroDays, inRange, argumentRows, hasArity, allBelow, isInput, isApplication, allApplications}
+use Rattle.verdict.specs.State.{State, Window, withSymbol, withRow, withClause, withWindow, windowsWith, withDaysBeside, entry, arities, rowsOf, derivations, arityOf, clauseOf, rowOf, recordOfRow, nextClause}
 use Rattle.verdict.specs.Step.{stands, refused, Result, requireAll, newApplication, newLiterals, windowIn, enter, step, read, Ending, allStand, refusedAt}
 use Rattle.demands.proofs.Inversions.{AllPass, all-passed, stands-same, step-stands, tests-passed, Passed, has-arity, all-below, rows-below, entry-below, entry-more, entry-new, entry-some, entry-each, not-below, never-both}
 use Rattle.demands.proofs.RangeTests.{of-kind, equal, not-true}
@@ -140,8 +140,13 @@ module _ (S T M : State) (B : Beside S T M) (k j : ℕ) (r : Record) (T′ : Sta
           try true e z = ap (arityOf (withSymbol M j a)) (equal s (length (arities T)) e ∙ sym (B .asSecond l)) ∙ entry-new a (arities M) ∙ z
           try false e z = entry-more a (arities M) s b (B .ofSecond s b z)
 
-  clause-beside : (n m : ℕ) (ls ms : List RowLiteral) → withClause T k (input n ls) ≡ T′ → Beside S T′ (withClause M j (input m ms))
-  clause-beside n m ls ms q = subst (λ (X : State). Beside S X (withClause M j (input m ms))) q (record {
+  -- The days beside an input clause are its window.
+  days-raised : (days : Option (ℕ × ℕ)) → windowsWith (nextClause M) days (M .windows) ≡ map (raisedWindow (length (derivations S))) (windowsWith (nextClause T) days (T .windows)) ++ S .windows
+  days-raised none = B .windows
+  days-raised (some d) = ap₂ (λ (n : ℕ) (ws : List Window). record { clause = n; first = d .0; last = d .1 } ∷ ws) (B .clausesMany) (B .windows)
+
+  clause-beside : (n m : ℕ) (ls ms : List RowLiteral) (days : Option (ℕ × ℕ)) → withDaysBeside (withClause T k (input n ls)) (nextClause T) days ≡ T′ → Beside S T′ (withDaysBeside (withClause M j (input m ms)) (nextClause M) days)
+  clause-beside n m ls ms days q = subst (λ (X : State). Beside S X (withDaysBeside (withClause M j (input m ms)) (nextClause M) days)) q (record {
     ofFirst = B .ofFirst;
     ofSecond = B .ofSecond;
     asFirst = B .asFirst;
@@ -150,7 +155,7 @@ module _ (S T M : State) (B : Beside S T M) (k j : ℕ) (r : Record) (T′ : Sta
     shapes = B .shapes;
     clausesMany = ap suc (B .clausesMany) ∙ sym (suc-add (length (derivations T)) (length (derivations S)));
     inputs = (refl, B .inputs);
-    windows = B .windows;
+    windows = days-raised days;
   })
 
   window-beside : (w u : Window) → w ≡ raisedWindow (length (derivations S)) u → withWindow T u ≡ T′ → Beside S T′ (withWindow M w)
@@ -170,7 +175,7 @@ module _ (S T M : State) (B : Beside S T M) (k j : ℕ) (r : Record) (T′ : Sta
   symbol-goes : kindOfRecord r ≡ symbolKind → length (arities S) ≤ length (arities T) → Passed T symbolKind r → enter T k symbolKind r ≡ stands T′ → Goes symbolKind
   symbol-goes e l a q = record {
     next = withSymbol M j (r .count);
-    steps = all-passed (tests M symbolKind r′) (enter M j symbolKind r′) (ap (λ (fs : List ℕ). leb (r .count) 6 && zeros fs) (shifted-symbol (length (rowsOf S)) (length (derivations S)) r (of-kind r symbolKind e)) ∙ a, tt);
+    steps = all-passed (tests M symbolKind r′) (enter M j symbolKind r′) (ap (λ (fs : List ℕ). zeroDays (r .days) && (leb (r .count) 6 && zeros fs)) (shifted-symbol (length (rowsOf S)) (length (derivations S)) r (of-kind r symbolKind e)) ∙ a, tt);
     beside = symbol-kept l (r .count) (stands-same q);
   }
 
@@ -179,7 +184,7 @@ module _ (S T M : State) (B : Beside S T M) (k j : ℕ) (r : Record) (T′ : Sta
       let same = shifted-variable (length (rowsOf S)) (length (derivations S)) r (of-kind r variableKind e) in
       record {
         next = withRow M (recordOfRow M j (variable (fieldA r′))) (variable (fieldA r′));
-        steps = all-passed (tests M variableKind r′) (enter M j variableKind r′) (ap (λ (fs : List ℕ). eqb (r .count) 0 && leb (getD fs 0 0) 63 && zeros (drop 1 fs)) same ∙ a, tt);
+        steps = all-passed (tests M variableKind r′) (enter M j variableKind r′) (ap (λ (fs : List ℕ). zeroDays (r .days) && (eqb (r .count) 0 && leb (getD fs 0 0) 63 && zeros (drop 1 fs))) same ∙ a, tt);
         beside = row-beside (recordOfRow T k (variable (fieldA r))) (recordOfRow M j (variable (fieldA r′))) (variable (fieldA r′)) (variable (fieldA r)) refl (stands-same q);
       }
 
@@ -197,7 +202,7 @@ module _ (S T M : State) (B : Beside S T M) (k j : ℕ) (r : Record) (T′ : Sta
       in
       record {
         next = withRow M (recordOfRow M j (newApplication M r′)) (newApplication M r′);
-        steps = all-passed (tests M applicationKind r′) (enter M j applicationKind r′) (ap (λ (fs : List ℕ). leb (r .count) 6 && zeros fs) rest ∙ a .ranged, (ap₂ _&&_ has below, tt));
+        steps = all-passed (tests M applicationKind r′) (enter M j applicationKind r′) (ap (λ (fs : List ℕ). zeroDays (r .days) && (leb (r .count) 6 && zeros fs)) rest ∙ a .ranged, (ap₂ _&&_ has below, tt));
         beside = row-beside (recordOfRow T k (newApplication T r)) (recordOfRow M j (newApplication M r′)) (newApplication M r′) (newApplication T r) refl (stands-same q);
       }
 
@@ -207,15 +212,15 @@ module _ (S T M : State) (B : Beside S T M) (k j : ℕ) (r : Record) (T′ : Sta
       let rest = shifted-past (length (rowsOf S)) (length (derivations S)) r n in
       let ls = shifted-literals (length (rowsOf S)) (length (derivations S)) r n in
       record {
-        next = withClause M j (input (nextClause M) (newLiterals M r′));
+        next = withDaysBeside (withClause M j (input (nextClause M) (newLiterals M r′))) (nextClause M) (r .days);
         steps = all-passed (tests M inputKind r′) (enter M j inputKind r′) (
           ap (λ (fs : List ℕ). leb (r .count) 7 && zeros fs) rest ∙ a .ranged,
           (
             ap₂ (λ (x : ℕ) (l : List RowLiteral). allBelow x (map (λ (y : RowLiteral). y .1) l)) (B .rowsMany) ls ∙ rows-raised (length (rowsOf T)) (length (rowsOf S)) (length (derivations S)) r (inputLiterals r) (rows-below (length (rowsOf T)) (inputLiterals r) (a .there)),
-            (ap (allApplications (rowOf M)) ls ∙ shapes-raised (rowOf T) (rowOf M) (length (rowsOf S)) (length (derivations S)) r (B .shapes) (inputLiterals r) ∙ a .applications, tt),
+            (a .days, (ap (allApplications (rowOf M)) ls ∙ shapes-raised (rowOf T) (rowOf M) (length (rowsOf S)) (length (derivations S)) r (B .shapes) (inputLiterals r) ∙ a .applications, tt)),
           ),
         );
-        beside = clause-beside (nextClause T) (nextClause M) (newLiterals T r) (newLiterals M r′) (stands-same q);
+        beside = clause-beside (nextClause T) (nextClause M) (newLiterals T r) (newLiterals M r′) (r .days) (stands-same q);
       }
 
   input-there : (n : ℕ) → isInput (clauseOf T n) ≡ true → isInput (clauseOf M (n + length (derivations S))) ≡ true
@@ -231,7 +236,7 @@ module _ (S T M : State) (B : Beside S T M) (k j : ℕ) (r : Record) (T′ : Sta
 
   window-goes : kindOfRecord r ≡ windowKind → Passed T windowKind r → enter T k windowKind r ≡ stands T′ → Goes windowKind
   window-goes e a q =
-      let n = of-kind r windowKind e in
+      let n = of-kind r windowKind e .0 in
       let rest = shifted-unused (length (rowsOf S)) (length (derivations S)) r n in
       let clause = shifted-clause (length (rowsOf S)) (length (derivations S)) r n seven in
       let first = shifted-day (length (rowsOf S)) (length (derivations S)) r 1 (omega arith) (omega arith) n seven in

@@ -78,7 +78,7 @@ module _ (S : State) (k : ℕ) (r : Record) (T : State) where
   entered resolveKind e n a q = absurd (true-not-false (ap (λ (x : ℕ). leb 5 x && leb x 7) (of-kind r resolveKind e)) n)
   entered severalKind e n a q = absurd (true-not-false (ap (λ (x : ℕ). leb 5 x && leb x 7) (of-kind r severalKind e)) n)
   entered factorKind e n a q = absurd (true-not-false (ap (λ (x : ℕ). leb 5 x && leb x 7) (of-kind r factorKind e)) n)
-  entered windowKind e n a q = noClause (ap derivations (sym (stands-same q))) (ap (λ (x : ℕ). eqb x 4) (of-kind r windowKind e))
+  entered windowKind e n a q = noClause (ap derivations (sym (stands-same q))) (ap (λ (x : ℕ). eqb x 4) (of-kind r windowKind e .0))
   entered otherKind e n a q = absurd a
 
   pub step-entered : step S k r ≡ stands T → isStep r ≡ false → Entered

@@ -9,7 +9,7 @@ use native.Mathlib.Omega.{arith}
 use lib.Dec.{eqb, leb, ltb, ltb→lt}
 use lib.ListN.{length, getD, length-append, length-map, List·getD-append}
 use lib.Seq.{getD-append-add}
-use Rattle.record.specs.Record.{pick, Record, records}
+use Rattle.record.specs.Record.{pick, File, Record, records}
 use Rattle.record.proofs.Records.{Shaped, records-shaped}
 use Rattle.unification.proofs.Tests.{to-T, true-not-false}
 use Rattle.demands.specs.Conditions.{RightLiterals, ofOne, ofSome}
@@ -54,7 +54,7 @@ module _ (S : State) (k : ℕ) (r : Record) (T : State) where
   of-adds (addsInput e l h q) = numbered-so 4 _ e q (omega arith) (omega arith) (omega arith)
   of-adds (addsResolvent R H q) = of-resolve _ _ (R .isResolve) q refl refl refl
   of-adds (addsFactor F H q) = numbered-so 6 _ (F .isFactor) q (omega arith) (omega arith) (omega arith)
-  of-adds (addsWindow e q) = numbered-so 8 _ e q (omega arith) (omega arith) (omega arith)
+  of-adds (addsWindow w q) = numbered-so 8 _ (w .0) q (omega arith) (omega arith) (omega arith)
 
   pub step-counted : length (r .fields) ≡ 7 → step S k r ≡ stands T → Counted S r T
   step-counted h q = of-adds (step-adds S k r T h q)
@@ -140,7 +140,7 @@ module _ (S : State) (k : ℕ) (r : Record) (T : State) (A : List ℕ) (L : List
   listed-by (addsInput e l h q) = none-added 4 e refl (ap arities q)
   listed-by (addsResolvent R H q) = resolvent-added _ (R .isResolve) (ap arities q)
   listed-by (addsFactor F H q) = none-added 6 (F .isFactor) refl (ap arities q)
-  listed-by (addsWindow e q) = none-added 8 e refl (ap arities q)
+  listed-by (addsWindow w q) = none-added 8 (w .0) refl (ap arities q)
 
 list-joined : (r : Record) (rs : List Record) → symbolList (r ∷ []) ++ symbolList rs ≡ symbolList (r ∷ rs)
 list-joined r rs = try (isSymbol r)
@@ -160,7 +160,7 @@ read-listed S k (r ∷ rs) T A L h q = try (step S k r) refl q (λ U M p. read-l
     try (refused p) e z ih = absurd (stands-not-refused (sym z))
 
 -- ── A file that stands ──
-module _ (file : List ℕ) (S : State) (st : Stands file S) where
+module _ (file : File) (S : State) (st : Stands file S) where
   pub stands-counted : CountedAll emptyState (records file) S
   unfolding ending
   stands-counted = read-counted emptyState 0 (records file) S (records-shaped file) (st .reads)

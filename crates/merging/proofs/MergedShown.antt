@@ -10,10 +10,10 @@ use native.Mathlib.Omega.{arith}
 use lib.Dec.{eqb, leb, ltb, ltb→lt}
 use lib.ListN.{length, drop, length-map, length-append, drop-of-length-le, take-append-drop}
 use borrow.Author.Tests.{le-leb, lt-leb, eq-eqb}
-use Rattle.record.specs.Bytes.{fileBytes}
-use Rattle.record.specs.Record.{pick, Record, records}
+use Rattle.record.specs.Record.{pick, File, oldFile, Record, records}
 use Rattle.record.proofs.Bytes.{file-length, file-records}
-use Rattle.record.proofs.Records.{Shaped, records-shaped}
+use Rattle.record.proofs.Records.{Shaped, HaveDays, records-shaped, records-days}
+use Rattle.record.specs.declared.Form.the-variants.{Old}
 use Rattle.unification.specs.Row.{Row, application, noSymbol, rowAt}
 use Rattle.unification.specs.Term.{Term, app, nil}
 use Rattle.unification.proofs.Lists.{Each, map-each}
@@ -31,7 +31,7 @@ use Rattle.demands.specs.Repeats.{writtenAfter, writtenRows, numberTerm, termBy
 use Rattle.verdict.specs.State.{State, Window, emptyState, entry, arities, rowsOf, derivations, arityOf, clauseOf, rowOf}
 use Rattle.verdict.specs.Step.{stands, read, step, allStand}
 use Rattle.verdict.specs.Tables.{Tables, lengthsOf}
-use Rattle.verdict.specs.Verdict.{Answer, refusal, check, standing, firstEmpty, fittingLength, ending, Stands}
+use Rattle.verdict.specs.Verdict.{Answer, refusal, check, standing, firstEmpty, fitting, ending, Stands}
 use Rattle.demands.proofs.Demanded.{long-enough, stands-check}
 use Rattle.demands.proofs.InForceShown.{in-force, of-in-force}
 use Rattle.demands.proofs.Inversions.{entry-some, entry-each, not-below}
@@ -74,9 +74,26 @@ shaped-shifted m c n s (r ∷ rs) h = try (isSymbol r && ltb s n) (shaped-shifte
     try true k = k
     try false k = (shifted-seven m c r (h .0), k)
 
-pub merged-shaped : (first second : List ℕ) → Shaped (merged (records first) (records second))
+pub merged-shaped : (first second : List ℕ) → Shaped (merged (records (oldFile first)) (records (oldFile second)))
 merged-shaped first second =
-    shaped-joined (records first) _ (records-shaped first) (shaped-shifted (howMany isRow (records first)) (howMany isClause (records first)) (howMany isSymbol (records first)) 0 (records second) (records-shaped second))
+    shaped-joined (records (oldFile first)) _ (records-shaped (oldFile first)) (shaped-shifted (howMany isRow (records (oldFile first))) (howMany isClause (records (oldFile first))) (howMany isSymbol (records (oldFile first))) 0 (records (oldFile second)) (records-shaped (oldFile second)))
+
+-- Records of the old form have no days.
+days-joined : (rs ss : List Record) → HaveDays Old rs → HaveDays Old ss → HaveDays Old (rs ++ ss)
+days-joined [] ss h k = k
+days-joined (r ∷ rs) ss h k = (h .0, days-joined rs ss (h .1) k)
+
+days-shifted : (m c n s : ℕ) (rs : List Record) → HaveDays Old rs → HaveDays Old (map (λ r. shifted m c r) (withoutSymbols n s rs))
+days-shifted m c n s [] h = tt
+days-shifted m c n s (r ∷ rs) h = try (isSymbol r && ltb s n) (days-shifted m c n (symbolsAfter s r) rs (h .1))
+  where
+    try : (b : Bool) → HaveDays Old (map (λ q. shifted m c q) (withoutSymbols n (symbolsAfter s r) rs)) → HaveDays Old (map (λ q. shifted m c q) (unless b r (withoutSymbols n (symbolsAfter s r) rs)))
+    try true k = k
+    try false k = (h .0, k)
+
+pub merged-days : (first second : List ℕ) → HaveDays Old (merged (records (oldFile first)) (records (oldFile second)))
+merged-days first second =
+    days-joined (records (oldFile first)) _ (records-days (oldFile first)) (days-shifted (howMany isRow (records (oldFile first))) (howMany isClause (records (oldFile first))) (howMany isSymbol (records (oldFile first))) 0 (records (oldFile second)) (records-days (oldFile second)))
 
 -- The symbols of records put together, shifted, and left out.
 list-joined : (rs ss : List Record) → symbolList (rs ++ ss) ≡ symbolList rs ++ symbolList ss
@@ -189,59 +206,59 @@ steps-moved m c n s i j (r ∷ rs) q = try (isSymbol r && ltb s n) (none-here is
     try true h ih = ih j (h .1)
     try false h ih = ap (λ (b : Bool). elim b [ true ↦ some j | false ↦ firstWhere isStep (suc j) (map (λ x. shifted m c x) (withoutSymbols n (symbolsAfter s r) rs)) ]) (h .0) ∙ ih (suc j) (h .1)
 
-module _ (first second : List ℕ) (S T : State) (st₁ : Stands first S) (st₂ : Stands second T)
-    (noStep₁ : firstWhere isStep 0 (records first) ≡ none) (noStep₂ : firstWhere isStep 0 (records second) ≡ none)
-    (agree : firstOther (symbolList (records first)) 0 (records second) ≡ none) (few : length (merged (records first) (records second)) ≤ 4096) where
+module _ (first second : List ℕ) (S T : State) (st₁ : Stands (oldFile first) S) (st₂ : Stands (oldFile second) T)
+    (noStep₁ : firstWhere isStep 0 (records (oldFile first)) ≡ none) (noStep₂ : firstWhere isStep 0 (records (oldFile second)) ≡ none)
+    (agree : firstOther (symbolList (records (oldFile first))) 0 (records (oldFile second)) ≡ none) (few : length (merged (records (oldFile first)) (records (oldFile second))) ≤ 4096) where
   abbrev moved : List Record
-  moved = map (λ r. shifted (length (rowsOf S)) (length (derivations S)) r) (withoutSymbols (length (symbolList (records first))) 0 (records second))
+  moved = map (λ r. shifted (length (rowsOf S)) (length (derivations S)) r) (withoutSymbols (length (symbolList (records (oldFile first)))) 0 (records (oldFile second)))
 
-  rows-many : length (rowsOf S) ≡ howMany isRow (records first)
-  rows-many = let a = stands-counted first S st₁ .rows in let b = length-map (S .rows) (λ (w : ℕ × Row). w .1) in omega arith
+  rows-many : length (rowsOf S) ≡ howMany isRow (records (oldFile first))
+  rows-many = let a = stands-counted (oldFile first) S st₁ .rows in let b = length-map (S .rows) (λ (w : ℕ × Row). w .1) in omega arith
 
-  clauses-many : length (derivations S) ≡ howMany isClause (records first)
-  clauses-many = let a = stands-counted first S st₁ .clauses in let b = length-map (S .clauses) (λ (c : ℕ × Derivation). c .1) in omega arith
+  clauses-many : length (derivations S) ≡ howMany isClause (records (oldFile first))
+  clauses-many = let a = stands-counted (oldFile first) S st₁ .clauses in let b = length-map (S .clauses) (λ (c : ℕ × Derivation). c .1) in omega arith
 
   clauses-same : length (derivations S) ≡ length (S .clauses)
   clauses-same = length-map (S .clauses) (λ (c : ℕ × Derivation). c .1)
 
-  merged-moved : merged (records first) (records second) ≡ records first ++ moved
+  merged-moved : merged (records (oldFile first)) (records (oldFile second)) ≡ records (oldFile first) ++ moved
   merged-moved =
       let a = sym rows-many in
       let b = sym clauses-many in
-      let c = sym (list-many (records first)) in
-      λ i. records first ++ map (λ r. shifted (a i) (b i) r) (withoutSymbols (c i) 0 (records second))
+      let c = sym (list-many (records (oldFile first))) in
+      λ i. records (oldFile first) ++ map (λ r. shifted (a i) (b i) r) (withoutSymbols (c i) 0 (records (oldFile second)))
 
   inputs-first : Each (λ (d : Derivation). isInput (some d) ≡ true) (derivations S)
   unfolding ending
-  inputs-first = read-inputs emptyState 0 0 (records first) S noStep₁ (st₁ .reads) tt
+  inputs-first = read-inputs emptyState 0 0 (records (oldFile first)) S noStep₁ (st₁ .reads) tt
 
-  behind : Behind S (symbolList (records first)) (stands-listed first S st₁) S (0 + length (records first)) moved T
+  behind : Behind S (symbolList (records (oldFile first))) (stands-listed (oldFile first) S st₁) S (0 + length (records (oldFile first))) moved T
   unfolding ending
-  behind = read-behind S (symbolList (records first)) (stands-listed first S st₁) emptyState S 0 (0 + length (records first)) 0 0 (records second) T (records-shaped second) (alone S inputs-first) noStep₂ agree (st₂ .reads)
+  behind = read-behind S (symbolList (records (oldFile first))) (stands-listed (oldFile first) S st₁) emptyState S 0 (0 + length (records (oldFile first))) 0 0 (records (oldFile second)) T (records-shaped (oldFile second)) (alone S inputs-first) noStep₂ agree (st₂ .reads)
 
   abbrev left : State
   left = behind .left
 
   -- ── It stands ──
-  records-merged : records (mergedFile first second) ≡ merged (records first) (records second)
+  records-merged : records (oldFile (mergedFile first second)) ≡ merged (records (oldFile first)) (records (oldFile second))
   unfolding mergedFile
-  records-merged = file-records (merged (records first) (records second)) (merged-shaped first second)
+  records-merged = file-records Old (merged (records (oldFile first)) (records (oldFile second))) (merged-shaped first second) (merged-days first second)
 
-  fits : fittingLength (length (mergedFile first second)) ≡ true
+  fits : fitting (oldFile (mergedFile first second)) ≡ true
   unfolding mergedFile
   fits =
-      let n = file-length (merged (records first) (records second)) in
+      let n = file-length Old (merged (records (oldFile first)) (records (oldFile second))) in
       ap₂ _&&_ (le-leb (length (mergedFile first second)) 65536 (omega (arith, n, few))) (eq-eqb (length (mergedFile first second) % 16) 0 (omega (arith, n)))
 
-  reads-on : read emptyState 0 (records first) ≡ allStand S → read emptyState 0 (records first ++ moved) ≡ allStand left
-  reads-on q = read-on emptyState 0 (records first) moved S q ∙ behind .reads
+  reads-on : read emptyState 0 (records (oldFile first)) ≡ allStand S → read emptyState 0 (records (oldFile first) ++ moved) ≡ allStand left
+  reads-on q = read-on emptyState 0 (records (oldFile first)) moved S q ∙ behind .reads
 
-  stands-merged : Stands (mergedFile first second) left
+  stands-merged : Stands (oldFile (mergedFile first second)) left
   unfolding ending
   stands-merged = record { fits = fits; reads = ap (read emptyState 0) (records-merged ∙ merged-moved) ∙ reads-on (st₁ .reads) }
 
-  every-day : (day : ℕ) (tables : Tables) → ¬ TableShort tables → (reason : Reason) (k : ℕ) → ¬ (check day (mergedFile first second) (lengthsOf tables) .verdict ≡ refusal reason k)
-  every-day day tables h reason k q = never-refused (firstEmpty (usesInForce left day) (derivations left)) (sym (ap (λ (a : Answer). a .verdict) (stands-check day (mergedFile first second) tables left stands-merged (long-enough (mergedFile first second) tables h))) ∙ q)
+  every-day : (day : ℕ) (tables : Tables) → ¬ TableShort tables → (reason : Reason) (k : ℕ) → ¬ (check day (oldFile (mergedFile first second)) (lengthsOf tables) .verdict ≡ refusal reason k)
+  every-day day tables h reason k q = never-refused (firstEmpty (usesInForce left day) (derivations left)) (sym (ap (λ (a : Answer). a .verdict) (stands-check day (oldFile (mergedFile first second)) tables left stands-merged (long-enough (oldFile (mergedFile first second)) tables h))) ∙ q)
 
   -- ── Its clauses ──
   inputs-there : (n : ℕ) → n < length (left .clauses) → (ls : List RowLiteral) × (clauseOf left n ≡ some (input n ls))
@@ -249,69 +266,69 @@ module _ (first second : List ℕ) (S T : State) (st₁ : Stands first S) (st₂
       let m = length-map (left .clauses) (λ (c : ℕ × Derivation). c .1) in
       let s = entry-some (derivations left) n (omega arith) in
       let i = entry-each (λ (d : Derivation). isInput (some d) ≡ true) (derivations left) (behind .beside .inputs) n (s .0) (s .1) in
-      let H = stands-keeps (λ (X : State). Sourced (derivations X)) (λ X k r Y h q p. step-sourced X k r Y h q p) (mergedFile first second) left stands-merged tt in
+      let H = stands-keeps (λ (X : State). Sourced (derivations X)) (λ X k r Y h q p. step-sourced X k r Y h q p) (oldFile (mergedFile first second)) left stands-merged tt in
       let f = input-form n (s .0) i (number-of (derivations left) H n (s .0) (s .1)) in
       (f .0, s .1 ∙ f .1)
 
   abbrev start : ReadSame emptyState []
   start = record { shared = shared-start; same = no-rows }
 
-  same-first : ReadSame S (writtenRows (records first))
+  same-first : ReadSame S (writtenRows (records (oldFile first)))
   unfolding ending
-  same-first = read-same emptyState 0 (records first) [] S start (st₁ .reads)
+  same-first = read-same emptyState 0 (records (oldFile first)) [] S start (st₁ .reads)
 
-  same-left : ReadSame left (writtenAfter (writtenRows (records first)) moved)
-  same-left = read-same S (0 + length (records first)) moved (writtenRows (records first)) left same-first (behind .reads)
+  same-left : ReadSame left (writtenAfter (writtenRows (records (oldFile first))) moved)
+  same-left = read-same S (0 + length (records (oldFile first))) moved (writtenRows (records (oldFile first))) left same-first (behind .reads)
 
   -- The first's clauses, in the merged file and alone.
   terms-kept : (q : ℕ) → q < length (rowsOf S) → termByNumbers (rowsOf left) q ≡ termByNumbers (rowsOf S) q
   terms-kept q l =
       let n = same-first .same .sameLength in
-      same-left .same .terms q ∙ written-later (writtenRows (records first)) moved q (omega arith) ∙ sym (same-first .same .terms q)
+      same-left .same .terms q ∙ written-later (writtenRows (records (oldFile first))) moved q (omega arith) ∙ sym (same-first .same .terms q)
 
   clauses-first : reverse (map (clauseBy (rowsOf left)) (derivations S)) ≡ clausesWritten S
   clauses-first = ap reverse (same-clauses (rowsOf S) (rowsOf left) (derivations S) terms-kept (same-first .shared .clausesShared))
 
   -- The second's.
-  clauses-second : clausesWritten T ≡ inputClauses (termByNumbers (writtenRows (records second))) (records second)
+  clauses-second : clausesWritten T ≡ inputClauses (termByNumbers (writtenRows (records (oldFile second)))) (records (oldFile second))
   unfolding ending
-  clauses-second = read-clauses emptyState 0 0 (records second) [] T start noStep₂ (st₂ .reads)
+  clauses-second = read-clauses emptyState 0 0 (records (oldFile second)) [] T start noStep₂ (st₂ .reads)
 
-  further : Further (length (rowsOf S)) (writtenAfter (writtenRows (records first)) moved) (writtenRows (records second))
+  further : Further (length (rowsOf S)) (writtenAfter (writtenRows (records (oldFile first))) moved) (writtenRows (records (oldFile second)))
   further =
-      all-further (length (rowsOf S)) (length (derivations S)) (length (symbolList (records first))) 0 (writtenRows (records first)) [] (records second) (records-shaped second)
-      (record { many = sym (same-first .same .sameLength) ∙ sym (zero-add (length (rowsOf S))); terms = λ q. ap (λ (n : ℕ). termByNumbers (writtenRows (records first)) (q + n)) (same-first .same .sameLength) ∙ term-past (writtenRows (records first)) q })
+      all-further (length (rowsOf S)) (length (derivations S)) (length (symbolList (records (oldFile first)))) 0 (writtenRows (records (oldFile first))) [] (records (oldFile second)) (records-shaped (oldFile second))
+      (record { many = sym (same-first .same .sameLength) ∙ sym (zero-add (length (rowsOf S))); terms = λ q. ap (λ (n : ℕ). termByNumbers (writtenRows (records (oldFile first))) (q + n)) (same-first .same .sameLength) ∙ term-past (writtenRows (records (oldFile first))) q })
 
   no-step-moved : firstWhere isStep 0 moved ≡ none
-  no-step-moved = steps-moved (length (rowsOf S)) (length (derivations S)) (length (symbolList (records first))) 0 0 0 (records second) noStep₂
+  no-step-moved = steps-moved (length (rowsOf S)) (length (derivations S)) (length (symbolList (records (oldFile first)))) 0 0 0 (records (oldFile second)) noStep₂
 
   clauses-joined : clausesWritten left ≡ clausesWritten S ++ clausesWritten T
   clauses-joined =
-      read-clauses S (0 + length (records first)) 0 moved (writtenRows (records first)) left same-first no-step-moved (behind .reads)
-      ∙ ap₂ _++_ clauses-first (clauses-shifted (length (rowsOf S)) (length (derivations S)) (termByNumbers (writtenAfter (writtenRows (records first)) moved)) (termByNumbers (writtenRows (records second))) (further .terms) (length (symbolList (records first))) 0 (records second) ∙ sym clauses-second)
+      read-clauses S (0 + length (records (oldFile first))) 0 moved (writtenRows (records (oldFile first))) left same-first no-step-moved (behind .reads)
+      ∙ ap₂ _++_ clauses-first (clauses-shifted (length (rowsOf S)) (length (derivations S)) (termByNumbers (writtenAfter (writtenRows (records (oldFile first))) moved)) (termByNumbers (writtenRows (records (oldFile second)))) (further .terms) (length (symbolList (records (oldFile first)))) 0 (records (oldFile second)) ∙ sym clauses-second)
 
   -- ── Its days and its symbols ──
   windows-left : left .windows ≡ map (raisedWindow (length (S .clauses))) (T .windows) ++ S .windows
   windows-left = behind .beside .windows ∙ ap (λ (n : ℕ). map (raisedWindow n) (T .windows) ++ S .windows) clauses-same
 
   days-of-first : (n : ℕ) → n < length (S .clauses) → daysIn left n ≡ daysIn S n
-  days-of-first = days-first S T left windows-left (stands-there first S st₁)
+  days-of-first = days-first S T left windows-left (stands-there (oldFile first) S st₁)
 
   days-of-second : (n : ℕ) → daysIn left (length (S .clauses) + n) ≡ daysIn T n
-  days-of-second = days-second S T left windows-left (stands-there first S st₁)
+  days-of-second = days-second S T left windows-left (stands-there (oldFile first) S st₁)
 
   -- In force there and here, by equal days.
-  same-force : (file : List ℕ) (U : State) → Stands file U → (day n m : ℕ) → daysIn left n ≡ daysIn U m → InForce (mergedFile first second) day n ↔ InForce file day m
+  same-force : (file : File) (U : State) → Stands file U → (day n m : ℕ) → daysIn left n ≡ daysIn U m → InForce (oldFile (mergedFile first second)) day n ↔ InForce file day m
   same-force file U st day n m e =
       let w = within-days day (windowOf (left .windows) n) (windowOf (U .windows) m) e in
-      (λ f. in-force file U st day m (sym w ∙ of-in-force (mergedFile first second) left stands-merged day n f), λ f. in-force (mergedFile first second) left stands-merged day n (w ∙ of-in-force file U st day m f))
+      (λ f. in-force file U st day m (sym w ∙ of-in-force (oldFile (mergedFile first second)) left stands-merged day n f), λ f. in-force (oldFile (mergedFile first second)) left stands-merged day n (w ∙ of-in-force file U st day m f))
 
-  symbols-longer : symbolList (records (mergedFile first second)) ≡ longer (symbolList (records first)) (symbolList (records second))
+  symbols-longer : symbolList (records (oldFile (mergedFile first second))) ≡ longer (symbolList (records (oldFile first))) (symbolList (records (oldFile second)))
   symbols-longer =
       ap symbolList (records-merged ∙ merged-moved)
-      ∙ list-joined (records first) moved
-      ∙ ap (λ (xs : List ℕ). symbolList (records first) ++ xs) (list-shifted (length (rowsOf S)) (length (derivations S)) (withoutSymbols (length (symbolList (records first))) 0 (records second)) ∙ list-kept (length (symbolList (records first))) 0 (records second) ∙ (let z : length (symbolList (records first)) - 0 ≡ length (symbolList (records first)) = omega arith in ap (λ (n : ℕ). drop n (symbolList (records second))) z))
-      ∙ joined-longer (symbolList (records first)) (symbolList (records second)) (none-alike (symbolList (records first)) 0 (records second) agree)
+      ∙ list-joined (records (oldFile first)) moved
+      ∙ ap (λ (xs : List ℕ). symbolList (records (oldFile first)) ++ xs) (list-shifted (length (rowsOf S)) (length (derivations S)) (withoutSymbols (length (symbolList (records (oldFile first)))) 0 (records (oldFile second))) ∙ list-kept (length (symbolList (records (oldFile first)))) 0 (records (oldFile second)) ∙ (let z : length (symbolList (records (oldFile first))) - 0 ≡ length (symbolList (records (oldFile first))) = omega arith in ap (λ (n : ℕ). drop n (symbolList (records (oldFile second)))) z))
+      ∙ joined-longer (symbolList (records (oldFile first))) (symbolList (records (oldFile second))) (none-alike (symbolList (records (oldFile first))) 0 (records (oldFile second)) agree)
 
   pub merged-shown : (M : State) × Merged first second S T M
   merged-shown = (
@@ -323,8 +340,8 @@ module _ (first second : List ℕ) (S T : State) (st₁ : Stands first S) (st₂
       clauses = clauses-joined;
       daysOfFirst = days-of-first;
       daysOfSecond = days-of-second;
-      forceOfFirst = λ day n l. same-force first S st₁ day n n (days-of-first n l);
-      forceOfSecond = λ day n. same-force second T st₂ day (length (S .clauses) + n) n (days-of-second n);
+      forceOfFirst = λ day n l. same-force (oldFile first) S st₁ day n n (days-of-first n l);
+      forceOfSecond = λ day n. same-force (oldFile second) T st₂ day (length (S .clauses) + n) n (days-of-second n);
       symbols = symbols-longer;
     },
   )

@@ -3,7 +3,7 @@ use mathlib.Core.Path.{_≡_, refl, sym, subst}
 use mathlib.Core.List.{List, [], _∷_}
 use Prim.Native.Nat.{ℕ, suc}
 use lib.ListN.{length}
-use Rattle.record.specs.Record.{Record, records}
+use Rattle.record.specs.Record.{File, Record, records}
 use Rattle.record.proofs.Records.{Shaped, records-shaped}
 use Rattle.verdict.specs.State.{State, emptyState}
 use Rattle.verdict.specs.Step.{stands, refused, Result, step, read, allStand, refusedAt}
@@ -19,6 +19,6 @@ module _ (P : State → Type 0) (keeps : (S : State) (k : ℕ) (r : Record) (T :
       try (stands U) e z ih = ih U z (keeps S k r U (h .0) e p)
       try (refused x) e z ih = absurd (stands-not-refused (sym z))
 
-  pub stands-keeps : (file : List ℕ) (S : State) → Stands file S → P emptyState → P S
+  pub stands-keeps : (file : File) (S : State) → Stands file S → P emptyState → P S
   unfolding ending
   stands-keeps file S st p = read-keeps emptyState 0 (records file) S (records-shaped file) (st .reads) p

@@ -10,7 +10,7 @@ use native.Mathlib.Omega.{arith}
 use lib.Dec.{eqb, leb, ltb, eqb-refl, ltb→lt}
 use lib.ListN.{length, getD, take, drop}
 use borrow.Author.Tests.{le-leb}
-use Rattle.record.specs.Record.{pick, Record, records}
+use Rattle.record.specs.Record.{pick, oldFile, Record, records}
 use Rattle.unification.proofs.Tests.{to-T, from-T, both-true, true-not-false, some-not-none, some-injective}
 use Rattle.demands.specs.Conditions.{OneOf}
 use Rattle.demands.specs.Demands.{RecordAt}
@@ -92,10 +92,10 @@ kind-step r (inr (inr (inl e))) = ap (λ (n : ℕ). leb 5 n && leb n 7) e
 kind-step r (inr (inr (inr e))) = absurd e
 
 module _ (file : List ℕ) where
-  pub step-found : (k : ℕ) → firstWhere isStep 0 (records file) ≡ some k → FirstStep file k
-  step-found k q = from (where-found isStep 0 k (records file) q)
+  pub step-found : (k : ℕ) → firstWhere isStep 0 (records (oldFile file)) ≡ some k → FirstStep file k
+  step-found k q = from (where-found isStep 0 k (records (oldFile file)) q)
     where
-      from : (p : ℕ) × (k ≡ 0 + p) × FoundAt isStep (records file) p → FirstStep file k
+      from : (p : ℕ) × (k ≡ 0 + p) × FoundAt isStep (records (oldFile file)) p → FirstStep file k
       from (p, e, F) = subst (FirstStep file) (let z : p ≡ k = omega arith in z) (record {
         stepRecord = F .found;
         here = record { after = F .rest; here = F .here };
@@ -103,16 +103,16 @@ module _ (file : List ℕ) where
         noneBefore = λ j r l R o. true-not-false (kind-step r o) (F .noneBefore j r (R .after) l (R .here));
       })
 
-  pub no-step : firstWhere isStep 0 (records file) ≡ none → (k : ℕ) → ¬ FirstStep file k
-  no-step q k F = true-not-false (kind-step (F .stepRecord) (F .isKind)) (where-none isStep 0 (records file) q k (F .stepRecord) (F .here .after) (F .here .here))
+  pub no-step : firstWhere isStep 0 (records (oldFile file)) ≡ none → (k : ℕ) → ¬ FirstStep file k
+  no-step q k F = true-not-false (kind-step (F .stepRecord) (F .isKind)) (where-none isStep 0 (records (oldFile file)) q k (F .stepRecord) (F .here .after) (F .here .here))
 
   one-step : (k j : ℕ) → FirstStep file k → FirstStep file j → k ≡ j
   one-step k j F G = neither-before k j (λ l. G .noneBefore k (F .stepRecord) l (F .here) (F .isKind)) (λ l. F .noneBefore j (G .stepRecord) l (G .here) (G .isKind))
 
-  pub step-searched : (k : ℕ) → FirstStep file k → firstWhere isStep 0 (records file) ≡ some k
-  step-searched k F = try (firstWhere isStep 0 (records file)) refl
+  pub step-searched : (k : ℕ) → FirstStep file k → firstWhere isStep 0 (records (oldFile file)) ≡ some k
+  step-searched k F = try (firstWhere isStep 0 (records (oldFile file))) refl
     where
-      try : (o : Option ℕ) → firstWhere isStep 0 (records file) ≡ o → o ≡ some k
+      try : (o : Option ℕ) → firstWhere isStep 0 (records (oldFile file)) ≡ o → o ≡ some k
       try none q = absurd (no-step q k F)
       try (some j) q = ap some (one-step j k (step-found j q) F)
 
@@ -297,41 +297,41 @@ alike-none (a ∷ A) k (r ∷ rs) h = try (isSymbol r) h (alike-none (a ∷ A) (
     try false h ih jh = ih h
 
 module _ (first second : List ℕ) where
-  of-differs : (p : ℕ) → Differs (symbolList (records first)) (records second) p → OtherSymbol first second p
+  of-differs : (p : ℕ) → Differs (symbolList (records (oldFile first))) (records (oldFile second)) p → OtherSymbol first second p
   of-differs p D = record { symbol = D .symbol; here = record { after = D .rest; here = D .here }; isKind = D .isKind; inFirst = D .inFirst; differs = D .differs }
 
-  to-differs : (p : ℕ) → OtherSymbol first second p → Differs (symbolList (records first)) (records second) p
+  to-differs : (p : ℕ) → OtherSymbol first second p → Differs (symbolList (records (oldFile first))) (records (oldFile second)) p
   to-differs p O = record { symbol = O .symbol; rest = O .here .after; here = O .here .here; isKind = O .isKind; inFirst = O .inFirst; differs = O .differs }
 
-  pub other-there : (k : ℕ) → firstOther (symbolList (records first)) 0 (records second) ≡ some k → FirstOtherSymbol first second k
-  other-there k q = from (other-found (symbolList (records first)) 0 k (records second) q)
+  pub other-there : (k : ℕ) → firstOther (symbolList (records (oldFile first))) 0 (records (oldFile second)) ≡ some k → FirstOtherSymbol first second k
+  other-there k q = from (other-found (symbolList (records (oldFile first))) 0 k (records (oldFile second)) q)
     where
-      from : (p : ℕ) × (k ≡ 0 + p) × FirstDiffers (symbolList (records first)) (records second) p → FirstOtherSymbol first second k
+      from : (p : ℕ) × (k ≡ 0 + p) × FirstDiffers (symbolList (records (oldFile first))) (records (oldFile second)) p → FirstOtherSymbol first second k
       from (p, e, F) = subst (FirstOtherSymbol first second) (let z : p ≡ k = omega arith in z) (record { differing = of-differs p (F .here); noneBefore = λ j l O. F .noneBefore j l (to-differs j O) })
 
-  pub no-other : firstOther (symbolList (records first)) 0 (records second) ≡ none → (k : ℕ) → ¬ OtherSymbol first second k
-  no-other q k O = other-none (symbolList (records first)) 0 (records second) q k (to-differs k O)
+  pub no-other : firstOther (symbolList (records (oldFile first))) 0 (records (oldFile second)) ≡ none → (k : ℕ) → ¬ OtherSymbol first second k
+  no-other q k O = other-none (symbolList (records (oldFile first))) 0 (records (oldFile second)) q k (to-differs k O)
 
   one-other : (k j : ℕ) → FirstOtherSymbol first second k → FirstOtherSymbol first second j → k ≡ j
   one-other k j F G = neither-before k j (λ l. G .noneBefore k l (F .differing)) (λ l. F .noneBefore j l (G .differing))
 
-  pub other-searched : (k : ℕ) → FirstOtherSymbol first second k → firstOther (symbolList (records first)) 0 (records second) ≡ some k
-  other-searched k F = try (firstOther (symbolList (records first)) 0 (records second)) refl
+  pub other-searched : (k : ℕ) → FirstOtherSymbol first second k → firstOther (symbolList (records (oldFile first))) 0 (records (oldFile second)) ≡ some k
+  other-searched k F = try (firstOther (symbolList (records (oldFile first))) 0 (records (oldFile second))) refl
     where
-      try : (o : Option ℕ) → firstOther (symbolList (records first)) 0 (records second) ≡ o → o ≡ some k
+      try : (o : Option ℕ) → firstOther (symbolList (records (oldFile first))) 0 (records (oldFile second)) ≡ o → o ≡ some k
       try none q = absurd (no-other q k (F .differing))
       try (some j) q = ap some (one-other j k (other-there j q) F)
 
-  pub neither-begins : (k : ℕ) → OtherSymbol first second k → (Begins (symbolList (records first)) (symbolList (records second)) ⊎ Begins (symbolList (records second)) (symbolList (records first))) → ⊥
-  neither-begins k O h = no-other (alike-none (symbolList (records first)) 0 (records second) (begins-alike (symbolList (records first)) (symbolList (records second)) h)) k O
+  pub neither-begins : (k : ℕ) → OtherSymbol first second k → (Begins (symbolList (records (oldFile first))) (symbolList (records (oldFile second))) ⊎ Begins (symbolList (records (oldFile second))) (symbolList (records (oldFile first)))) → ⊥
+  neither-begins k O h = no-other (alike-none (symbolList (records (oldFile first))) 0 (records (oldFile second)) (begins-alike (symbolList (records (oldFile first))) (symbolList (records (oldFile second))) h)) k O
 
-  pub some-other : ¬ Begins (symbolList (records first)) (symbolList (records second)) → ¬ Begins (symbolList (records second)) (symbolList (records first)) → (k : ℕ) × OtherSymbol first second k
-  some-other a b = try (firstOther (symbolList (records first)) 0 (records second)) refl
+  pub some-other : ¬ Begins (symbolList (records (oldFile first))) (symbolList (records (oldFile second))) → ¬ Begins (symbolList (records (oldFile second))) (symbolList (records (oldFile first))) → (k : ℕ) × OtherSymbol first second k
+  some-other a b = try (firstOther (symbolList (records (oldFile first))) 0 (records (oldFile second))) refl
     where
-      either : Begins (symbolList (records first)) (symbolList (records second)) ⊎ Begins (symbolList (records second)) (symbolList (records first)) → (k : ℕ) × OtherSymbol first second k
+      either : Begins (symbolList (records (oldFile first))) (symbolList (records (oldFile second))) ⊎ Begins (symbolList (records (oldFile second))) (symbolList (records (oldFile first))) → (k : ℕ) × OtherSymbol first second k
       either (inl h) = absurd (a h)
       either (inr h) = absurd (b h)
 
-      try : (o : Option ℕ) → firstOther (symbolList (records first)) 0 (records second) ≡ o → (k : ℕ) × OtherSymbol first second k
-      try none q = either (alike-begin (symbolList (records first)) (symbolList (records second)) (none-alike (symbolList (records first)) 0 (records second) q))
+      try : (o : Option ℕ) → firstOther (symbolList (records (oldFile first))) 0 (records (oldFile second)) ≡ o → (k : ℕ) × OtherSymbol first second k
+      try none q = either (alike-begin (symbolList (records (oldFile first))) (symbolList (records (oldFile second))) (none-alike (symbolList (records (oldFile first))) 0 (records (oldFile second)) q))
       try (some k) q = (k, other-there k q .differing)

@@ -9,7 +9,8 @@ use lib.Dec.{eqb, leb, ltb, ltb→lt}
 use lib.ListN.{length, getD, take, drop, length-map, length-take, length-drop}
 use lib.Seq.{getD-take, getD-drop}
 use Rattle.record.specs.Bytes.{Fits, AllFit, Bytes}
-use Rattle.record.specs.Record.{pick, Record, records, otherKind, Kind, symbolKind, variableKind, applicationKind, inputKind, resolveKind, factorKind, severalKind, windowKind, fieldA}
+use Rattle.record.specs.Record.{pick, oldFile, Record, records, otherKind, Kind, symbolKind, variableKind, applicationKind, inputKind, resolveKind, factorKind, severalKind, windowKind, fieldA}
+use Rattle.record.specs.declared.Form.the-variants.{Old}
 use Rattle.record.proofs.Bytes.{fits-shaped, records-fit}
 use Rattle.record.proofs.Records.{Shaped, records-shaped}
 use Rattle.unification.specs.Row.{Row}
@@ -22,7 +23,7 @@ use Rattle.verdict.specs.State.{State, emptyState, rowsOf, derivations, arityOf
 use Rattle.verdict.specs.Step.{stands, refused, Result, step, read, allStand, refusedAt}
 use Rattle.verdict.specs.Verdict.{ending, Stands}
 use Rattle.demands.proofs.Inversions.{step-stands, tests-passed, Passed, all-below, rows-below, entry-below}
-use Rattle.demands.proofs.RangeTests.{of-kind, equal, at-most}
+use Rattle.demands.proofs.RangeTests.{of-kind, equal, at-most, fields-of}
 use Rattle.verdict.proofs.Endings.{stands-not-refused}
 use Rattle.merging.specs.Merging.{isRow, isClause, howMany, raisedBy, shifted}
 use Rattle.merging.proofs.Counting.{read-counted}
@@ -40,7 +41,7 @@ literal-at n (x ∷ xs) h zero l = h .0
 literal-at n (x ∷ xs) h (suc j) l = literal-at n xs (h .1) j (omega arith)
 
 -- ── One record ──
-module _ (rows clauses : ℕ) (fewRows : rows ≤ 4096) (fewClauses : clauses ≤ 4096) (S : State) (k : ℕ) (r : Record) (T : State) (S-rows : length (rowsOf S) ≤ 4096) (S-clauses : length (derivations S) ≤ 4096) (F : Fits r) where
+module _ (rows clauses : ℕ) (fewRows : rows ≤ 4096) (fewClauses : clauses ≤ 4096) (S : State) (k : ℕ) (r : Record) (T : State) (S-rows : length (rowsOf S) ≤ 4096) (S-clauses : length (derivations S) ≤ 4096) (F : Fits Old r) where
   abbrev Small : ℕ → Type 0
   Small i = getD (r .fields) i 0 + raisedBy rows clauses r i < 65536
 
@@ -52,7 +53,7 @@ module _ (rows clauses : ℕ) (fewRows : rows ≤ 4096) (fewClauses : clauses �
   argument-small e a i = try (leb 1 i && leb i (r .count)) refl
     where
       count : r .count ≤ 6
-      count = at-most (r .count) 6 (both-true (leb (r .count) 6) (zeros (drop (1 + r .count) (r .fields))) (a .ranged) .0)
+      count = at-most (r .count) 6 (both-true (leb (r .count) 6) (zeros (drop (1 + r .count) (r .fields))) (fields-of r applicationKind (a .ranged)) .0)
 
       argument : 1 ≤ i → i ≤ r .count → getD (r .fields) i 0 < length (rowsOf S)
       argument l m =
@@ -76,7 +77,7 @@ module _ (rows clauses : ℕ) (fewRows : rows ≤ 4096) (fewClauses : clauses �
   literal-small e a i = try (ltb i (r .count)) refl
     where
       count : r .count ≤ 7
-      count = at-most (r .count) 7 (both-true (leb (r .count) 7) (zeros (drop (r .count) (r .fields))) (a .ranged) .0)
+      count = at-most (r .count) 7 (both-true (leb (r .count) 7) (zeros (drop (r .count) (r .fields))) (fields-of r inputKind (a .ranged)) .0)
 
       literal : i < r .count → getD (r .fields) i 0 / 2 < length (rowsOf S)
       literal l =
@@ -114,26 +115,27 @@ module _ (rows clauses : ℕ) (fewRows : rows ≤ 4096) (fewClauses : clauses �
   small resolveKind e a i = as-it-was 5 i (of-kind r resolveKind e) refl
   small severalKind e a i = as-it-was 7 i (of-kind r severalKind e) refl
   small factorKind e a i = as-it-was 6 i (of-kind r factorKind e) refl
-  small windowKind e a i = window-small (of-kind r windowKind e) a i
+  small windowKind e a i = window-small (of-kind r windowKind e .0) a i
   small otherKind e a i = absurd a
 
-  record-fits : step S k r ≡ stands T → Fits (shifted rows clauses r)
+  record-fits : step S k r ≡ stands T → Fits Old (shifted rows clauses r)
   record-fits q = record {
     kindByte = F .kindByte;
     countByte = F .countByte;
     sevenFields = shifted-seven rows clauses r (F .sevenFields);
+    daysFit = F .daysFit;
     fieldsBits = λ i. let a = raised-most (raisedBy rows clauses r) 0 i (r .fields) in let z : 0 + i ≡ i = omega arith in let b : raisedBy rows clauses r (0 + i) ≡ raisedBy rows clauses r i = ap (raisedBy rows clauses r) z in let c = small (kindOfRecord r) refl (tests-passed S (kindOfRecord r) r (step-stands S k r T q .0)) i in omega arith;
   }
 
 -- ── All records ──
 module _ (rows clauses : ℕ) (fewRows : rows ≤ 4096) (fewClauses : clauses ≤ 4096) where
-  read-fits : (S : State) (k : ℕ) (rs : List Record) (T : State) → AllFit rs → read S k rs ≡ allStand T → length (T .rows) ≤ 4096 → length (T .clauses) ≤ 4096 → AllFit (map (λ r. shifted rows clauses r) rs)
+  read-fits : (S : State) (k : ℕ) (rs : List Record) (T : State) → AllFit Old rs → read S k rs ≡ allStand T → length (T .rows) ≤ 4096 → length (T .clauses) ≤ 4096 → AllFit Old (map (λ r. shifted rows clauses r) rs)
   read-fits S k [] T F q a b = tt
   read-fits S k (r ∷ rs) T F q a b = try (step S k r) refl q (λ U p. read-fits U (suc k) rs T (F .1) p a b)
     where
-      here : (U : State) → step S k r ≡ stands U → Fits (shifted rows clauses r)
+      here : (U : State) → step S k r ≡ stands U → Fits Old (shifted rows clauses r)
       here U e =
-          let c = read-counted S k (r ∷ rs) T (fits-shaped (r ∷ rs) F) q in
+          let c = read-counted S k (r ∷ rs) T (fits-shaped Old (r ∷ rs) F) q in
           let x = c .rows in
           let y = c .clauses in
           let m = length-map (S .rows) (λ (w : ℕ × Row). w .1) in
@@ -141,10 +143,10 @@ module _ (rows clauses : ℕ) (fewRows : rows ≤ 4096) (fewClauses : clauses �
           record-fits rows clauses fewRows fewClauses S k r U (omega arith) (omega arith) (F .0) e
 
       try : (o : Result) → step S k r ≡ o → elim o [ stands U ↦ read U (suc k) rs | refused p ↦ refusedAt S p k ] ≡ allStand T
-          → ((U : State) → read U (suc k) rs ≡ allStand T → AllFit (map (λ x. shifted rows clauses x) rs)) → Fits (shifted rows clauses r) × AllFit (map (λ x. shifted rows clauses x) rs)
+          → ((U : State) → read U (suc k) rs ≡ allStand T → AllFit Old (map (λ x. shifted rows clauses x) rs)) → Fits Old (shifted rows clauses r) × AllFit Old (map (λ x. shifted rows clauses x) rs)
       try (stands U) e p ih = (here U e, ih U p)
       try (refused p) e z ih = absurd (stands-not-refused (sym z))
 
-  pub shifted-fit : (file : List ℕ) (S : State) → Bytes file → Stands file S → length (S .rows) ≤ 4096 → length (S .clauses) ≤ 4096 → AllFit (map (λ r. shifted rows clauses r) (records file))
+  pub shifted-fit : (file : List ℕ) (S : State) → Bytes file → Stands (oldFile file) S → length (S .rows) ≤ 4096 → length (S .clauses) ≤ 4096 → AllFit Old (map (λ r. shifted rows clauses r) (records (oldFile file)))
   unfolding ending
-  shifted-fit file S h st a b = read-fits emptyState 0 (records file) S (records-fit file h) (st .reads) a b
+  shifted-fit file S h st a b = read-fits emptyState 0 (records (oldFile file)) S (records-fit (oldFile file) h) (st .reads) a b

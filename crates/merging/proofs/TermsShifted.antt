@@ -6,7 +6,7 @@ use Prim.Native.Nat.{ℕ, zero, suc, _+_}
 use native.Mathlib.Nat.{suc-add}
 use lib.Dec.{eqb, ltb}
 use lib.ListN.{length, getD}
-use Rattle.record.specs.Record.{pick, Record, otherKind, Kind, symbolKind, variableKind, applicationKind, inputKind, resolveKind, factorKind, severalKind, windowKind, kindNumbered, fieldA}
+use Rattle.record.specs.Record.{pick, Record, otherKind, Kind, symbolKind, variableKind, applicationKind, inputKind, resolveKind, factorKind, severalKind, windowKind, fieldA}
 use Rattle.record.proofs.Records.{Shaped}
 use Rattle.unification.specs.Row.{variable, Row, application, argumentTerms}
 use Rattle.unification.specs.Term.{Term, app, cons}
@@ -14,7 +14,7 @@ use Rattle.unification.proofs.Tests.{both-true}
 use Rattle.derivation.specs.Derivation.{RowLiteral, inputLiterals}
 use Rattle.verdict.specs.Refusal.{kindOfRecord, argumentRows}
 use Rattle.demands.specs.Repeats.{withWritten, writtenAfter, termByNumbers, numberTerm}
-use Rattle.demands.proofs.RangeTests.{of-kind, equal}
+use Rattle.demands.proofs.RangeTests.{of-kind, equal, kind-at}
 use Rattle.merging.specs.Merging.{isSymbol, shifted, symbolsAfter, unless, withoutSymbols}
 use Rattle.merging.proofs.Beside.{eqb-raised}
 use Rattle.merging.proofs.ClausesRead.{literalsBy, inputClauses}
@@ -59,7 +59,7 @@ module _ (m c : ℕ) where
 
   -- A symbol record declares no row.
   no-row : (vs : List Row) (r : Record) → isSymbol r ≡ true → withWritten vs (kindOfRecord r) r ≡ vs
-  no-row vs r z = ap (λ (n : ℕ). withWritten vs (kindNumbered n) r) (equal (r .kind) 1 z)
+  no-row vs r z = ap (λ (kind : Kind). withWritten vs kind r) (kind-at r 1 (equal (r .kind) 1 z) refl)
 
   pub all-further : (n s : ℕ) (us vs : List Row) (rs : List Record) → Shaped rs → Further m us vs → Further m (writtenAfter us (map (λ r. shifted m c r) (withoutSymbols n s rs))) (writtenAfter vs rs)
   all-further n s us vs [] h F = F

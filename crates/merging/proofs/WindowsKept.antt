@@ -7,19 +7,20 @@ use Prim.Native.Nat.{ℕ, zero, suc, _+_, _≤_, _<_}
 use native.Mathlib.Omega.{arith}
 use lib.Dec.{eqb, leb}
 use lib.ListN.{length, length-map}
-use Rattle.record.specs.Record.{pick, Record, Kind, windowKind, kindNumbered, fieldA}
+use Rattle.record.specs.Record.{pick, File, Record, Kind, windowKind, fieldA}
 use Rattle.unification.proofs.Lists.{Each, each-more}
+use Rattle.demands.specs.Conditions.{IsWindow}
 use Rattle.demands.specs.Demands.{Adds, addsSymbol, addsVariable, addsApplication, addsInput, addsResolvent, addsFactor, addsWindow}
 use Rattle.unification.proofs.Tests.{true-not-false}
 use Rattle.derivation.specs.Derivation.{Derivation}
 use Rattle.verdict.specs.Force.{windowOf, within}
 use Rattle.verdict.specs.Refusal.{kindOfRecord, isInput}
-use Rattle.verdict.specs.State.{State, Window, derivations, clauseOf}
+use Rattle.verdict.specs.State.{State, Window, windowsWith, derivations, nextClause, clauseOf}
 use Rattle.verdict.specs.Step.{stands, step}
 use Rattle.verdict.specs.Verdict.{Stands}
 use Rattle.demands.proofs.Added.{step-adds}
 use Rattle.demands.proofs.Inversions.{entry-below, step-stands, tests-passed, Passed}
-use Rattle.demands.proofs.RangeTests.{not-true, equal}
+use Rattle.demands.proofs.RangeTests.{not-true, equal, window-kind}
 use Rattle.merging.specs.Promised.{windowDays, daysIn}
 use Rattle.merging.proofs.Beside.{eqb-raised, raisedWindow}
 use Rattle.merging.proofs.ReadKeeps.{stands-keeps}
@@ -33,11 +34,11 @@ there-more n m ws l h = each-more (λ (w : Window). w .clause < n) (λ (w : Wind
 
 module _ (S : State) (k : ℕ) (r : Record) (T : State) (H : WindowsThere S) (seven : length (r .fields) ≡ 7) (q : step S k r ≡ stands T) where
   -- The clause of a window that stands is there.
-  clause-there : r .kind ≡ 8 → fieldA r < length (S .clauses)
+  clause-there : IsWindow r → fieldA r < length (S .clauses)
   clause-there e = found (clauseOf S (fieldA r)) refl (passed .there)
     where
       passed : Passed S windowKind r
-      passed = subst (λ (x : Kind). Passed S x r) (ap kindNumbered e) (tests-passed S (kindOfRecord r) r (step-stands S k r T q .0))
+      passed = subst (λ (x : Kind). Passed S x r) (window-kind r e) (tests-passed S (kindOfRecord r) r (step-stands S k r T q .0))
 
       found : (o : Option Derivation) → clauseOf S (fieldA r) ≡ o → isInput o ≡ true → fieldA r < length (S .clauses)
       found none p z = absurd (true-not-false z refl)
@@ -46,11 +47,16 @@ module _ (S : State) (k : ℕ) (r : Record) (T : State) (H : WindowsThere S) (se
   same : (U : State) → T ≡ U → U .windows ≡ S .windows → length (S .clauses) ≤ length (U .clauses) → WindowsThere T
   same U e w l = subst WindowsThere (sym e) (subst (λ (ws : List Window). Each (λ (x : Window). x .clause < length (U .clauses)) ws) (sym w) (there-more (length (S .clauses)) (length (U .clauses)) (S .windows) l H))
 
+  -- The days beside an input clause are for that clause.
+  dated : (days : Option (ℕ × ℕ)) → Each (λ (w : Window). w .clause < suc (length (S .clauses))) (windowsWith (nextClause S) days (S .windows))
+  dated none = there-more (length (S .clauses)) (suc (length (S .clauses))) (S .windows) (omega arith) H
+  dated (some d) = (let m = length-map (S .clauses) (λ (c : ℕ × Derivation). c .1) in omega arith, there-more (length (S .clauses)) (suc (length (S .clauses))) (S .windows) (omega arith) H)
+
   by : Adds S k r T → WindowsThere T
   by (addsSymbol e p) = same _ p refl (omega arith)
   by (addsVariable e j p) = same _ p refl (omega arith)
   by (addsApplication e l h j p) = same _ p refl (omega arith)
-  by (addsInput e l h p) = same _ p refl (omega arith)
+  by (addsInput e l h p) = subst WindowsThere (sym p) (dated (r .days))
   by (addsResolvent R G p) = same _ p refl (omega arith)
   by (addsFactor F G p) = same _ p refl (omega arith)
   by (addsWindow e p) = subst WindowsThere (sym p) (clause-there e, H)
@@ -58,7 +64,7 @@ module _ (S : State) (k : ℕ) (r : Record) (T : State) (H : WindowsThere S) (se
   step-there : WindowsThere T
   step-there = by (step-adds S k r T seven q)
 
-pub stands-there : (file : List ℕ) (S : State) → Stands file S → Each (λ (w : Window). w .clause < length (S .clauses)) (S .windows)
+pub stands-there : (file : File) (S : State) → Stands file S → Each (λ (w : Window). w .clause < length (S .clauses)) (S .windows)
 stands-there file S st = stands-keeps WindowsThere (λ U k r T h q H. step-there U k r T H h q) file S st tt
 
 -- ── The window of a clause in two lists put together ──

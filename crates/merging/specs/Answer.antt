@@ -5,7 +5,7 @@ use mathlib.Core.List.{List, [], _∷_, _++_}
 use Prim.Native.Nat.{ℕ, suc, _*_}
 use lib.Dec.{eqb, ltb}
 use lib.ListN.{length, drop}
-use Rattle.record.specs.Record.{Record, records}
+use Rattle.record.specs.Record.{oldFile, Record, records}
 use Rattle.verdict.specs.Refusal.{reasonNumber}
 use Rattle.verdict.specs.Tables.{Tables, lengthsOf, tablesAfter}
 use Rattle.verdict.specs.Verdict.{Verdict, accepted, open′, refusal, check}
@@ -61,7 +61,7 @@ unfoldable pub mergeAnswer : List ℕ → List ℕ → Tables → ℕ → Merge
 mergeAnswer first second tables room =
     elim (ltb room 65536) [
       | true ↦ refusedWith 2 0 0
-      | false ↦ unlessRefused 1 (check 0 first (lengthsOf tables) .verdict) (unlessRefused 2 (check 0 second (lengthsOf (tablesAfter first tables)) .verdict) (afterChecks (records first) (records second)))
+      | false ↦ unlessRefused 1 (check 0 (oldFile first) (lengthsOf tables) .verdict) (unlessRefused 2 (check 0 (oldFile second) (lengthsOf (tablesAfter (oldFile first) tables)) .verdict) (afterChecks (records (oldFile first)) (records (oldFile second))))
     ]
 
 -- The tables: untouched with a short output, else as the last check left them.
@@ -72,7 +72,7 @@ tablesUnlessRefused open′ here next = next
 
 unfoldable pub tablesLeft : List ℕ → List ℕ → Tables → ℕ → Tables
 tablesLeft first second tables room =
-    elim (ltb room 65536) [ true ↦ tables | false ↦ tablesUnlessRefused (check 0 first (lengthsOf tables) .verdict) (tablesAfter first tables) (tablesAfter second (tablesAfter first tables)) ]
+    elim (ltb room 65536) [ true ↦ tables | false ↦ tablesUnlessRefused (check 0 (oldFile first) (lengthsOf tables) .verdict) (tablesAfter (oldFile first) tables) (tablesAfter (oldFile second) (tablesAfter (oldFile first) tables)) ]
 
 -- The output: the file at its start and the rest as it was, or all as it was.
 abbrev pub outputLeft : Merge → List ℕ → List ℕ → List ℕ

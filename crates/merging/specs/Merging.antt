@@ -1,10 +1,10 @@
--- Document 02, Q-8: two files merged into one, on their records.
+-- Document 02, Q-8: two files merged into one, on their records. All three are of the old form (Q-11, and as Q-12 says it).
 use mathlib.Core.Bool.{Bool, true, false, _&&_}
 use mathlib.Core.List.{List, [], _∷_, _++_, map}
 use Prim.Native.Nat.{ℕ, suc, _+_, _*_}
 use lib.Dec.{eqb, leb, ltb}
 use Rattle.record.specs.Bytes.{fileBytes}
-use Rattle.record.specs.Record.{pick, Record, records}
+use Rattle.record.specs.Record.{pick, oldFile, Record, records}
 
 -- Records by what they declare: a symbol; a row, which is a variable or an application; a clause, which is an input clause or a step's.
 abbrev pub isSymbol : Record → Bool
@@ -38,7 +38,7 @@ raisedFrom by i [] = []
 raisedFrom by i (n ∷ ns) = (n + by i) ∷ raisedFrom by (suc i) ns
 
 abbrev pub shifted : ℕ → ℕ → Record → Record
-shifted rows clauses r = record { kind = r .kind; count = r .count; fields = raisedFrom (raisedBy rows clauses r) 0 (r .fields) }
+shifted rows clauses r = record { kind = r .kind; count = r .count; fields = raisedFrom (raisedBy rows clauses r) 0 (r .fields); days = r .days }
 
 -- The number that the next symbol has, after a record.
 abbrev pub symbolsAfter : ℕ → Record → ℕ
@@ -59,4 +59,4 @@ merged first second =
     first ++ map (shifted (howMany isRow first) (howMany isClause first)) (withoutSymbols (howMany isSymbol first) 0 second)
 
 unfoldable pub mergedFile : List ℕ → List ℕ → List ℕ
-mergedFile first second = fileBytes (merged (records first) (records second))
+mergedFile first second = fileBytes (merged (records (oldFile first)) (records (oldFile second)))

@@ -7,7 +7,7 @@ use mathlib.Core.List.{List, [], _∷_, _++_, map, reverse}
 use Prim.Native.Nat.{ℕ, _+_, _≤_, _<_}
 use lib.Dec.{leb}
 use lib.ListN.{length, getD, take}
-use Rattle.record.specs.Record.{pick, Record, records}
+use Rattle.record.specs.Record.{pick, oldFile, Record, records}
 use Rattle.unification.specs.Term.{Term}
 use Rattle.derivation.specs.Derivation.{literals, input, RowLiteral}
 use Rattle.demands.specs.Conditions.{OneOf, TableShort}
@@ -26,17 +26,17 @@ use Rattle.merging.specs.Merging.{isSymbol, howMany, merged, mergedFile}
 -- 17: record k is the first of its file that is a step.
 pub record FirstStep (file : List ℕ) (k : ℕ) : Type 0 where
   pub stepRecord : Record
-  pub here : RecordAt file k stepRecord
+  pub here : RecordAt (oldFile file) k stepRecord
   pub isKind : OneOf (stepRecord .kind) (5 ∷ 6 ∷ 7 ∷ [])
-  pub noneBefore : (j : ℕ) (r : Record) → j < k → RecordAt file j r → ¬ OneOf (r .kind) (5 ∷ 6 ∷ 7 ∷ [])
+  pub noneBefore : (j : ℕ) (r : Record) → j < k → RecordAt (oldFile file) j r → ¬ OneOf (r .kind) (5 ∷ 6 ∷ 7 ∷ [])
 
 -- 18: record k of the second file is a symbol whose number the first's list has, with another arity; and it is the first such record.
 pub record OtherSymbol (first second : List ℕ) (k : ℕ) : Type 0 where
   pub symbol : Record
-  pub here : RecordAt second k symbol
+  pub here : RecordAt (oldFile second) k symbol
   pub isKind : symbol .kind ≡ 1
-  pub inFirst : howMany isSymbol (take k (records second)) < length (symbolList (records first))
-  pub differs : ¬ (getD (symbolList (records first)) (howMany isSymbol (take k (records second))) 0 ≡ symbol .count)
+  pub inFirst : howMany isSymbol (take k (records (oldFile second))) < length (symbolList (records (oldFile first)))
+  pub differs : ¬ (getD (symbolList (records (oldFile first))) (howMany isSymbol (take k (records (oldFile second)))) 0 ≡ symbol .count)
 
 pub record FirstOtherSymbol (first second : List ℕ) (k : ℕ) : Type 0 where
   pub differing : OtherSymbol first second k
@@ -46,12 +46,12 @@ pub record FirstOtherSymbol (first second : List ℕ) (k : ℕ) : Type 0 where
 -- file's own refusal, the first file first; 17, looking in the first file first; 18; 19.
 pub data Condition (first second : List ℕ) (tables : Tables) (room : ℕ) : (place number file k : ℕ) → Type 0 where
   shortOutput : room < 65536 → Condition first second tables room 0 2 0 0
-  firstRefused : {reason : Reason} {k : ℕ} → check 0 first (lengthsOf tables) .verdict ≡ refusal reason k → Condition first second tables room 1 (reasonNumber reason) 1 k
-  secondRefused : {reason : Reason} {k : ℕ} → check 0 second (lengthsOf (tablesAfter first tables)) .verdict ≡ refusal reason k → Condition first second tables room 2 (reasonNumber reason) 2 k
+  firstRefused : {reason : Reason} {k : ℕ} → check 0 (oldFile first) (lengthsOf tables) .verdict ≡ refusal reason k → Condition first second tables room 1 (reasonNumber reason) 1 k
+  secondRefused : {reason : Reason} {k : ℕ} → check 0 (oldFile second) (lengthsOf (tablesAfter (oldFile first) tables)) .verdict ≡ refusal reason k → Condition first second tables room 2 (reasonNumber reason) 2 k
   stepInFirst : {k : ℕ} → FirstStep first k → Condition first second tables room 3 17 1 k
   stepInSecond : {k : ℕ} → FirstStep second k → Condition first second tables room 4 17 2 k
   otherSymbols : {k : ℕ} → FirstOtherSymbol first second k → Condition first second tables room 5 18 2 k
-  tooManyRecords : 4096 < length (merged (records first) (records second)) → Condition first second tables room 6 19 0 0
+  tooManyRecords : 4096 < length (merged (records (oldFile first)) (records (oldFile second))) → Condition first second tables room 6 19 0 0
 
 -- A list begins another.
 abbrev pub Begins : List ℕ → List ℕ → Type 0
@@ -77,9 +77,9 @@ daysIn S n = windowDays (windowOf (S .windows) n)
 
 -- The merged file stands and leaves M, where the first leaves S and the second T.
 pub record Merged (first second : List ℕ) (S T M : State) : Type 0 where
-  pub stands : Stands (mergedFile first second) M
+  pub stands : Stands (oldFile (mergedFile first second)) M
   -- Whatever the day, its check with tables long enough does not refuse it.
-  pub everyDay : (day : ℕ) (tables : Tables) → ¬ TableShort tables → (reason : Reason) (k : ℕ) → ¬ (check day (mergedFile first second) (lengthsOf tables) .verdict ≡ refusal reason k)
+  pub everyDay : (day : ℕ) (tables : Tables) → ¬ TableShort tables → (reason : Reason) (k : ℕ) → ¬ (check day (oldFile (mergedFile first second)) (lengthsOf tables) .verdict ≡ refusal reason k)
   -- Its clauses are input clauses, the first's and then the second's, term for term, in order and with their signs.
   pub inputs : (n : ℕ) → n < length (M .clauses) → (ls : List RowLiteral) × (clauseOf M n ≡ some (input n ls))
   pub clauses : clausesWritten M ≡ clausesWritten S ++ clausesWritten T
@@ -87,10 +87,10 @@ pub record Merged (first second : List ℕ) (S T M : State) : Type 0 where
   pub daysOfFirst : (n : ℕ) → n < length (S .clauses) → daysIn M n ≡ daysIn S n
   pub daysOfSecond : (n : ℕ) → daysIn M (length (S .clauses) + n) ≡ daysIn T n
   -- and so it is in force on the days on which it is there, by the records of the files.
-  pub forceOfFirst : (day n : ℕ) → n < length (S .clauses) → InForce (mergedFile first second) day n ↔ InForce first day n
-  pub forceOfSecond : (day n : ℕ) → InForce (mergedFile first second) day (length (S .clauses) + n) ↔ InForce second day n
+  pub forceOfFirst : (day n : ℕ) → n < length (S .clauses) → InForce (oldFile (mergedFile first second)) day n ↔ InForce (oldFile first) day n
+  pub forceOfSecond : (day n : ℕ) → InForce (oldFile (mergedFile first second)) day (length (S .clauses) + n) ↔ InForce (oldFile second) day n
   -- Its symbols are the longer list.
-  pub symbols : symbolList (records (mergedFile first second)) ≡ longer (symbolList (records first)) (symbolList (records second))
+  pub symbols : symbolList (records (oldFile (mergedFile first second))) ≡ longer (symbolList (records (oldFile first))) (symbolList (records (oldFile second)))
 
 -- ── What a merge leaves ──
 
@@ -115,11 +115,11 @@ pub record MergePromised (first second : List ℕ) (tables : Tables) (room : ℕ
   pub outputKept : (number file k : ℕ) → mergeAnswer first second tables room ≡ refusedWith number file k → (output : List ℕ) → outputLeft (mergeAnswer first second tables room) (mergedFile first second) output ≡ output
   -- A short output leaves the tables untouched; else they are as the last check left them, the first's if that refuses its file.
   pub tablesKept : room < 65536 → tablesLeft first second tables room ≡ tables
-  pub tablesOfFirst : ¬ (room < 65536) → (reason : Reason) (k : ℕ) → check 0 first (lengthsOf tables) .verdict ≡ refusal reason k → tablesLeft first second tables room ≡ tablesAfter first tables
-  pub tablesOfSecond : ¬ (room < 65536) → ((reason : Reason) (k : ℕ) → ¬ (check 0 first (lengthsOf tables) .verdict ≡ refusal reason k))
-      → tablesLeft first second tables room ≡ tablesAfter second (tablesAfter first tables)
+  pub tablesOfFirst : ¬ (room < 65536) → (reason : Reason) (k : ℕ) → check 0 (oldFile first) (lengthsOf tables) .verdict ≡ refusal reason k → tablesLeft first second tables room ≡ tablesAfter (oldFile first) tables
+  pub tablesOfSecond : ¬ (room < 65536) → ((reason : Reason) (k : ℕ) → ¬ (check 0 (oldFile first) (lengthsOf tables) .verdict ≡ refusal reason k))
+      → tablesLeft first second tables room ≡ tablesAfter (oldFile second) (tablesAfter (oldFile first) tables)
   -- 18: there is a symbol that differs exactly if neither symbol list begins the other.
-  pub neitherBegins : (k : ℕ) → OtherSymbol first second k → ¬ Begins (symbolList (records first)) (symbolList (records second)) × ¬ Begins (symbolList (records second)) (symbolList (records first))
-  pub otherThere : ¬ Begins (symbolList (records first)) (symbolList (records second)) → ¬ Begins (symbolList (records second)) (symbolList (records first)) → (k : ℕ) × OtherSymbol first second k
+  pub neitherBegins : (k : ℕ) → OtherSymbol first second k → ¬ Begins (symbolList (records (oldFile first))) (symbolList (records (oldFile second))) × ¬ Begins (symbolList (records (oldFile second))) (symbolList (records (oldFile first)))
+  pub otherThere : ¬ Begins (symbolList (records (oldFile first))) (symbolList (records (oldFile second))) → ¬ Begins (symbolList (records (oldFile second))) (symbolList (records (oldFile first))) → (k : ℕ) × OtherSymbol first second k
   -- What is written stands, with the clauses, days and symbols of both.
-  pub written : (n : ℕ) → mergeAnswer first second tables room ≡ written n → (S : State) × (T : State) × (M : State) × Stands first S × Stands second T × Merged first second S T M
+  pub written : (n : ℕ) → mergeAnswer first second tables room ≡ written n → (S : State) × (T : State) × (M : State) × Stands (oldFile first) S × Stands (oldFile second) T × Merged first second S T M

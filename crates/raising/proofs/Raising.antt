@@ -11,7 +11,8 @@ use borrow.Author.Tests.{eq-eqb, ne-eqb, lt-ltb, le-ltb, le-leb, lt-leb}
 use borrow.Rule.Slice.PartMut.{midOf, putMid}
 use Rattle.record.specs.Bytes.{recordBytes}
 use Rattle.record.specs.Record.{pick, Record, decoded, kindOf, countOf, fieldOf}
-use Rattle.record.proofs.Bytes.{record-sixteen}
+use Rattle.record.specs.declared.Form.the-variants.{Old}
+use Rattle.record.proofs.Bytes.{record-whole}
 use Rattle.merging.specs.Merging.{raisedBy, shifted}
 use Rattle.raising.specs.Wrapped.{wrapped}
 
@@ -113,7 +114,7 @@ high-wrapped n = omega arith
 module _ (rest : List ℕ) (rows clauses : ℕ) where
   -- The record's bytes, and field i as it is written.
   abbrev pub sixteen : List ℕ
-  sixteen = recordBytes (wrapped (shifted rows clauses (decoded rest)))
+  sixteen = recordBytes Old (wrapped (shifted rows clauses (decoded rest)))
 
   abbrev pub fieldRaised : ℕ → ℕ
   fieldRaised i = fieldOf rest i + raisedBy rows clauses (decoded rest) i
@@ -145,7 +146,7 @@ module _ (rest : List ℕ) (rows clauses : ℕ) where
       → putMid (2 + 2 * i) (length output - (2 + 2 * i)) output part ≡ take (2 + 2 * (i + 1)) sixteen ++ drop (2 + 2 * (i + 1)) before
   field-written before output i {n} {part} h l o f p =
       let at : ℕ = 2 + 2 * i in
-      let long : length (take at sixteen) ≡ at = length-take-le at sixteen (omega (arith, record-sixteen (wrapped (shifted rows clauses (decoded rest))))) in
+      let long : length (take at sixteen) ≡ at = length-take-le at sixteen (omega (arith, record-whole Old (wrapped (shifted rows clauses (decoded rest))))) in
       let front : take at output ≡ take at sixteen = ap (take at) o ∙ take-at (take at sixteen) (drop at before) at long in
       let back : drop at output ≡ drop at before = ap (drop at) o ∙ drop-at (take at sixteen) (drop at before) at long in
       let on : at + 2 ≡ 2 + 2 * (i + 1) = omega arith in

@@ -5,4 +5,4 @@ use Rattle.record.specs.Record.{Record}
 
 -- A record with fields of 16 bits: each as its two lowest bytes have it.
 abbrev pub wrapped : Record → Record
-wrapped r = record { kind = r .kind; count = r .count; fields = map (λ n. n % 65536) (r .fields) }
+wrapped r = record { kind = r .kind; count = r .count; fields = map (λ n. n % 65536) (r .fields); days = r .days }

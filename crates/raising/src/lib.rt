@@ -8,6 +8,7 @@ ghost use Prim.Native.Nat.{_+_, _/_, _%_, _≤_};
 ghost use lib.ListN.{length, drop};
 ghost use Rattle.record.specs.Bytes.{recordBytes};
 ghost use Rattle.record.specs.Record.{fieldOf, decoded};
+ghost use Rattle.record.specs.declared.Form.the-variants.{Old};
 ghost use Rattle.merging.specs.Merging.{raisedBy, shifted};
 ghost use Rattle.raising.specs.Wrapped.{wrapped};
 
@@ -51,7 +52,7 @@ fn put_number(output: &mut [u8], n: u32)
 // The first record of the rest of a file, shifted, to the first sixteen bytes of an output.
 pub fn put_shifted(rest: &[u8], rows: u16, clauses: u16, output: &mut [u8])
     requires { ⌜ 16 ≤ length (now output) ⌝ }
-    ensures { λ _. ⌜ now (output .exit) ≡ recordBytes (wrapped (shifted rows clauses (decoded (now (rest .entry))))) ++ drop 16 (now (output .entry)) ⌝ }
+    ensures { λ _. ⌜ now (output .exit) ≡ recordBytes Old (wrapped (shifted rows clauses (decoded (now (rest .entry))))) ++ drop 16 (now (output .entry)) ⌝ }
 {
     output[0] = kind(rest);
     output[1] = count(rest);

@@ -5,7 +5,7 @@ use mathlib.Core.Option.{Option, none, some}
 use mathlib.Core.List.{List}
 use Prim.Native.Nat.{ℕ, _+_, _≤_, _<_}
 use lib.ListN.{drop}
-use Rattle.record.specs.Record.{records, recordCount}
+use Rattle.record.specs.Record.{oldFile, records, recordCount}
 use Rattle.merging.specs.Answer.{symbolList, firstOther}
 use Rattle.searching.specs.declared.Found.{Found}
 use Rattle.searching.specs.declared.Found.the-variants as found
@@ -19,11 +19,11 @@ foundGiven found.Nothing = none
 
 -- Where the comparison of symbols stands: it goes on with record i of the first file and record j of the second.
 abbrev pub othersFrom : List ℕ → List ℕ → ℕ → ℕ → Option ℕ
-othersFrom first second i j = firstOther (symbolList (drop i (records first))) j (drop j (records second))
+othersFrom first second i j = firstOther (symbolList (drop i (records (oldFile first)))) j (drop j (records (oldFile second)))
 
 -- What a move says: it goes on further along and comes to the same; or it has ended.
 abbrev pub Moved : List ℕ → List ℕ → ℕ → ℕ → Move → Type 0
 Moved first second i j (move.To a b) =
-    (othersFrom first second i j ≡ othersFrom first second a b) × (i ≤ a) × (j ≤ b) × (i + j < a + b) × (a ≤ recordCount first) × (b ≤ 4096)
+    (othersFrom first second i j ≡ othersFrom first second a b) × (i ≤ a) × (j ≤ b) × (i + j < a + b) × (a ≤ recordCount (oldFile first)) × (b ≤ 4096)
 Moved first second i j move.Ended = othersFrom first second i j ≡ none
 Moved first second i j move.Other = othersFrom first second i j ≡ some j

@@ -1,6 +1,7 @@
 -- The second file's records placed in the output one after another: what is left of the file comes to the same as the whole.
 use mathlib.Core.Path.{_≡_, refl, sym, ap, ap₂, _∙_}
 use mathlib.Core.Bool.{Bool, true, false}
+use mathlib.Core.Option.{none}
 use mathlib.Core.List.{List, [], _∷_, _++_, map, map-append, append-assoc, append-nil}
 use Prim.Native.Nat.{ℕ, suc, _+_, _-_, _*_, _/_, _%_, _≤_, _<_}
 use native.Mathlib.Omega.{arith}
@@ -8,10 +9,11 @@ use lib.ListN.{length, getD, take, drop, take-append-drop, length-append, length
 use lib.Seq.{length-take-le, drop-drop, take-at, drop-at, getD-take}
 use borrow.Author.Tests.{lt-ltb}
 use borrow.Rule.Slice.PartMut.{midOf, putMid}
-use Rattle.record.specs.Bytes.{recordBytes, fileBytes}
-use Rattle.record.specs.Record.{pick, Record, recordCount, recordPart, decoded, records}
+use Rattle.record.specs.Bytes.{recordBytes, fileBytes, bytesIn}
+use Rattle.record.specs.Record.{pick, oldFile, Record, recordCount, recordPart, decoded, records}
+use Rattle.record.specs.declared.Form.the-variants.{Old}
 use Rattle.record.proofs.Records.{record-numbered, records-length}
-use Rattle.record.proofs.Bytes.{record-sixteen, file-length, file-joined}
+use Rattle.record.proofs.Bytes.{record-whole, file-length, file-joined}
 use Rattle.merging.specs.Merging.{isSymbol, shifted, symbolsAfter, unless, withoutSymbols}
 use Rattle.raising.specs.Wrapped.{wrapped}
 use Rattle.shifting.specs.Shifting.{isDropped, shiftedBytes, placedAt, nextRecord, NextWritable, NextWritten, SecondWritable, SecondWritten}
@@ -55,11 +57,11 @@ module _ (at : ℕ) (xs output : List ℕ) (room : at + length xs ≤ length out
 shifted-joined : (rows clauses : ℕ) (rs ss : List Record) → shiftedBytes rows clauses (rs ++ ss) ≡ shiftedBytes rows clauses rs ++ shiftedBytes rows clauses ss
 shifted-joined rows clauses rs ss =
     ap fileBytes (map-append (λ (r : Record). wrapped (shifted rows clauses r)) rs ss)
-    ∙ file-joined (map (λ (r : Record). wrapped (shifted rows clauses r)) rs) (map (λ (r : Record). wrapped (shifted rows clauses r)) ss)
+    ∙ file-joined Old (map (λ (r : Record). wrapped (shifted rows clauses r)) rs) (map (λ (r : Record). wrapped (shifted rows clauses r)) ss)
 
 shifted-length : (rows clauses : ℕ) (rs : List Record) → length (shiftedBytes rows clauses rs) ≡ 16 * length rs
 shifted-length rows clauses rs =
-    file-length (map (λ (r : Record). wrapped (shifted rows clauses r)) rs) ∙ ap (λ (n : ℕ). 16 * n) (length-map rs (λ (r : Record). wrapped (shifted rows clauses r)))
+    file-length Old (map (λ (r : Record). wrapped (shifted rows clauses r)) rs) ∙ ap (λ (n : ℕ). 16 * n) (length-map rs (λ (r : Record). wrapped (shifted rows clauses r)))
 
 -- ── One record more ──
 
@@ -68,7 +70,7 @@ module _ (rest : List ℕ) (s symbols rows clauses : ℕ) (output : List ℕ) (a
   next-is e = ap (λ (x : Bool). unless x (decoded rest) []) (sym isTest ∙ e)
 
   pub next-dropped : b ≡ true → NextWritten rest s symbols rows clauses output at output at
-  unfolding fileBytes
+  unfolding bytesIn
   next-dropped e =
       let none : nextRecord rest s symbols ≡ [] = next-is e in
       record {
@@ -83,13 +85,13 @@ module _ (rest : List ℕ) (s symbols rows clauses : ℕ) (output : List ℕ) (a
     pub next-room : NextWritable rest s symbols output at → at + 16 ≤ length output
     next-room w = omega (arith, w .room, ap (λ (rs : List Record). length rs) one)
 
-    pub next-put : {part : List ℕ} → part ≡ recordBytes (wrapped (shifted rows clauses (decoded rest))) ++ drop 16 (midOf at (length output - at) output)
+    pub next-put : {part : List ℕ} → part ≡ recordBytes Old (wrapped (shifted rows clauses (decoded rest))) ++ drop 16 (midOf at (length output - at) output)
         → NextWritten rest s symbols rows clauses output at (putMid at (length output - at) output part) (at + 16)
-    unfolding fileBytes
+    unfolding bytesIn
     next-put {part} p =
-        let R : List ℕ = recordBytes (wrapped (shifted rows clauses (decoded rest))) in
+        let R : List ℕ = recordBytes Old (wrapped (shifted rows clauses (decoded rest))) in
         let behind : drop 16 (midOf at (length output - at) output) ≡ drop (at + length R) output =
-        ap (drop 16) (tail-lent at output) ∙ drop-drop 16 at output ∙ ap (λ (n : ℕ). drop (at + n) output) (sym (record-sixteen (wrapped (shifted rows clauses (decoded rest)))))
+        ap (drop 16) (tail-lent at output) ∙ drop-drop 16 at output ∙ ap (λ (n : ℕ). drop (at + n) output) (sym (record-whole Old (wrapped (shifted rows clauses (decoded rest)))))
         in
         record {
           bytes =
@@ -114,12 +116,12 @@ decoded-taken l =
     let h = f 10 11 (omega arith) (omega arith) in
     let m = f 12 13 (omega arith) (omega arith) in
     let n = f 14 15 (omega arith) (omega arith) in
-    λ t. record { kind = kind t; count = count t; fields = a t ∷ b t ∷ d t ∷ e t ∷ h t ∷ m t ∷ n t ∷ [] }
+    λ t. record { kind = kind t; count = count t; fields = a t ∷ b t ∷ d t ∷ e t ∷ h t ∷ m t ∷ n t ∷ []; days = none }
 
-part-decoded : (file : List ℕ) (k : ℕ) → k < recordCount file → decoded (recordPart file k) ≡ decoded (drop (16 * k) file)
+part-decoded : (file : List ℕ) (k : ℕ) → k < recordCount (oldFile file) → decoded (recordPart (oldFile file) k) ≡ decoded (drop (16 * k) file)
 unfolding recordPart
 part-decoded file k h =
-    ap (λ (b : Bool). decoded (pick b (take 16 (drop (16 * k) file)) [])) (lt-ltb k (recordCount file) h) ∙ decoded-taken (drop (16 * k) file)
+    ap (λ (b : Bool). decoded (pick b (take 16 (drop (16 * k) file)) [])) (lt-ltb k (recordCount (oldFile file)) h) ∙ decoded-taken (drop (16 * k) file)
 
 unless-joined : (b : Bool) (r : Record) (rs : List Record) → unless b r rs ≡ unless b r [] ++ rs
 unless-joined true r rs = refl
@@ -131,15 +133,15 @@ symbols-few s false = omega arith
 
 -- What is left of the second file from a byte on, where s symbols were before.
 abbrev left : List ℕ → ℕ → ℕ → ℕ → List Record
-left second symbols s from = withoutSymbols symbols s (drop (from / 16) (records second))
+left second symbols s from = withoutSymbols symbols s (drop (from / 16) (records (oldFile second)))
 
 pub record Reached (second : List ℕ) (symbols rows clauses : ℕ) (before : List ℕ) (at : ℕ) (output : List ℕ) (from next s : ℕ) : Type 0 where
   pub whole : from % 16 ≡ 0
   pub inside : from ≤ length second
   pub few : 16 * s ≤ from
   pub size : length output ≡ length before
-  pub ends : next + 16 * length (withoutSymbols symbols s (drop (from / 16) (records second))) ≡ at + 16 * length (withoutSymbols symbols 0 (records second))
-  pub bytes : placedAt next (shiftedBytes rows clauses (withoutSymbols symbols s (drop (from / 16) (records second)))) output ≡ placedAt at (shiftedBytes rows clauses (withoutSymbols symbols 0 (records second))) before
+  pub ends : next + 16 * length (withoutSymbols symbols s (drop (from / 16) (records (oldFile second)))) ≡ at + 16 * length (withoutSymbols symbols 0 (records (oldFile second)))
+  pub bytes : placedAt next (shiftedBytes rows clauses (withoutSymbols symbols s (drop (from / 16) (records (oldFile second))))) output ≡ placedAt at (shiftedBytes rows clauses (withoutSymbols symbols 0 (records (oldFile second)))) before
 
 module _ (second : List ℕ) (symbols rows clauses : ℕ) (before : List ℕ) (at : ℕ) (asked : SecondWritable second symbols before at) where
   pub reached-first : Reached second symbols rows clauses before at before 0 at 0
@@ -147,10 +149,10 @@ module _ (second : List ℕ) (symbols rows clauses : ℕ) (before : List ℕ) (a
 
   module _ (output : List ℕ) (from next s : ℕ) (reached : Reached second symbols rows clauses before at output from next s) where
     module _ (more : from < length second) {rest : List ℕ} (isRest : rest ≡ drop from second) where
-      k-inside : from / 16 < recordCount second
+      k-inside : from / 16 < recordCount (oldFile second)
       k-inside = omega (arith, reached .whole, asked .whole)
 
-      rest-decoded : decoded rest ≡ decoded (recordPart second (from / 16))
+      rest-decoded : decoded rest ≡ decoded (recordPart (oldFile second) (from / 16))
       rest-decoded =
           let e : from ≡ 16 * (from / 16) = omega (arith, reached .whole) in
           ap decoded (isRest ∙ ap (λ (n : ℕ). drop n second) e) ∙ sym (part-decoded second (from / 16) k-inside)
@@ -158,9 +160,9 @@ module _ (second : List ℕ) (symbols rows clauses : ℕ) (before : List ℕ) (a
       split : {s′ : ℕ} → s′ ≡ symbolsAfter s (decoded rest) → left second symbols s from ≡ nextRecord rest s symbols ++ left second symbols s′ (from + 16)
       split {s′} q =
           let on : suc (from / 16) ≡ (from + 16) / 16 = omega arith in
-          ap (withoutSymbols symbols s) (record-numbered second (from / 16) k-inside ∙ ap (λ (r : Record). r ∷ drop (suc (from / 16)) (records second)) (sym rest-decoded))
-          ∙ unless-joined (isDropped symbols s (decoded rest)) (decoded rest) (withoutSymbols symbols (symbolsAfter s (decoded rest)) (drop (suc (from / 16)) (records second)))
-          ∙ ap₂ (λ (n m : ℕ). nextRecord rest s symbols ++ withoutSymbols symbols n (drop m (records second))) (sym q) on
+          ap (withoutSymbols symbols s) (record-numbered (oldFile second) (from / 16) k-inside ∙ ap (λ (r : Record). r ∷ drop (suc (from / 16)) (records (oldFile second))) (sym rest-decoded))
+          ∙ unless-joined (isDropped symbols s (decoded rest)) (decoded rest) (withoutSymbols symbols (symbolsAfter s (decoded rest)) (drop (suc (from / 16)) (records (oldFile second))))
+          ∙ ap₂ (λ (n m : ℕ). nextRecord rest s symbols ++ withoutSymbols symbols n (drop m (records (oldFile second)))) (sym q) on
 
       split-length : {s′ : ℕ} → s′ ≡ symbolsAfter s (decoded rest) → length (left second symbols s from) ≡ length (nextRecord rest s symbols) + length (left second symbols s′ (from + 16))
       split-length {s′} q = ap (λ (rs : List Record). length rs) (split q) ∙ length-append (nextRecord rest s symbols) (left second symbols s′ (from + 16))
@@ -192,9 +194,9 @@ module _ (second : List ℕ) (symbols rows clauses : ℕ) (before : List ℕ) (a
           }
 
     pub reached-end : length second ≤ from → SecondWritten second symbols rows clauses before at output next
-    unfolding fileBytes
+    unfolding bytesIn
     reached-end h =
-        let none : drop (from / 16) (records second) ≡ [] = drop-of-length-le (records second) {i = from / 16} (omega (arith, records-length second)) in
+        let none : drop (from / 16) (records (oldFile second)) ≡ [] = drop-of-length-le (records (oldFile second)) {i = from / 16} (omega (arith, records-length (oldFile second))) in
         record {
           bytes = sym (ap (λ (rs : List Record). placedAt next (shiftedBytes rows clauses (withoutSymbols symbols s rs)) output) none ∙ place-none next output) ∙ reached .bytes;
           ends = omega (arith, ap (λ (rs : List Record). length (withoutSymbols symbols s rs)) none, reached .ends);

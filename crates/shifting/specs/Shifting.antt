@@ -7,7 +7,7 @@ use Prim.Native.Nat.{ℕ, _+_, _*_, _%_, _≤_}
 use lib.Dec.{ltb}
 use lib.ListN.{length, take, drop}
 use Rattle.record.specs.Bytes.{fileBytes}
-use Rattle.record.specs.Record.{Record, decoded, records}
+use Rattle.record.specs.Record.{oldFile, Record, decoded, records}
 use Rattle.merging.specs.Merging.{isSymbol, unless, shifted, withoutSymbols}
 use Rattle.raising.specs.Wrapped.{wrapped}
 
@@ -38,8 +38,8 @@ pub record NextWritten (rest : List ℕ) (s symbols rows clauses : ℕ) (output 
 pub record SecondWritable (second : List ℕ) (symbols : ℕ) (output : List ℕ) (at : ℕ) : Type 0 where
   pub whole : length second % 16 ≡ 0
   pub few : length second ≤ 65536
-  pub room : at + 16 * length (withoutSymbols symbols 0 (records second)) ≤ length output
+  pub room : at + 16 * length (withoutSymbols symbols 0 (records (oldFile second))) ≤ length output
 
 pub record SecondWritten (second : List ℕ) (symbols rows clauses : ℕ) (output : List ℕ) (at : ℕ) (left : List ℕ) (end : ℕ) : Type 0 where
-  pub bytes : left ≡ placedAt at (shiftedBytes rows clauses (withoutSymbols symbols 0 (records second))) output
-  pub ends : end ≡ at + 16 * length (withoutSymbols symbols 0 (records second))
+  pub bytes : left ≡ placedAt at (shiftedBytes rows clauses (withoutSymbols symbols 0 (records (oldFile second)))) output
+  pub ends : end ≡ at + 16 * length (withoutSymbols symbols 0 (records (oldFile second)))

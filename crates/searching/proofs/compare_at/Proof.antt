@@ -14,8 +14,8 @@ record-part-requires c κs = search needs
 kind-requires : tie.Need-kind-requires
 kind-requires c κs = search needs
 
-add-t9 : tie.Need-add-t9
-add-t9 c = search needs
+add-t10 : tie.Need-add-t10
+add-t10 c = search needs
 
 returns : tie.Need-returns
 returns c =
@@ -31,8 +31,8 @@ record-part-requires-2 c κs = search needs
 kind-requires-2 : tie.Need-kind-requires-2
 kind-requires-2 c κs = search needs
 
-add-t13 : tie.Need-add-t13
-add-t13 c = search needs
+add-t14 : tie.Need-add-t14
+add-t14 c = search needs
 
 returns-3 : tie.Need-returns-3
 returns-3 c =
@@ -44,11 +44,11 @@ count-requires c κs = search needs
 count-requires-2 : tie.Need-count-requires-2
 count-requires-2 c κs = search needs
 
-add-t15 : tie.Need-add-t15
-add-t15 c = search needs
-
 add-t16 : tie.Need-add-t16
 add-t16 c = search needs
+
+add-t17 : tie.Need-add-t17
+add-t17 c = search needs
 
 returns-4 : tie.Need-returns-4
 returns-4 c =
@@ -64,16 +64,16 @@ compare-at-spec =
     (tie.spec
     record-part-requires
     kind-requires
-    add-t9
+    add-t10
     returns
     returns-2
     record-part-requires-2
     kind-requires-2
-    add-t13
+    add-t14
     returns-3
     count-requires
     count-requires-2
-    add-t15
     add-t16
+    add-t17
     returns-4
     returns-5)

@@ -2,7 +2,7 @@
 use mathlib.Core.Path.{_≡_, refl, sym, _∙_}
 use Prim.Native.Nat.{_+_, _-_, _≤_}
 use native.Mathlib.Omega.{arith}
-use Rattle.record.specs.Record.{recordCount}
+use Rattle.record.specs.Record.{oldFile, recordCount}
 use Rattle.searching.specs.Searching.{othersFrom}
 use Rattle.searching.proofs.SearchSteps.{first-ended, goes-on, goes-on-whole, ends-without, ends-with}
 use borrow.Author.Needs.{needs}
@@ -14,11 +14,11 @@ use Rattle.searching.proofs.compare_at.Reads as compare-at-reads
 
 abbrev Inv-loop : tie.InvT-loop
 Inv-loop first second i₀ j₀ i j =
-    (i ≤ recordCount first) × (j ≤ 4096) × (othersFrom first second i j ≡ othersFrom first second 0 0)
+    (i ≤ recordCount (oldFile first)) × (j ≤ 4096) × (othersFrom first second i j ≡ othersFrom first second 0 0)
 
 abbrev μ-loop : tie.MeasureT-loop
 μ-loop first second i₀ j₀ i j =
-    (recordCount first + 4096) - (i + j)
+    (recordCount (oldFile first) + 4096) - (i + j)
 
 loop-holds : tie.Need-loop-holds Inv-loop μ-loop
 loop-holds c =

@@ -2,7 +2,7 @@
 use mathlib.Core.Path.{refl}
 use Prim.Native.Nat.{_-_, _≤_}
 use native.Mathlib.Omega.{arith}
-use Rattle.record.specs.Record.{recordCount}
+use Rattle.record.specs.Record.{oldFile, recordCount}
 use Rattle.searching.proofs.SearchSteps.{Same, no-step-left, step-here, step-later}
 use borrow.Author.Needs.{needs}
 use Rattle.searching.proofs.first_step.Statement.{statement}
@@ -14,11 +14,11 @@ use Rattle.searching.proofs.is_step.Reads as is-step-reads
 
 abbrev Inv-loop : tie.InvT-loop
 Inv-loop file k₀ k =
-    (k ≤ recordCount file) × Same file k
+    (k ≤ recordCount (oldFile file)) × Same file k
 
 abbrev μ-loop : tie.MeasureT-loop
 μ-loop file k₀ k =
-    recordCount file - k
+    recordCount (oldFile file) - k
 
 loop-holds : tie.Need-loop-holds Inv-loop μ-loop
 loop-holds c =
