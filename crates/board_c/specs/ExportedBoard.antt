@@ -29,7 +29,7 @@ pub record ExportedOpening (day : ℕ) (file : File) (before : Tables) (board an
   pub promised : (S : State) → Stands file S → ¬ TableShort before → 4097 ≤ length board → BoardPromised day file before board S
 
 -- A call: clause n is withdrawn, or returned and then present.
-pub record ExportedCall (file clauses board : List ℕ) (n : ℕ) (present : Bool) (answerBefore left answerAfter : List ℕ) : Type 0 where
+pub record ExportedCall (file : File) (clauses board : List ℕ) (n : ℕ) (present : Bool) (answerBefore left answerAfter : List ℕ) : Type 0 where
   pub answerLeft : length answerBefore < 3 → answerAfter ≡ answerBefore
   pub boardKept : length answerBefore < 3 → left ≡ board
   pub answer : 3 ≤ length answerBefore → answerAfter ≡ answerNumbers (callAnswer file clauses board n present) ++ drop 3 answerBefore

@@ -41,8 +41,26 @@ pub fn check_form_to_cells(
     ensures { λ _. ⌜ ExportedForm number day (now (file .entry)) (tablesWith (now (symbols .entry)) (now (rows .entry)) (now (clauses .entry)) (now (bindings .entry))) (now (answer .entry)) (tablesWith (now (symbols .exit)) (now (rows .exit)) (now (clauses .exit)) (now (bindings .exit))) (now (answer .exit)) ⌝ }
 {
     match number {
-        16 => check_to_cells(Form::Old, day, file, symbols, rows, clauses, bindings, answer),
-        20 => check_to_cells(Form::New, day, file, symbols, rows, clauses, bindings, answer),
+        16 => check_to_cells(
+            Form::Old,
+            day,
+            file,
+            symbols,
+            rows,
+            clauses,
+            bindings,
+            answer,
+        ),
+        20 => check_to_cells(
+            Form::New,
+            day,
+            file,
+            symbols,
+            rows,
+            clauses,
+            bindings,
+            answer,
+        ),
         _ => {}
     }
 }

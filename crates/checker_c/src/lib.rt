@@ -1,10 +1,11 @@
 // The check of a proof file, its two readouts, which clause covers which, the merge of two files and the board of a file, for C. In the crate exported, `Exported`
-// says what `checker_check` promises and `ExportedWith` what `checker_check_with` does; in exported_readout, exported_covers and exported_merge,
+// says what `checker_check` promises, `ExportedForm` what `checker_check_form` does and `ExportedWith` what `checker_check_with` does; in exported_readout, exported_covers and exported_merge,
 // `ExportedReadout`, `ExportedCanonical`, `ExportedCovers` and `ExportedMerge` say it of `checker_readout`, `checker_canonical_readout`, `checker_covers` and `checker_merge`; and in board_c, `ExportedBoard` of the three
 // functions of the board. checker.h has their declarations.
 use board_c::open_to_cells;
 use board_c::return_to_cells;
 use board_c::withdraw_to_cells;
+use check_c::check_form_to_cells;
 use check_c::check_to_cells;
 use check_with_c::check_with_to_cells;
 use covers_c::covers_to_cells;
@@ -14,11 +15,13 @@ use following::values::ValueCells;
 use merge_c::merge_to_cells;
 use readout_c::canonical_to_cells;
 use readout_c::readout_to_cells;
+use record::Form;
 ghost use mathlib.Core.Bool.{true, false};
 ghost use Rattle.record.specs.Record.{oldFile};
 ghost use Rattle.entry.specs.Progress.{tablesWith};
 ghost use Rattle.checker.specs.Contract.{workspaceWith};
 ghost use Rattle.exported.specs.Exported.{Exported};
+ghost use Rattle.exported.specs.ExportedForm.{ExportedForm};
 ghost use Rattle.exported.specs.ExportedWith.{ExportedWith};
 ghost use Rattle.verdict.specs.Readout.{clauseLine};
 ghost use Rattle.exported_readout.specs.ExportedReadout.{ExportedReadout, ExportedCanonical};
@@ -39,7 +42,33 @@ pub extern "C" fn checker_check(
 )
     ensures { λ _. ⌜ Exported day (oldFile (now (file .entry))) (tablesWith (now (symbols .entry)) (now (rows .entry)) (now (clauses .entry)) (now (bindings .entry))) (now (answer .entry)) (tablesWith (now (symbols .exit)) (now (rows .exit)) (now (clauses .exit)) (now (bindings .exit))) (now (answer .exit)) ⌝ }
 {
-    check_to_cells(day, file, symbols, rows, clauses, bindings, answer);
+    check_to_cells(
+        Form::Old,
+        day,
+        file,
+        symbols,
+        rows,
+        clauses,
+        bindings,
+        answer,
+    );
+}
+
+// The same, told the form of the file by the length of its records, 16 or 20. With another number nothing is touched.
+#[no_mangle]
+pub extern "C" fn checker_check_form(
+    form: u16,
+    day: u16,
+    file: &[u8],
+    symbols: &mut [u16],
+    rows: &mut [u16],
+    clauses: &mut [u16],
+    bindings: &mut [u16],
+    answer: &mut [u16],
+)
+    ensures { λ _. ⌜ ExportedForm form day (now (file .entry)) (tablesWith (now (symbols .entry)) (now (rows .entry)) (now (clauses .entry)) (now (bindings .entry))) (now (answer .entry)) (tablesWith (now (symbols .exit)) (now (rows .exit)) (now (clauses .exit)) (now (bindings .exit))) (now (answer .exit)) ⌝ }
+{
+    check_form_to_cells(form, day, file, symbols, rows, clauses, bindings, answer);
 }
 
 // The same for services, with a workspace that the caller lends and keeps between files, whatever it holds.
