@@ -1,6 +1,7 @@
-/* The check of a resolution-proof file, the same for services, the two readouts,
- * which input clause covers which, two files merged into one, and the board of a
- * file, on which input clauses are withdrawn and returned.
+/* The check of a resolution-proof file, the same for services and for either form
+ * of a file, the two readouts, which input clause covers which, two files merged
+ * into one, a file converted to the other form, and the board of a file, on which
+ * input clauses are withdrawn and returned.
  *
  * Link with libchecker_c.a. All functions are proved to meet their contracts,
  * for every day, every file and whatever else they are lent (Exported.antt,
@@ -27,7 +28,7 @@
 extern "C" {
 #endif
 
-/* The least lengths of the tables, of the three answers and of the progress, in
+/* The least lengths of the tables, of the answers and of the progress, in
  * cells. */
 #define CHECKER_SYMBOLS 4096
 #define CHECKER_ROWS 4096
@@ -37,6 +38,7 @@ extern "C" {
 #define CHECKER_PROGRESS 3
 #define CHECKER_COVERING 10
 #define CHECKER_MERGED 4
+#define CHECKER_CONVERTED 4
 #define CHECKER_BOARD_ANSWER 3
 
 /* The least length of a board, in cells: one for each clause that a file can
@@ -51,12 +53,24 @@ extern "C" {
 /* Bytes of output that have room for every line of a readout. */
 #define CHECKER_OUTPUT 131072
 
-/* The least length of an output for a merged file, in bytes: that of the longest
- * file. */
+/* The least length of an output for a merged or a converted file, in bytes: that
+ * of the longest file. */
 #define CHECKER_FILE 65536
 
+/* The two forms of a file, by the bytes of a record. Every function but
+ * checker_check_form and checker_to_old takes files of the old form.
+ *
+ * Old: records of 16 bytes, at most 4,096 of them. The days of an input clause
+ *   are in records of kind 8.
+ * New: records of 20 bytes, at most 3,276 of them: the old 16, then for kind 4
+ *   the first day and the last, two bytes each, low byte first (0 and 65,535 for
+ *   a clause that is in force always), and for every other kind zeros. There is
+ *   no kind 8. */
+enum { CHECKER_OLD_FORM = 16, CHECKER_NEW_FORM = 20 };
+
 /* The first number of an answer: of a check, of which clause covers which, of a
- * merge, of a board. Whatever is none of these names, take as a refusal. */
+ * merge or a conversion, of a board. Whatever is none of these names, take as a
+ * refusal. */
 enum { CHECKER_OPEN = 0, CHECKER_ACCEPTED = 1, CHECKER_REFUSED = 2 };
 enum { CHECKER_NO = 0, CHECKER_YES = 1 };
 enum { CHECKER_WRITTEN = 0 };
@@ -68,9 +82,9 @@ enum { CHECKER_COMPLETE = 0, CHECKER_MORE = 1, CHECKER_TOO_SHORT = 2 };
 /* Why something is refused. The format may get further numbers: treat an unknown
  * one as a refusal too. 6 is never given. 15 is given by checker_covers alone, 17
  * to 19 by checker_merge alone, 20 and 21 by checker_board_withdraw and
- * checker_board_return alone. */
+ * checker_board_return alone, 22 by checker_to_new and checker_to_old alone. */
 enum {
-    CHECKER_REASON_LENGTH = 1,           /* over 65,536, or no multiple of 16 */
+    CHECKER_REASON_LENGTH = 1,           /* too long, or not whole records */
     CHECKER_REASON_TABLE = 2,            /* a table, board or output too short */
     CHECKER_REASON_KIND = 3,             /* a kind that there is not */
     CHECKER_REASON_RANGE = 4,            /* out of range, or not zero */
@@ -89,7 +103,8 @@ enum {
     CHECKER_REASON_MERGED_SYMBOLS = 18,  /* neither symbol list begins the other */
     CHECKER_REASON_MERGED_LENGTH = 19,   /* over 4,096 records when merged */
     CHECKER_REASON_NOT_AN_INPUT = 20,    /* no input clause of that number */
-    CHECKER_REASON_ALREADY = 21          /* in that condition already */
+    CHECKER_REASON_ALREADY = 21,         /* in that condition already */
+    CHECKER_REASON_CONVERTED_LENGTH = 22 /* too many records when converted */
 };
 
 /* Checks a proof file on a day, writes the answer and fills four tables.
@@ -136,6 +151,29 @@ void checker_check(uint16_t day,
                    uint16_t *clauses, size_t clauses_len,
                    uint16_t *bindings, size_t bindings_len,
                    uint16_t *answer, size_t answer_len);
+
+/* The same check for a file of either form, which the caller tells.
+ *
+ *   form      CHECKER_OLD_FORM or CHECKER_NEW_FORM: 16 or 20, the bytes of a
+ *             record. With any other number nothing at all is touched, as with
+ *             an answer that is too short
+ *   day, file, symbols, rows, clauses, bindings, answer
+ *             as for checker_check. With 16 the same is written to them; with 20
+ *             what follows differs
+ *
+ * A file of the new form whose length is over 65,520 or no multiple of 20 is
+ * refused with reason 1. A kind that is not 1 to 7 is refused with 3, and with 4
+ * also a record of any kind but 4 whose last four bytes are not all zero. An input
+ * clause whose first day is after its last is refused with 16, which comes after 4
+ * and 5 and before 7; otherwise it is in force on the days that stand beside it.
+ * Records are numbered in either form from 0. */
+void checker_check_form(uint16_t form, uint16_t day,
+                        const uint8_t *file, size_t file_len,
+                        uint16_t *symbols, size_t symbols_len,
+                        uint16_t *rows, size_t rows_len,
+                        uint16_t *clauses, size_t clauses_len,
+                        uint16_t *bindings, size_t bindings_len,
+                        uint16_t *answer, size_t answer_len);
 
 /* The same check for services: checker_check has arrays of 1.2 MB on its stack
  * and fills them for each file, this one takes a workspace that the caller
@@ -326,6 +364,62 @@ void checker_merge(const uint8_t *first, size_t first_len,
                    uint16_t *bindings, size_t bindings_len,
                    uint8_t *output, size_t output_len,
                    uint32_t *answer, size_t answer_len);
+
+/* Converts a file to the other form: checker_to_new one of the old form to the new,
+ * checker_to_old one of the new form to the old. A file and its conversion have
+ * the same verdict on each day.
+ *
+ * To the new form, records of kind 8 fall away, and each input clause takes the
+ * days of the last such record for it, or 0 and 65,535 if there is none. To the
+ * old form, each record is written without its days, and straight after each
+ * input clause whose days are not 0 and 65,535 comes one record of kind 8 with
+ * them. Converted to the old form and back, a file has the same bytes; converted
+ * to the new form and back, the same clauses, steps and days.
+ *
+ *   file      the bytes of the file
+ *   symbols, rows, clauses, bindings
+ *             as for checker_check: the file is checked by its own form, and the
+ *             tables are left as that leaves them. No day is passed: whether a
+ *             file stands does not depend on it
+ *   output    at least CHECKER_FILE bytes
+ *   answer    four numbers; at least 4 cells
+ *
+ * What is said there of lengths and pointers holds here too, and none of the
+ * seven parts may overlap another.
+ *
+ * The numbers of the answer:
+ *   answer[0]  0 written, 2 refused
+ *   answer[1]  written: the length of the converted file, in bytes; refused: the
+ *              reason
+ *   answer[2]  refused: 1 if the check refuses the file, or else 0; otherwise 0
+ *   answer[3]  refused: the record of the file; otherwise 0
+ *
+ * The reasons, in this order:
+ *   2          the output is shorter than CHECKER_FILE bytes; file 0, record 0.
+ *              No table is touched
+ *   1 to 16    the check's own, with its record, file 1; tables that are too
+ *              short are its reason 2
+ *   22         the converted file would have over 3,276 records in the new form,
+ *              or over 4,096 in the old; file 0, record 0
+ *
+ * The output is written only if nothing is refused, and not past the converted
+ * file's end. If answer has fewer than 4 cells, nothing at all is touched. Cells
+ * of answer past the fourth are left alone. */
+void checker_to_new(const uint8_t *file, size_t file_len,
+                    uint16_t *symbols, size_t symbols_len,
+                    uint16_t *rows, size_t rows_len,
+                    uint16_t *clauses, size_t clauses_len,
+                    uint16_t *bindings, size_t bindings_len,
+                    uint8_t *output, size_t output_len,
+                    uint32_t *answer, size_t answer_len);
+
+void checker_to_old(const uint8_t *file, size_t file_len,
+                    uint16_t *symbols, size_t symbols_len,
+                    uint16_t *rows, size_t rows_len,
+                    uint16_t *clauses, size_t clauses_len,
+                    uint16_t *bindings, size_t bindings_len,
+                    uint8_t *output, size_t output_len,
+                    uint32_t *answer, size_t answer_len);
 
 /* The board of a file: each input clause is present or withdrawn. A derived
  * clause stands if all input clauses of its derivation are present, an input

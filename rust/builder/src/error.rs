@@ -4,7 +4,8 @@ use std::error::Error;
 use std::fmt;
 
 use yestrwyn_types::limits::{
-    ARITY, FILE_BYTES, INPUT_LITERALS, RECORDS, RECORD_BYTES, RIGHT_LITERALS, VARIABLES,
+    ARITY, FILE_BYTES, INPUT_LITERALS, NEW_FILE_BYTES, NEW_RECORDS, NEW_RECORD_BYTES, RECORDS, RECORD_BYTES,
+    RIGHT_LITERALS, VARIABLES,
 };
 use yestrwyn_types::Reason;
 
@@ -12,7 +13,7 @@ use yestrwyn_types::Reason;
 #[non_exhaustive]
 #[derive(Clone, Copy, PartialEq, Eq, Debug)]
 pub enum BuildError {
-    /// The file has 4,096 records.
+    /// The file has 4,096 records, or 3,276 in the new form.
     Full,
     /// A symbol cannot have this arity.
     Arity(u8),
@@ -80,7 +81,9 @@ pub enum BuildError {
 impl fmt::Display for BuildError {
     fn fmt(&self, out: &mut fmt::Formatter<'_>) -> fmt::Result {
         match self {
-            BuildError::Full => write!(out, "the file has {RECORDS} records already"),
+            BuildError::Full => {
+                write!(out, "the file has {RECORDS} records already, or {NEW_RECORDS} in the new form")
+            }
             BuildError::Arity(arity) => write!(out, "an arity of {arity}, over {ARITY}"),
             BuildError::Variable(number) => write!(out, "variable {number}, over {}", VARIABLES - 1),
             BuildError::Arguments { arity, given } => {
@@ -129,8 +132,10 @@ impl Error for BuildError {
 #[non_exhaustive]
 #[derive(Clone, Copy, PartialEq, Eq, Debug)]
 pub enum ReadError {
-    /// So many bytes: over 65,536, or not a multiple of 16.
+    /// So many bytes in a file of the old form: over 65,536, or not a multiple of 16.
     Length(usize),
+    /// So many bytes in a file of the new form: over 65,520, or not a multiple of 20.
+    NewLength(usize),
     /// A record that the check would refuse.
     Record {
         /// Its number in the file; the first record has number 0.
@@ -146,6 +151,12 @@ impl fmt::Display for ReadError {
             ReadError::Length(bytes) => {
                 write!(out, "a file of {bytes} bytes, over {FILE_BYTES} or not a multiple of {RECORD_BYTES}")
             }
+            ReadError::NewLength(bytes) => {
+                write!(
+                    out,
+                    "a file of {bytes} bytes, over {NEW_FILE_BYTES} or not a multiple of {NEW_RECORD_BYTES}"
+                )
+            }
             ReadError::Record { record, reason } => {
                 write!(out, "record {record} is refused with {}: {reason}", reason.number())
             }
@@ -156,7 +167,7 @@ impl fmt::Display for ReadError {
 impl Error for ReadError {
     fn source(&self) -> Option<&(dyn Error + 'static)> {
         match self {
-            ReadError::Length(_) => None,
+            ReadError::Length(_) | ReadError::NewLength(_) => None,
             ReadError::Record { reason, .. } => Some(reason),
         }
     }

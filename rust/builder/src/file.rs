@@ -5,8 +5,9 @@ mod existing;
 use std::collections::HashMap;
 use std::ops::RangeInclusive;
 
-use yestrwyn_types::limits::{ARITY, FILE_BYTES, INPUT_LITERALS, RIGHT_LITERALS, VARIABLES};
+use yestrwyn_types::limits::{ARITY, INPUT_LITERALS, RECORD_BYTES, RIGHT_LITERALS, VARIABLES};
 use yestrwyn_types::record::{kind, Record};
+use yestrwyn_types::{Dated, Form};
 
 use crate::error::BuildError;
 use crate::handles::{Clause, Literal, Row, Signed, Symbol};
@@ -17,6 +18,7 @@ pub(crate) use existing::{each_record, reason, well_formed, Step};
 /// named is there; whether a step stands it does not test.
 #[derive(Clone, Default, Debug)]
 pub struct FileBuilder {
+    form: Form,
     bytes: Vec<u8>,
     arities: Vec<u8>,
     /// The records of all rows, each with the earliest equal rows for its arguments.
@@ -32,14 +34,36 @@ pub struct FileBuilder {
 struct Written {
     /// How many literals it has.
     literals: u16,
-    /// Is it an input clause?
-    input: bool,
+    /// Where the record of an input clause begins in the file; none for a clause that a step has made.
+    input: Option<usize>,
 }
 
 impl FileBuilder {
-    /// An empty file.
+    /// An empty file of the old form.
     pub fn new() -> FileBuilder {
         FileBuilder::default()
+    }
+
+    /// An empty file of either form. In the new form the days of an input clause stand beside it: see
+    /// [`in_force`](FileBuilder::in_force). The check has to be told the form of a file.
+    ///
+    /// ```
+    /// # use yestrwyn_builder::{neg, BuildError, FileBuilder, Form};
+    /// let mut file = FileBuilder::with_form(Form::New);
+    /// let closed = file.symbol(0)?;
+    /// let closed = file.constant(closed)?;
+    /// let curfew = file.clause(&[neg(closed)])?;
+    /// file.in_force(curfew, 20_939..=21_122)?;
+    /// assert_eq!(file.finish().len(), 3 * 20); // no record for the days
+    /// # Ok::<(), BuildError>(())
+    /// ```
+    pub fn with_form(form: Form) -> FileBuilder {
+        FileBuilder { form, ..FileBuilder::default() }
+    }
+
+    /// The form of the file.
+    pub fn form(&self) -> Form {
+        self.form
     }
 
     /// The bytes of the file.
@@ -101,8 +125,7 @@ impl FileBuilder {
             }
             fields.push(2 * atom.0 + u16::from(positive));
         }
-        self.write(Record::new(kind::INPUT, count, &fields))?;
-        Ok(Clause(next(&mut self.clauses, Written { literals: count.into(), input: true })))
+        self.input(Dated::old(Record::new(kind::INPUT, count, &fields)))
     }
 
     /// A resolution step on a literal of the left clause and one of the right.
@@ -153,7 +176,8 @@ impl FileBuilder {
 
     /// The days on which an input clause is in force: the first and the last, both included. A later call for the same
     /// clause supersedes an earlier one, and a clause without any is in force always. What day 0 is, those who use the
-    /// files agree on, for example 1 January 1970.
+    /// files agree on, for example 1 January 1970. In the old form this writes a record; in the new one the days are written beside
+    /// the clause, where they take no room.
     ///
     /// ```
     /// # use yestrwyn_builder::{neg, BuildError, FileBuilder};
@@ -166,14 +190,16 @@ impl FileBuilder {
     /// ```
     pub fn in_force(&mut self, clause: Clause, days: RangeInclusive<u16>) -> Result<(), BuildError> {
         let written = self.clauses.get(usize::from(clause.0)).ok_or(BuildError::Foreign)?;
-        if !written.input {
-            return Err(BuildError::Derived(clause.0));
-        }
+        let place = written.input.ok_or(BuildError::Derived(clause.0))?;
         let (first, last) = days.into_inner();
-        if first > last {
-            return Err(BuildError::Days { first, last });
+        in_order([first, last])?;
+        match self.form {
+            Form::Old => self.write(Record::new(kind::WINDOW, 0, &[clause.0, first, last])),
+            Form::New => {
+                self.put_days(place, [first, last]);
+                Ok(())
+            }
         }
-        self.write(Record::new(kind::WINDOW, 0, &[clause.0, first, last]))
     }
 
     /// The records of all rows.
@@ -198,7 +224,22 @@ impl FileBuilder {
 
     /// The clause of a step that was written.
     fn derived(&mut self, literals: u16) -> Clause {
-        Clause(next(&mut self.clauses, Written { literals, input: false }))
+        Clause(next(&mut self.clauses, Written { literals, input: None }))
+    }
+
+    /// Writes the record of an input clause.
+    fn input(&mut self, dated: Dated) -> Result<Clause, BuildError> {
+        let (literals, place) = (dated.record.count.into(), self.bytes.len());
+        self.write_dated(dated)?;
+        Ok(Clause(next(&mut self.clauses, Written { literals, input: Some(place) })))
+    }
+
+    /// Puts days beside the record that begins at a place of a file of the new form.
+    fn put_days(&mut self, place: usize, days: [u16; 2]) {
+        let beside = self.bytes.iter_mut().skip(place + RECORD_BYTES);
+        for (byte, day) in beside.zip(days.into_iter().flat_map(u16::to_le_bytes)) {
+            *byte = day;
+        }
     }
 
     /// An error if a symbol is not one of this file.
@@ -233,10 +274,18 @@ impl FileBuilder {
 
     /// Writes a record, if there is room for it.
     fn write(&mut self, record: Record) -> Result<(), BuildError> {
-        if self.bytes.len() >= FILE_BYTES {
+        self.write_dated(Dated::old(record))
+    }
+
+    /// The same with the days that stand beside it in the new form.
+    fn write_dated(&mut self, dated: Dated) -> Result<(), BuildError> {
+        if self.bytes.len() >= self.form.file_bytes() {
             return Err(BuildError::Full);
         }
-        self.bytes.extend_from_slice(&record.to_bytes());
+        match self.form {
+            Form::Old => self.bytes.extend_from_slice(&dated.record.to_bytes()),
+            Form::New => self.bytes.extend_from_slice(&dated.to_bytes()),
+        }
         Ok(())
     }
 }
@@ -249,6 +298,14 @@ pub(crate) fn right_clause(rights: &[Literal]) -> Result<(Clause, u8), BuildErro
     };
     let one = rights.iter().all(|right| right.clause == first.clause);
     one.then_some((first.clause, count)).ok_or(BuildError::TwoClauses)
+}
+
+/// An error unless the first day is not after the last.
+fn in_order([first, last]: [u16; 2]) -> Result<(), BuildError> {
+    if first > last {
+        return Err(BuildError::Days { first, last });
+    }
+    Ok(())
 }
 
 /// Adds to a list and returns the place; no list has more entries than a file has records.

@@ -40,6 +40,9 @@
 //! Both can go on from a file that is there already ([`FileBuilder::from_bytes`], [`RunningBuilder::from_bytes`]): a planner
 //! that is handed a rulebook and a trip merged into one file appends its steps to that.
 //!
+//! Both write files of the old form unless they are told otherwise ([`FileBuilder::with_form`]). In the new form, of 20 bytes a
+//! record, the days of an input clause stand beside it.
+//!
 //! Neither is proved, and neither need be trusted: whether a file is a proof is the check's to say.
 
 #![forbid(unsafe_code)]
@@ -62,4 +65,4 @@ pub use file::FileBuilder;
 pub use handles::{neg, pos, Clause, Literal, Row, Signed, Symbol};
 pub use running::RunningBuilder;
 pub use standing::{Derived, Expression, Standing, Value};
-pub use yestrwyn_types::{limits, record, Reason};
+pub use yestrwyn_types::{limits, record, Form, Reason};

@@ -6,7 +6,7 @@ use std::collections::HashMap;
 use std::ops::RangeInclusive;
 
 use yestrwyn_types::limits::{INDEX, LITERALS};
-use yestrwyn_types::Reason;
+use yestrwyn_types::{Form, Reason};
 
 use crate::days::{accepted, Windows};
 use crate::derivation::{At, Derivation, Occurrence, Origin};
@@ -50,9 +50,19 @@ pub struct RunningBuilder {
 }
 
 impl RunningBuilder {
-    /// An empty file.
+    /// An empty file of the old form.
     pub fn new() -> RunningBuilder {
         RunningBuilder::default()
+    }
+
+    /// An empty file of either form, as [`FileBuilder::with_form`] makes it.
+    pub fn with_form(form: Form) -> RunningBuilder {
+        RunningBuilder { file: FileBuilder::with_form(form), ..RunningBuilder::default() }
+    }
+
+    /// The form of the file.
+    pub fn form(&self) -> Form {
+        self.file.form()
     }
 
     /// The bytes of the file.
@@ -155,11 +165,13 @@ impl RunningBuilder {
         format!("{}{term}", if standing.positive { '+' } else { '-' })
     }
 
-    /// Puts up the input clause of a record that was written.
-    fn written_input(&mut self, literals: &[Signed]) {
+    /// Puts up the input clause of a record that was written, and gives its number.
+    fn written_input(&mut self, literals: &[Signed]) -> u16 {
+        let number = u16::try_from(self.clauses.len()).unwrap_or(u16::MAX);
         let first = |row: Row| At { row: row.number(), index: 1 };
         let occurrence = |signed: &Signed| Occurrence { positive: signed.positive, atom: first(signed.atom) };
         self.clauses.push(Derivation::input(literals.iter().map(occurrence).collect()));
+        number
     }
 
     /// The bindings in a clause.

@@ -222,7 +222,7 @@ fn errors_say_what_is_wrong() {
         (ReadError::Length(15).to_string(), "a file of 15 bytes, over 65536 or not a multiple of 16"),
         (
             ReadError::Record { record: 7, reason: Reason::Kind }.to_string(),
-            "record 7 is refused with 3: the kind is not 1 to 8",
+            "record 7 is refused with 3: the kind is not 1 to 8, or is 8 in the new form",
         ),
         (
             BuildError::NoClause { number: 9, clauses: 3 }.to_string(),

@@ -2,12 +2,13 @@
 
 mod pages;
 
-use pages::{cells, hexadecimal, indented, section, stored, text};
+use pages::{cells, hexadecimal, hexadecimal_line, indented, section, stored, text};
+use yestrwyn_second::to_new;
 use yestrwyn_types::limits::{
-    ARITY, BINDINGS, BINDING_CELLS, CLAUSE_CELLS, FILE_BYTES, INDEX, INPUT_LITERALS, LITERALS, OUTLINE_PAIRS,
-    READOUT_OCCURRENCES, RECORDS, RIGHT_LITERALS, ROW_CELLS, SYMBOL_CELLS, VARIABLES, WORK,
+    ARITY, BINDINGS, BINDING_CELLS, CLAUSE_CELLS, INDEX, INPUT_LITERALS, LITERALS, OUTLINE_PAIRS,
+    READOUT_OCCURRENCES, RIGHT_LITERALS, ROW_CELLS, SYMBOL_CELLS, VARIABLES, WORK,
 };
-use yestrwyn_types::Reason;
+use yestrwyn_types::{Form, Reason};
 
 /// A number with a comma before its last three digits, if it has more.
 fn written(number: usize) -> String {
@@ -45,6 +46,16 @@ fn the_days_are_those_of_the_stored_file() {
 }
 
 #[test]
+fn the_new_form_is_that_of_the_stored_file() {
+    let guide = text("docs/FORMAT.md");
+    let told: Vec<(&str, &str)> =
+        cells(section(&guide, "Days beside the clause")).filter(|row| row.1.starts_with('`')).collect();
+    let season = to_new(&stored("examples/season.proof")).expect("it is written");
+    let lines: Vec<String> = season.chunks(20).map(hexadecimal_line).collect();
+    assert_eq!(told, [("16", lines[16].as_str()), ("18", &lines[18])]);
+}
+
+#[test]
 fn the_readout_of_the_worked_example_is_quoted() {
     let quoted = indented(&text("examples/permit.txt"));
     assert!(section(&text("docs/FORMAT.md"), "Verdict and readout").contains(&quoted));
@@ -63,7 +74,8 @@ fn every_refusal_has_its_line() {
 fn the_limits_are_those_of_the_check() {
     let guide = text("docs/FORMAT.md");
     let told: Vec<&str> = cells(section(&guide, "Limits")).map(|row| row.1).skip(1).collect();
-    let bytes = format!("{} bytes, {} records", written(FILE_BYTES), written(RECORDS));
+    let length =
+        |form: Form| format!("{} bytes, {} records", written(form.file_bytes()), written(form.records()));
     let others = [
         usize::from(ARITY),
         VARIABLES - 1,
@@ -76,7 +88,7 @@ fn the_limits_are_those_of_the_check() {
         BINDINGS,
         READOUT_OCCURRENCES,
     ];
-    let right: Vec<String> = std::iter::once(bytes).chain(others.map(written)).collect();
+    let right: Vec<String> = Form::ALL.map(length).into_iter().chain(others.map(written)).collect();
     assert_eq!(told, right);
 }
 

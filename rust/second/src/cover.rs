@@ -6,7 +6,7 @@
 //! of the second by itself; the matches go together if any two of them do, which is looked at beforehand.
 
 use yestrwyn_types::limits::{INPUT_LITERALS, VARIABLES};
-use yestrwyn_types::{Cells, Covering, Tables, Verdict};
+use yestrwyn_types::{Cells, Covering, Form, Tables, Verdict};
 
 use crate::check::check_tables;
 use crate::checker::Checker;
@@ -26,7 +26,7 @@ pub fn covers(file: &[u8], c: u16, d: u16) -> Covering {
 /// The same, which leaves the tables as the check of the file does.
 pub fn covers_into(file: &[u8], c: u16, d: u16, tables: &mut Tables<'_>) -> Covering {
     // Whether a file stands does not depend on the day, so any will do.
-    match check_tables(0, file, tables, &mut Vec::new()) {
+    match check_tables(Form::Old, 0, file, tables, &mut Vec::new()) {
         (answer, Some(checker)) if !matches!(answer.verdict, Verdict::Refused { .. }) => {
             compare(&checker, c, d)
         }

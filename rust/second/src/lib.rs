@@ -4,7 +4,8 @@
 //! [`check()`] answers whether every record stands and whether some clause is empty that is made of
 //! rules in force on a day, and fills four tables; [`readout()`] writes every clause in plain symbols, and
 //! [`canonical_readout()`] does with the variables of each line numbered by first appearance; [`covers()`] answers
-//! whether one input clause covers another; [`merge()`] makes one file of two; [`board`] says which empty clause stands
+//! whether one input clause covers another; [`merge()`] makes one file of two; [`to_new()`] and [`to_old()`] write a file of one
+//! form in the other, and [`check_form()`] checks a file of either; [`board`] says which empty clause stands
 //! while input clauses are withdrawn and returned. Derived clauses are never written out: a clause is its parents and the
 //! bindings that its own unification added.
 
@@ -14,6 +15,7 @@ pub mod board;
 pub mod check;
 pub mod checker;
 pub mod clause;
+pub mod convert;
 pub mod cover;
 pub mod days;
 pub mod earliest;
@@ -27,7 +29,8 @@ pub mod program;
 pub mod readout;
 pub mod unify;
 
-pub use check::{check, check_counting, check_into, StepWork};
+pub use check::{check, check_counting, check_form, check_form_into, check_into, StepWork};
+pub use convert::{to_new, to_new_into, to_old, to_old_into};
 pub use cover::{covers, covers_into};
 pub use merge::{merge, merge_into};
 pub use readout::{canonical_readout, canonical_readout_into, write_canonical_readout};

@@ -3,7 +3,7 @@
 
 use yestrwyn_types::limits::{FILE_BYTES, RECORDS, RECORD_BYTES};
 use yestrwyn_types::record::{kind, read, Record};
-use yestrwyn_types::{Cells, MergeRefusal, Merged, Reason, Tables, Verdict};
+use yestrwyn_types::{Cells, Form, MergeRefusal, Merged, Reason, Tables, Verdict};
 
 use crate::check::check_tables;
 use crate::checker::Checker;
@@ -56,7 +56,7 @@ fn merged(
 /// What stands of a file, all of which must.
 fn standing(bytes: &[u8], file: u16, tables: &mut Tables<'_>) -> Result<Checker, MergeRefusal> {
     // Whether a file stands does not depend on the day, so any will do.
-    let (answer, checker) = check_tables(0, bytes, tables, &mut Vec::new());
+    let (answer, checker) = check_tables(Form::Old, 0, bytes, tables, &mut Vec::new());
     match (answer.verdict, checker) {
         (Verdict::Refused { reason, record }, _) => Err(MergeRefusal { reason, file, record }),
         (_, checker) => Ok(checker.unwrap_or_default()),

@@ -3,7 +3,7 @@
 use std::io::{self, Write};
 
 use yestrwyn_types::limits::READOUT_OCCURRENCES;
-use yestrwyn_types::{Answer, Cells, Tables};
+use yestrwyn_types::{Answer, Cells, Form, Tables};
 
 use crate::check::check_tables;
 use crate::checker::Checker;
@@ -67,7 +67,7 @@ fn by_lines<N: Naming>(
     tables: &mut Tables<'_>,
     out: &mut impl Write,
 ) -> io::Result<Answer> {
-    let (answer, checker) = check_tables(day, file, tables, &mut Vec::new());
+    let (answer, checker) = check_tables(Form::Old, day, file, tables, &mut Vec::new());
     let (mut text, mut naming) = (Vec::new(), N::default());
     first_line(&mut text, &answer);
     out.write_all(&text)?;

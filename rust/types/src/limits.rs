@@ -7,6 +7,13 @@ pub const RECORDS: usize = 4096;
 /// Bytes that a file may hold.
 pub const FILE_BYTES: usize = RECORDS * RECORD_BYTES;
 
+/// Bytes of one record of the new form.
+pub const NEW_RECORD_BYTES: usize = 20;
+/// Records that a file of the new form may hold: as many as have room in 65,536 bytes.
+pub const NEW_RECORDS: usize = FILE_BYTES / NEW_RECORD_BYTES;
+/// Bytes that a file of the new form may hold.
+pub const NEW_FILE_BYTES: usize = NEW_RECORDS * NEW_RECORD_BYTES;
+
 /// Largest arity of a symbol, and most arguments of an application.
 pub const ARITY: u8 = 6;
 /// Variable numbers run from 0 to one below this.

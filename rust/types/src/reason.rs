@@ -1,20 +1,21 @@
-//! Why a file, a question about it, a merge of two files or a call of a board is refused.
+//! Why a file, a question about it, a merge of two files, a conversion or a call of a board is refused.
 
 use std::error::Error;
 use std::fmt;
 
-/// Why a file, a question about it, a merge of two files or a call of a board is refused. The format may get further numbers, so
-/// a match needs a last arm; treat what it catches as a refusal too.
+/// Why a file, a question about it, a merge of two files, a conversion or a call of a board is refused. The format may get further
+/// numbers, so a match needs a last arm; treat what it catches as a refusal too.
 #[non_exhaustive]
 #[derive(Clone, Copy, PartialEq, Eq, Hash, Debug)]
 pub enum Reason {
-    /// Length over 65,536 or not a multiple of 16.
+    /// Length over 65,536 or not a multiple of 16; in the new form over 65,520 or not a multiple of 20.
     Length,
     /// A lent table or board is too short, or the output that a file is to be written to.
     Table,
-    /// Kind not 1 to 8.
+    /// Kind not 1 to 8; in the new form not 1 to 7.
     Kind,
-    /// Byte 1 or a variable number out of its range, or an unused field not zero.
+    /// Byte 1 or a variable number out of its range, or an unused field not zero; in the new form also days that are not zero
+    /// beside a record that is no input clause.
     Range,
     /// A symbol, row, clause or literal that does not exist, an argument count that is not the arity, or days for a clause
     /// that is not an input clause.
@@ -41,7 +42,7 @@ pub enum Reason {
     /// Two clauses are not compared: the file does not stand, or one of them is not an input clause of it. No check gives
     /// this, only the question whether one clause covers another.
     NoComparison,
-    /// The first day is after the last, of a clause that is given its days. This comes after 5.
+    /// The first day is after the last, of a clause that is given its days. This comes after 5, and in the new form before 7.
     Crossed,
     /// One of two files that are to be merged holds a step. No check gives this and the next two, only a merge.
     MergedStep,
@@ -55,12 +56,15 @@ pub enum Reason {
     NotAnInput,
     /// The clause is in that condition already: withdrawn where it is to be withdrawn, present where it is to be returned.
     Already,
+    /// A file is to be converted to the other form and would have too many records there: over 3,276 in the new form, over 4,096
+    /// in the old. No check gives this, only a conversion.
+    ConvertedLength,
     /// A number that this version does not know: a refusal all the same.
     Other(u16),
 }
 
 /// The reasons that have a name, from number 1 on.
-const NAMED: [Reason; 21] = [
+const NAMED: [Reason; 22] = [
     Reason::Length,
     Reason::Table,
     Reason::Kind,
@@ -82,6 +86,7 @@ const NAMED: [Reason; 21] = [
     Reason::MergedLength,
     Reason::NotAnInput,
     Reason::Already,
+    Reason::ConvertedLength,
 ];
 
 impl Reason {
@@ -109,6 +114,7 @@ impl Reason {
             Reason::MergedLength => 19,
             Reason::NotAnInput => 20,
             Reason::Already => 21,
+            Reason::ConvertedLength => 22,
             Reason::Other(number) => number,
         }
     }
@@ -123,11 +129,13 @@ impl Reason {
 impl fmt::Display for Reason {
     fn fmt(&self, out: &mut fmt::Formatter<'_>) -> fmt::Result {
         out.write_str(match self {
-            Reason::Length => "the length is over 65,536 bytes or not a multiple of 16",
+            Reason::Length => {
+                "the length is over 65,536 bytes or not a multiple of 16, or in the new form over 65,520 or not of 20"
+            }
             Reason::Table => "a lent table, board or output is too short",
-            Reason::Kind => "the kind is not 1 to 8",
+            Reason::Kind => "the kind is not 1 to 8, or is 8 in the new form",
             Reason::Range => {
-                "byte 1 or the variable number is out of its range, or an unused field is not zero"
+                "byte 1 or the variable number is out of its range, or an unused field or day is not zero"
             }
             Reason::Missing => {
                 "a symbol, row, clause or literal does not exist, the number of arguments is not the arity, or a \
@@ -149,6 +157,7 @@ impl fmt::Display for Reason {
             Reason::MergedLength => "the merged file would have over 4,096 records",
             Reason::NotAnInput => "there is no input clause of that number",
             Reason::Already => "the clause is in that condition already",
+            Reason::ConvertedLength => "the converted file would have too many records for its form",
             Reason::Other(number) => return write!(out, "reason {number}"),
         })
     }

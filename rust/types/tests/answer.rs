@@ -3,8 +3,8 @@
 use std::error::Error;
 
 use yestrwyn_types::{
-    Answer, BoardAnswer, BoardRefusal, Cells, ClauseState, Covering, MergeRefusal, Merged, Outcome, Reason,
-    Tables, Verdict, LENGTHS,
+    Answer, BoardAnswer, BoardRefusal, Cells, ClauseState, ConversionRefusal, Converted, Covering,
+    MergeRefusal, Merged, Outcome, Reason, Tables, Verdict, LENGTHS,
 };
 
 #[test]
@@ -12,7 +12,7 @@ fn reasons_are_their_numbers() {
     for number in 0..100 {
         let reason = Reason::from_number(number);
         assert_eq!(reason.number(), number);
-        assert_eq!(matches!(reason, Reason::Other(_)), !(1..=21).contains(&number), "{reason:?}");
+        assert_eq!(matches!(reason, Reason::Other(_)), !(1..=22).contains(&number), "{reason:?}");
     }
     assert_eq!(Reason::Clash.to_string(), "two different symbols meet");
     assert_eq!(Reason::Order.to_string(), "the right literals of the step do not strictly rise");
@@ -26,7 +26,10 @@ fn reasons_are_their_numbers() {
     assert_eq!([Reason::NotAnInput, Reason::Already].map(Reason::number), [20, 21]);
     assert_eq!(Reason::NotAnInput.to_string(), "there is no input clause of that number");
     assert_eq!(Reason::Already.to_string(), "the clause is in that condition already");
-    assert_eq!(Reason::Other(22).to_string(), "reason 22");
+    assert_eq!(Reason::ConvertedLength.number(), 22);
+    let too_many = "the converted file would have too many records for its form";
+    assert_eq!(Reason::ConvertedLength.to_string(), too_many);
+    assert_eq!(Reason::Other(23).to_string(), "reason 23");
 }
 
 #[test]
@@ -74,6 +77,31 @@ fn merges_are_their_numbers() {
         [symbols, short].map(|refusal| refusal.to_string()),
         ["file 2: refused 18 at 4095", "refused 2"]
     );
+}
+
+#[test]
+fn conversions_are_their_numbers() {
+    let own = ConversionRefusal::of_the_file(Reason::Crossed, 3275);
+    let [short, many] = [Reason::Table, Reason::ConvertedLength].map(ConversionRefusal::of_the_result);
+    let conversions = [
+        (Converted::Written { length: 65_520 }, [0, 65_520, 0, 0]),
+        (Converted::Written { length: 0 }, [0; 4]),
+        (Converted::Refused(own), [2, 16, 1, 3275]),
+        (Converted::Refused(short), [2, 2, 0, 0]),
+        (Converted::Refused(many), [2, 22, 0, 0]),
+    ];
+    for (converted, numbers) in conversions {
+        assert_eq!((converted.numbers(), Converted::from_numbers(numbers)), (numbers, converted));
+    }
+    assert_eq!(
+        [Converted::Written { length: 48 }, Converted::Refused(own)].map(Converted::length),
+        [Some(48), None]
+    );
+    // Nothing that is not said to be written is taken for it, and no number is cut to another.
+    let odd = ConversionRefusal { reason: Reason::Other(65_535), file: 65_535, record: 65_535 };
+    assert_eq!(Converted::from_numbers([1, 65_536 + 22, 65_537, 65_536]), Converted::Refused(odd));
+    assert_eq!([own, many].map(|refusal| refusal.to_string()), ["refused 16 at 3275", "refused 22"]);
+    assert_eq!(many.source().map(ToString::to_string), Some(Reason::ConvertedLength.to_string()));
 }
 
 #[test]

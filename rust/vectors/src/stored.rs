@@ -4,7 +4,7 @@
 use std::fmt::Write;
 use std::path::{Path, PathBuf};
 
-use yestrwyn_types::limits::RECORD_BYTES;
+use yestrwyn_types::{Cells, Form};
 
 use crate::clashing::{clashing_file, clashing_several_file};
 use crate::dated::dated_file;
@@ -187,7 +187,7 @@ pub fn describe(text: &mut String, name: &str, outcome: &Outcome) {
             line(text, table, &joined(used.iter().copied()));
         }
     }
-    line(text, "hashes", &hashes(outcome));
+    line(text, "hashes", &hashes(&outcome.cells));
     let works: Vec<String> =
         outcome.works.iter().map(|step| format!("{}:{}", step.record, step.work)).collect();
     if works.len() <= WORKS_IN_FULL {
@@ -209,11 +209,16 @@ pub fn readout_lines(text: &mut String, word: &str, readout: &[u8]) {
     }
 }
 
-/// The lines of a file that is in no pack: its length and hash, and its records if there are few.
+/// The lines of a file of the old form that is in no pack: its length and hash, and its records if there are few.
 pub fn file_lines(text: &mut String, word: &str, file: &[u8]) {
+    form_lines(text, word, Form::Old, file);
+}
+
+/// The same of a file of either form.
+pub fn form_lines(text: &mut String, word: &str, form: Form, file: &[u8]) {
     line(text, word, &length_and_hash(file));
-    if file.len() <= RECORDS_IN_FULL * RECORD_BYTES {
-        for record in file.chunks(RECORD_BYTES) {
+    if file.len() <= RECORDS_IN_FULL * form.record_bytes() {
+        for record in file.chunks(form.record_bytes()) {
             let digits: String = record.iter().map(|byte| format!("{byte:02x}")).collect();
             line(text, "|", &digits);
         }
@@ -229,15 +234,16 @@ pub fn listing(groups: &[Group]) -> String {
             let outcome = outcome_on(example.day, &example.file);
             let answer = joined(outcome.answer.numbers());
             let readouts = [&outcome.readout, &outcome.canonical].map(|text| length_and_hash(text)).join(" ");
-            line(&mut text, &place.to_string(), &format!("{answer} {} {readouts}", hashes(&outcome)));
+            line(&mut text, &place.to_string(), &format!("{answer} {} {readouts}", hashes(&outcome.cells)));
         }
     }
     text
 }
 
 /// The hash of each table, in hexadecimal digits.
-fn hashes(outcome: &Outcome) -> String {
-    let hashes = outcome.tables().map(|cells| hash(cells.iter().flat_map(|cell| cell.to_le_bytes())));
+pub fn hashes(Cells { symbols, rows, clauses, bindings }: &Cells) -> String {
+    let hashes = [symbols, rows, clauses, bindings]
+        .map(|cells| hash(cells.iter().flat_map(|cell| cell.to_le_bytes())));
     hashes.map(|hash| format!("{hash:016x}")).join(" ")
 }
 
@@ -254,7 +260,7 @@ pub fn line(text: &mut String, word: &str, rest: &dyn std::fmt::Display) {
 }
 
 /// Numbers with blanks between them.
-fn joined(numbers: impl IntoIterator<Item = u16>) -> String {
+pub fn joined<T: ToString>(numbers: impl IntoIterator<Item = T>) -> String {
     let written: Vec<String> = numbers.into_iter().map(|number| number.to_string()).collect();
     written.join(" ")
 }

@@ -1,15 +1,15 @@
 //! A file that is there already, read so that a builder goes on from it.
 
-use yestrwyn_types::limits::{ARITY, FILE_BYTES, INPUT_LITERALS, RECORD_BYTES, RIGHT_LITERALS, VARIABLES};
-use yestrwyn_types::record::{kind, read, Record};
-use yestrwyn_types::Reason;
+use yestrwyn_types::limits::{ARITY, INPUT_LITERALS, RIGHT_LITERALS, VARIABLES};
+use yestrwyn_types::record::{kind, Record};
+use yestrwyn_types::{Dated, Form, Reason};
 
-use super::{next, FileBuilder, Written};
+use super::{in_order, FileBuilder};
 use crate::error::{BuildError, ReadError};
 use crate::handles::{Clause, Literal, Row, Signed, Symbol};
 
 impl FileBuilder {
-    /// Reads a file, to go on from it: for example one that was merged of a rulebook and the facts of a trip, to which a
+    /// Reads a file of the old form, to go on from it: for example one that was merged of a rulebook and the facts of a trip, to which a
     /// planner adds its steps. What it has is named by its numbers, and everything that is added comes after it.
     ///
     /// Of each record is tested what this builder tests of those that it writes. Whether a step stands is not:
@@ -32,8 +32,14 @@ impl FileBuilder {
     /// # Ok::<(), Box<dyn Error>>(())
     /// ```
     pub fn from_bytes(bytes: &[u8]) -> Result<FileBuilder, ReadError> {
-        let mut file = FileBuilder::new();
-        each_record(bytes, |record| file.read(record))?;
+        FileBuilder::from_bytes_form(Form::Old, bytes)
+    }
+
+    /// Reads a file of either form, to go on from it in the same form. In the new form
+    /// [`in_force`](FileBuilder::in_force) writes over the days that stand beside a clause; all other bytes stay as they are.
+    pub fn from_bytes_form(form: Form, bytes: &[u8]) -> Result<FileBuilder, ReadError> {
+        let mut file = FileBuilder::with_form(form);
+        each_record(form, bytes, |dated| file.read(dated))?;
         Ok(file)
     }
 
@@ -57,12 +63,13 @@ impl FileBuilder {
     }
 
     /// Reads the next record, which is written as it is, or says for which reason it is not.
-    pub(crate) fn read(&mut self, record: &Record) -> Result<(), Reason> {
-        well_formed(record)?;
+    pub(crate) fn read(&mut self, dated: &Dated) -> Result<(), Reason> {
+        well_formed(self.form, dated)?;
+        let record = &dated.record;
         let read = match record.kind {
             kind::SYMBOL => self.symbol(record.count).map(drop),
             kind::VARIABLE | kind::APPLICATION => self.read_row(record),
-            kind::INPUT => self.read_input(record).map(drop),
+            kind::INPUT => self.read_input(dated).map(drop),
             kind::WINDOW => self.in_force(Clause(record.fields[0]), record.fields[1]..=record.fields[2]),
             _ => self.read_step(record).map(drop),
         };
@@ -87,15 +94,15 @@ impl FileBuilder {
     }
 
     /// An input clause.
-    fn read_input(&mut self, record: &Record) -> Result<Clause, BuildError> {
-        let atoms = self.literals_of(record)?;
+    fn read_input(&mut self, dated: &Dated) -> Result<Clause, BuildError> {
+        let atoms = self.literals_of(&dated.record)?;
+        in_order(dated.days)?;
         let is_variable =
             |signed: &Signed| self.record(signed.atom).map(|row| row.kind) == Ok(kind::VARIABLE);
         if atoms.iter().any(is_variable) {
             return Err(BuildError::VariableLiteral);
         }
-        self.write(*record)?;
-        Ok(Clause(next(&mut self.clauses, Written { literals: record.count.into(), input: true })))
+        self.input(*dated)
     }
 
     /// The literals of the record of an input clause, on the earliest rows.
@@ -138,20 +145,25 @@ impl Step {
 
 /// Gives every record of a file to a reader, up to the first that it refuses.
 pub(crate) fn each_record(
+    form: Form,
     bytes: &[u8],
-    mut reader: impl FnMut(&Record) -> Result<(), Reason>,
+    mut reader: impl FnMut(&Dated) -> Result<(), Reason>,
 ) -> Result<(), ReadError> {
-    if bytes.len() > FILE_BYTES || !bytes.len().is_multiple_of(RECORD_BYTES) {
-        return Err(ReadError::Length(bytes.len()));
+    if !form.fits(bytes.len()) {
+        return Err(match form {
+            Form::Old => ReadError::Length(bytes.len()),
+            Form::New => ReadError::NewLength(bytes.len()),
+        });
     }
-    for (number, record) in (0..).map_while(|number| Some((number, read(bytes, number)?))) {
-        reader(&record).map_err(|reason| ReadError::Record { record: number, reason })?;
+    for (number, dated) in (0..).map_while(|number| Some((number, form.read(bytes, number)?))) {
+        reader(&dated).map_err(|reason| ReadError::Record { record: number, reason })?;
     }
     Ok(())
 }
 
 /// The tests of a record by its own bytes: its kind, its ranges, and zeros in what it does not use.
-pub(crate) fn well_formed(record: &Record) -> Result<(), Reason> {
+pub(crate) fn well_formed(form: Form, dated: &Dated) -> Result<(), Reason> {
+    let record = &dated.record;
     let count = usize::from(record.count);
     let (in_range, used) = match record.kind {
         kind::SYMBOL => (record.count <= ARITY, 0),
@@ -159,11 +171,13 @@ pub(crate) fn well_formed(record: &Record) -> Result<(), Reason> {
         kind::APPLICATION => (record.count <= ARITY, 1 + count),
         kind::INPUT => (record.count <= INPUT_LITERALS, count),
         kind::RESOLVE => (record.count == 0, 4),
+        kind::WINDOW if form == Form::New => return Err(Reason::Kind),
         kind::FACTOR | kind::WINDOW => (record.count == 0, 3),
         kind::RESOLVE_SEVERAL => ((1..=RIGHT_LITERALS).contains(&record.count), 3 + count),
         _ => return Err(Reason::Kind),
     };
-    (in_range && record.zero_from(used)).then_some(()).ok_or(Reason::Range)
+    let no_days = record.kind == kind::INPUT || dated.no_days();
+    (in_range && no_days && record.zero_from(used)).then_some(()).ok_or(Reason::Range)
 }
 
 /// The reason that the check gives for what a builder does not write, where the record is well formed.

@@ -1,7 +1,7 @@
 //! A file that is there already, read and run so that a builder goes on from it.
 
 use yestrwyn_types::record::{kind, Record};
-use yestrwyn_types::Reason;
+use yestrwyn_types::{Dated, Form, Reason};
 
 use super::RunningBuilder;
 use crate::error::{BuildError, ReadError};
@@ -10,7 +10,7 @@ use crate::handles::{Clause, Row, Symbol};
 use crate::standing::Derived;
 
 impl RunningBuilder {
-    /// Reads a file, to go on from it, and runs every step of it. It is read if and only if it stands.
+    /// Reads a file of the old form, to go on from it, and runs every step of it. It is read if and only if it stands.
     ///
     /// ```
     /// # use std::error::Error;
@@ -28,8 +28,13 @@ impl RunningBuilder {
     /// # Ok::<(), Box<dyn Error>>(())
     /// ```
     pub fn from_bytes(bytes: &[u8]) -> Result<RunningBuilder, ReadError> {
-        let mut running = RunningBuilder::new();
-        each_record(bytes, |record| running.read(record))?;
+        RunningBuilder::from_bytes_form(Form::Old, bytes)
+    }
+
+    /// The same for a file of either form, which keeps its form.
+    pub fn from_bytes_form(form: Form, bytes: &[u8]) -> Result<RunningBuilder, ReadError> {
+        let mut running = RunningBuilder::with_form(form);
+        each_record(form, bytes, |dated| running.read(dated))?;
         Ok(running)
     }
 
@@ -49,17 +54,19 @@ impl RunningBuilder {
     }
 
     /// Reads the next record, which is written as it is, or says for which reason it is not.
-    fn read(&mut self, record: &Record) -> Result<(), Reason> {
+    fn read(&mut self, dated: &Dated) -> Result<(), Reason> {
+        let record = &dated.record;
         if matches!(record.kind, kind::RESOLVE | kind::FACTOR | kind::RESOLVE_SEVERAL) {
-            well_formed(record)?;
+            well_formed(self.form(), dated)?;
             return self.read_step(record).map(drop).map_err(reason);
         }
-        self.file.read(record)?;
+        self.file.read(dated)?;
         let [clause, first, last, ..] = record.fields;
         match record.kind {
             kind::INPUT => {
                 let literals = self.file.literals_of(record).map_err(reason)?;
-                self.written_input(&literals);
+                let (clause, [first, last]) = (self.written_input(&literals), dated.days);
+                self.windows.insert(clause, first..=last);
             }
             kind::WINDOW => drop(self.windows.insert(clause, first..=last)),
             _ => {}

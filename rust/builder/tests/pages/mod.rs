@@ -31,8 +31,13 @@ pub fn cells(page: &str) -> impl Iterator<Item = (&str, &str)> {
 
 /// A stored file's bytes as a page writes them, one line for each record.
 pub fn hexadecimal(file: &[u8]) -> Vec<String> {
-    let line = |record: &[u8]| record.iter().map(|byte| format!("{byte:02x}")).collect::<Vec<_>>().join(" ");
-    file.chunks(16).map(|record| format!("`{}`", line(record))).collect()
+    file.chunks(16).map(hexadecimal_line).collect()
+}
+
+/// The same of one record.
+pub fn hexadecimal_line(record: &[u8]) -> String {
+    let digits: Vec<String> = record.iter().map(|byte| format!("{byte:02x}")).collect();
+    format!("`{}`", digits.join(" "))
 }
 
 /// Text as an indented block of a page.

@@ -7,7 +7,7 @@
 
 use yestrwyn_types::limits::{BOARD_CELLS, RECORDS, RECORD_BYTES};
 use yestrwyn_types::record::{kind, part};
-use yestrwyn_types::{BoardAnswer, BoardRefusal, ClauseState, Reason, Tables, Verdict};
+use yestrwyn_types::{BoardAnswer, BoardRefusal, ClauseState, Form, Reason, Tables, Verdict};
 
 use crate::check::check_tables;
 use crate::checker::Checker;
@@ -21,7 +21,7 @@ const CLAUSE: usize = 5;
 /// left alone, and all of it if the file is refused.
 pub fn open(day: u16, file: &[u8], tables: &mut Tables<'_>, board: &mut [u16]) -> BoardAnswer {
     let Some(cells) = board.get_mut(..BOARD_CELLS) else { return refused(Reason::Table) };
-    let (answer, checker) = check_tables(day, file, tables, &mut Vec::new());
+    let (answer, checker) = check_tables(Form::Old, day, file, tables, &mut Vec::new());
     if let Verdict::Refused { reason, record } = answer.verdict {
         return BoardAnswer::Refused(BoardRefusal { reason, record });
     }

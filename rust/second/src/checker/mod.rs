@@ -4,7 +4,7 @@ mod steps;
 
 use yestrwyn_types::limits::{ARITY, INPUT_LITERALS, RECORDS, RECORD_BYTES, VARIABLES};
 use yestrwyn_types::record::{kind, Record};
-use yestrwyn_types::{Answer, Reason, Verdict};
+use yestrwyn_types::{Answer, Dated, Reason, Verdict};
 
 use crate::clause::{Clause, Loader, Origin};
 use crate::days::{first_empty, in_force, Window};
@@ -48,24 +48,30 @@ impl Checker {
         Checker::default()
     }
 
-    /// Reads the next record. If it is refused, everything stays as the records before it left it.
+    /// Reads the next record, of the old form. If it is refused, everything stays as the records before it left it.
     /// Past 4,096 records each one more is refused as a file that is too long would be.
     pub fn record(&mut self, bytes: &[u8; RECORD_BYTES]) -> Result<(), Reason> {
+        self.dated(&Dated::old(Record::from_bytes(bytes)))
+    }
+
+    /// The same for a record with its days beside it, whichever form they come from.
+    pub fn dated(&mut self, dated: &Dated) -> Result<(), Reason> {
         self.work = None;
         if usize::from(self.records) >= RECORDS {
             return Err(Reason::Length);
         }
-        let record = Record::from_bytes(bytes);
+        let Dated { record, days } = dated;
+        require((kind::SYMBOL..=kind::WINDOW).contains(&record.kind), Reason::Kind)?;
+        require(record.kind == kind::INPUT || dated.no_days(), Reason::Range)?;
         match record.kind {
-            kind::SYMBOL => self.symbol(&record),
-            kind::VARIABLE => self.variable(&record),
-            kind::APPLICATION => self.application(&record),
-            kind::INPUT => self.input(&record),
-            kind::RESOLVE => self.resolve(&record),
-            kind::FACTOR => self.factor(&record),
-            kind::RESOLVE_SEVERAL => self.resolve_several(&record),
-            kind::WINDOW => self.window(&record),
-            _ => Err(Reason::Kind),
+            kind::SYMBOL => self.symbol(record),
+            kind::VARIABLE => self.variable(record),
+            kind::APPLICATION => self.application(record),
+            kind::INPUT => self.input(record, *days),
+            kind::RESOLVE => self.resolve(record),
+            kind::FACTOR => self.factor(record),
+            kind::RESOLVE_SEVERAL => self.resolve_several(record),
+            _ => self.window(record),
         }?;
         self.records += 1;
         Ok(())
@@ -95,6 +101,11 @@ impl Checker {
     /// The clauses that stand.
     pub fn clauses(&self) -> &[Clause] {
         &self.clauses
+    }
+
+    /// For each clause its days; only those of input clauses have a meaning.
+    pub fn windows(&self) -> &[Window] {
+        &self.windows
     }
 
     /// The bindings of all clauses that stand.
@@ -178,18 +189,22 @@ impl Checker {
         self.nodes.push(node);
     }
 
-    /// Kind 4: an input clause, of which each literal is on the earliest row.
-    fn input(&mut self, record: &Record) -> Result<(), Reason> {
+    /// Kind 4: an input clause, of which each literal is on the earliest row, with its days.
+    fn input(&mut self, record: &Record, [first, last]: [u16; 2]) -> Result<(), Reason> {
         let count = usize::from(record.count);
         require(record.count <= INPUT_LITERALS && record.zero_from(count), Reason::Range)?;
         let mut codes = record.fields;
         for code in &mut codes[..count] {
             *code = 2 * self.earliest.of(*code / 2).ok_or(Reason::Missing)? + *code % 2;
         }
+        require(first <= last, Reason::Crossed)?;
         let is_variable =
             |code: &u16| matches!(self.nodes.get(usize::from(code / 2)), Some(Node::Variable(_)));
         require(!codes[..count].iter().any(is_variable), Reason::VariableLiteral)?;
         self.clause(Origin::Input(codes), u16::from(record.count), 1, self.bindings.len());
+        if let Some(window) = self.windows.last_mut() {
+            *window = Window { first, last };
+        }
         Ok(())
     }
 

@@ -27,6 +27,18 @@ impl Reference {
         Ok(())
     }
 
+    /// The days beside the next clause, if its record has 20 bytes.
+    pub(super) fn days_beside(&self, bytes: &[u8]) -> Result<Option<Days>, u16> {
+        if bytes.len() < 20 {
+            return Ok(None);
+        }
+        let [first, last] = [7, 8].map(|number| field(bytes, number));
+        if first > last {
+            return Err(16);
+        }
+        Ok(Some(Days { clause: self.clauses.len(), first, last }))
+    }
+
     /// Is an input clause in force? The last record for it decides, wherever it stands.
     pub fn in_force(&self, clause: usize, day: u16) -> bool {
         let last = self.days.iter().rev().find(|days| days.clause == clause);

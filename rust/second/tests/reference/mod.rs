@@ -68,14 +68,23 @@ impl Reference {
         Reference { only_unify: true, ..Reference::default() }.read(file)
     }
 
+    /// Reads a whole file of the new form.
+    pub fn check_new(file: &[u8]) -> Reference {
+        Reference::default().read_records(file, 20, 65_520)
+    }
+
     fn read(self, file: &[u8]) -> Reference {
+        self.read_records(file, 16, 65_536)
+    }
+
+    fn read_records(self, file: &[u8], width: usize, most: usize) -> Reference {
         let mut state = self;
-        if file.len() > 65_536 || !file.len().is_multiple_of(16) {
+        if file.len() > most || !file.len().is_multiple_of(width) {
             state.refusal = Some((1, 0));
             return state;
         }
-        for record in 0..file.len() / 16 {
-            let bytes = &file[16 * record..16 * record + 16];
+        for record in 0..file.len() / width {
+            let bytes = &file[width * record..width * record + width];
             if let Err(reason) = state.record(record as u16, bytes) {
                 state.refusal = Some((reason, record as u16));
                 break;
@@ -84,7 +93,17 @@ impl Reference {
         state
     }
 
+    /// A record of 16 bytes, or of 20 with the days.
     fn record(&mut self, at: u16, bytes: &[u8]) -> Result<(), u16> {
+        if bytes.len() == 20 {
+            let filler = bytes[16..].iter().any(|&byte| byte != 0);
+            match bytes[0] {
+                4 => {}
+                1..=7 if filler => return Err(4),
+                1..=7 => {}
+                _ => return Err(3),
+            }
+        }
         match bytes[0] {
             1 => self.symbol(at, bytes),
             2 | 3 => self.row(at, bytes),
@@ -139,10 +158,12 @@ impl Reference {
         if literals.iter().any(|&(_, row)| usize::from(row) >= self.rows.len()) {
             return Err(5);
         }
+        let days = self.days_beside(bytes)?;
         if literals.iter().any(|&(_, row)| matches!(self.rows[usize::from(row)].1, Row::Variable(_))) {
             return Err(7);
         }
         self.clauses.push(Clause { record: at, max: 1, from: From::Input(literals), own: Vec::new() });
+        self.days.extend(days);
         Ok(())
     }
 

@@ -4,7 +4,7 @@ use std::io::Write;
 use std::{fs, io};
 
 use yestrwyn_vectors::stored::{expected, groups, listing, listing_path, pack_path, results_path};
-use yestrwyn_vectors::{boards, canonical, examples, merges};
+use yestrwyn_vectors::{boards, canonical, examples, forms, merges};
 
 fn main() -> io::Result<()> {
     let mut out = io::stdout().lock();
@@ -27,6 +27,7 @@ fn main() -> io::Result<()> {
     total += write_merges(&mut out)?;
     total += write_boards(&mut out)?;
     total += write_canonical(&mut out)?;
+    total += write_forms(&mut out)?;
     let text = listing(&groups);
     writeln!(out, "printed by cases: {} bytes", text.len())?;
     total += text.len();
@@ -59,5 +60,14 @@ fn write_canonical(out: &mut impl Write) -> io::Result<usize> {
     let text = canonical::expected(&files);
     writeln!(out, "{}: {} files, {} bytes", canonical::GROUP, files.len(), text.len())?;
     fs::write(results_path(canonical::GROUP), &text)?;
+    Ok(text.len())
+}
+
+/// The files of both forms, and how many bytes they are.
+fn write_forms(out: &mut impl Write) -> io::Result<usize> {
+    let files = forms::files();
+    let text = forms::expected(&files);
+    writeln!(out, "{}: {} files, {} bytes", forms::GROUP, files.len(), text.len())?;
+    fs::write(results_path(forms::GROUP), &text)?;
     Ok(text.len())
 }

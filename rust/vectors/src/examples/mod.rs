@@ -7,6 +7,7 @@ pub mod cases;
 pub mod days;
 pub mod deep;
 pub mod edges;
+pub mod forms;
 pub mod group_theory;
 pub mod heavy;
 pub mod kowalski;

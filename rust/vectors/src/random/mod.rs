@@ -4,9 +4,9 @@ mod several;
 
 use yestrwyn_second::checker::Checker;
 use yestrwyn_second::clause::literal;
-use yestrwyn_types::limits::{RECORDS, RECORD_BYTES};
+use yestrwyn_types::limits::RECORDS;
 use yestrwyn_types::record::{kind, Record};
-use yestrwyn_types::Reason;
+use yestrwyn_types::{Form, Reason};
 
 use crate::alone::unification_alone;
 use crate::sketch::Sketch;
@@ -321,21 +321,26 @@ impl Maker {
 }
 
 /// A copy of a file with one or two pieces of damage: altered bytes or fields, records moved,
-/// repeated, dropped or put in, or a length that is no multiple of 16.
+/// repeated, dropped or put in, or a length that is no multiple of a record's.
 pub fn damage(file: &[u8], seed: u64) -> Vec<u8> {
+    damage_form(Form::Old, file, seed)
+}
+
+/// The same for a file of either form.
+pub fn damage_form(form: Form, file: &[u8], seed: u64) -> Vec<u8> {
     let mut random = SplitMix64::new(seed ^ 0x5eed_da3a_6e00_0001);
     let mut bytes = file.to_vec();
     for _ in 0..1 + random.below(4) / 3 {
-        damage_once(&mut bytes, &mut random);
+        damage_once(&mut bytes, form.record_bytes(), &mut random);
     }
     bytes
 }
 
-/// One piece of damage.
-fn damage_once(bytes: &mut Vec<u8>, random: &mut SplitMix64) {
+/// One piece of damage, to a file with records of so many bytes.
+fn damage_once(bytes: &mut Vec<u8>, width: usize, random: &mut SplitMix64) {
     let at = random.below(bytes.len());
-    let record = at / RECORD_BYTES * RECORD_BYTES;
-    let whole = record..(record + RECORD_BYTES).min(bytes.len());
+    let record = at / width * width;
+    let whole = record..(record + width).min(bytes.len());
     match random.below(24) {
         0 => bytes.truncate(at),
         1 => drop(bytes.drain(whole)),
@@ -344,10 +349,10 @@ fn damage_once(bytes: &mut Vec<u8>, random: &mut SplitMix64) {
             bytes.extend_from_slice(&copy);
         }
         4 => {
-            let drawn: Vec<u8> = (0..RECORD_BYTES).map(|_| random.below(256) as u8).collect();
+            let drawn: Vec<u8> = (0..width).map(|_| random.below(256) as u8).collect();
             bytes.splice(record..record, drawn);
         }
-        5 => swap_with_next(bytes, record),
+        5 => swap_with_next(bytes, width, record),
         6..=9 => set(bytes, at, random.below(256) as u8),
         10 => set(bytes, record, random.below(9) as u8),
         11 | 12 => set(bytes, record + 1, random.below(9) as u8),
@@ -355,7 +360,7 @@ fn damage_once(bytes: &mut Vec<u8>, random: &mut SplitMix64) {
             let old = bytes.get(at).copied().unwrap_or(0);
             set(bytes, at, old ^ (1 << random.below(8)));
         }
-        _ => set(bytes, record + 2 + 2 * random.below(7), random.below(12) as u8),
+        _ => set(bytes, record + 2 + 2 * random.below(width / 2 - 1), random.below(12) as u8),
     }
 }
 
@@ -367,10 +372,10 @@ fn set(bytes: &mut [u8], at: usize, value: u8) {
 }
 
 /// Exchanges the record that starts at `record` with the one after it.
-fn swap_with_next(bytes: &mut [u8], record: usize) {
-    for place in record..record + RECORD_BYTES {
-        if place + RECORD_BYTES < bytes.len() {
-            bytes.swap(place, place + RECORD_BYTES);
+fn swap_with_next(bytes: &mut [u8], width: usize, record: usize) {
+    for place in record..record + width {
+        if place + width < bytes.len() {
+            bytes.swap(place, place + width);
         }
     }
 }
