@@ -1,6 +1,7 @@
-// The check of a proof file, its two readouts, which clause covers which, the merge of two files and the board of a file, for C. In the crate exported, `Exported`
+// The check of a proof file, its two readouts, which clause covers which, the merge of two files, the conversions between the forms and the board of a file, for C. In the crate exported, `Exported`
 // says what `checker_check` promises, `ExportedForm` what `checker_check_form` does and `ExportedWith` what `checker_check_with` does; in exported_readout, exported_covers and exported_merge,
-// `ExportedReadout`, `ExportedCanonical`, `ExportedCovers` and `ExportedMerge` say it of `checker_readout`, `checker_canonical_readout`, `checker_covers` and `checker_merge`; and in board_c, `ExportedBoard` of the three
+// `ExportedReadout`, `ExportedCanonical`, `ExportedCovers` and `ExportedMerge` say it of `checker_readout`, `checker_canonical_readout`, `checker_covers` and `checker_merge`; in exported_conversion,
+// `ExportedConversion` of `checker_to_new` and `checker_to_old`; and in board_c, `ExportedBoard` of the three
 // functions of the board. checker.h has their declarations.
 use board_c::open_to_cells;
 use board_c::return_to_cells;
@@ -8,6 +9,8 @@ use board_c::withdraw_to_cells;
 use check_c::check_form_to_cells;
 use check_c::check_to_cells;
 use check_with_c::check_with_to_cells;
+use convert_c::new_to_cells;
+use convert_c::old_to_cells;
 use covers_c::covers_to_cells;
 use following::nodes::Nodes;
 use following::nodes::Origins;
@@ -17,7 +20,7 @@ use readout_c::canonical_to_cells;
 use readout_c::readout_to_cells;
 use record::Form;
 ghost use mathlib.Core.Bool.{true, false};
-ghost use Rattle.record.specs.Record.{oldFile};
+ghost use Rattle.record.specs.Record.{oldFile, newFile};
 ghost use Rattle.entry.specs.Progress.{tablesWith};
 ghost use Rattle.checker.specs.Contract.{workspaceWith};
 ghost use Rattle.exported.specs.Exported.{Exported};
@@ -27,6 +30,7 @@ ghost use Rattle.verdict.specs.Readout.{clauseLine};
 ghost use Rattle.exported_readout.specs.ExportedReadout.{ExportedReadout, ExportedCanonical};
 ghost use Rattle.exported_covers.specs.ExportedCovers.{ExportedCovers};
 ghost use Rattle.exported_merge.specs.ExportedMerge.{ExportedMerge};
+ghost use Rattle.exported_conversion.specs.ExportedConversion.{ExportedConversion};
 ghost use Rattle.board_c.specs.ExportedBoard.{ExportedOpening, ExportedCall};
 
 // The check of a file on a day, with the answer in seven cells. Where `answer` has fewer, nothing is touched.
@@ -198,6 +202,38 @@ pub extern "C" fn checker_merge(
         output,
         answer,
     );
+}
+
+// An old file converted to the new form, with the answer in four cells. Where `answer` has fewer, nothing is touched.
+#[no_mangle]
+pub extern "C" fn checker_to_new(
+    file: &[u8],
+    symbols: &mut [u16],
+    rows: &mut [u16],
+    clauses: &mut [u16],
+    bindings: &mut [u16],
+    output: &mut [u8],
+    answer: &mut [u32],
+)
+    ensures { λ _. ⌜ ExportedConversion (oldFile (now (file .entry))) (tablesWith (now (symbols .entry)) (now (rows .entry)) (now (clauses .entry)) (now (bindings .entry))) (now (output .entry)) (now (answer .entry)) (tablesWith (now (symbols .exit)) (now (rows .exit)) (now (clauses .exit)) (now (bindings .exit))) (now (output .exit)) (now (answer .exit)) ⌝ }
+{
+    new_to_cells(file, symbols, rows, clauses, bindings, output, answer);
+}
+
+// The same for a new file converted to the old form.
+#[no_mangle]
+pub extern "C" fn checker_to_old(
+    file: &[u8],
+    symbols: &mut [u16],
+    rows: &mut [u16],
+    clauses: &mut [u16],
+    bindings: &mut [u16],
+    output: &mut [u8],
+    answer: &mut [u32],
+)
+    ensures { λ _. ⌜ ExportedConversion (newFile (now (file .entry))) (tablesWith (now (symbols .entry)) (now (rows .entry)) (now (clauses .entry)) (now (bindings .entry))) (now (output .entry)) (now (answer .entry)) (tablesWith (now (symbols .exit)) (now (rows .exit)) (now (clauses .exit)) (now (bindings .exit))) (now (output .exit)) (now (answer .exit)) ⌝ }
+{
+    old_to_cells(file, symbols, rows, clauses, bindings, output, answer);
 }
 
 // The board of a file opened on a day, with the answer in three cells. Where `answer` has fewer, nothing is touched.

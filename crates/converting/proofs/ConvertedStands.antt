@@ -10,7 +10,7 @@ use Rattle.record.specs.Record.{pick, Record, File, recordLength, withDays, rec
 use Rattle.record.specs.declared.Form.{Form}
 use Rattle.record.specs.declared.Form.the-variants.{Old, New}
 use Rattle.record.proofs.Bytes.{file-length, file-records}
-use Rattle.record.proofs.Records.{ShapedRecord, Shaped, records-shaped}
+use Rattle.record.proofs.Records.{HasDays, Shaped, HaveDays, records-shaped, records-days}
 use Rattle.unification.proofs.Tests.{from-T}
 use Rattle.verdict.specs.State.{State, emptyState}
 use Rattle.verdict.specs.Step.{read, allStand}
@@ -23,31 +23,52 @@ use Rattle.converting.proofs.ReadNew.{old-to-new}
 use Rattle.converting.proofs.ReadOld.{new-to-old}
 
 -- ── The records' shape ──
-unless-shaped : (form : Form) (b : Bool) (r : Record) (rs : List Record) → ShapedRecord form r → Shaped form rs → Shaped form (unless b r rs)
-unless-shaped form true r rs h hs = hs
-unless-shaped form false r rs h hs = (h, hs)
+unless-shaped : (b : Bool) (r : Record) (rs : List Record) → length (r .fields) ≡ 7 → Shaped rs → Shaped (unless b r rs)
+unless-shaped true r rs h hs = hs
+unless-shaped false r rs h hs = (h, hs)
 
-new-shaped : (all : List Record) (n : ℕ) (r : Record) → ShapedRecord Old r → ShapedRecord New (newRecord all n r)
+unless-days : (form : Form) (b : Bool) (r : Record) (rs : List Record) → HasDays form (r .days) → HaveDays form rs → HaveDays form (unless b r rs)
+unless-days form true r rs h hs = hs
+unless-days form false r rs h hs = (h, hs)
+
+new-shaped : (all : List Record) (n : ℕ) (r : Record) → length (r .fields) ≡ 7 → length (newRecord all n r .fields) ≡ 7
 new-shaped all n r h = try (isInput r)
   where
-    try : (b : Bool) → ShapedRecord New (pick b (withDays r (lastDays all n .0) (lastDays all n .1)) (withDays r 0 0))
-    try true = record { seven = h .seven; days = (_, _, refl) }
-    try false = record { seven = h .seven; days = (_, _, refl) }
+    try : (b : Bool) → length (pick b (withDays r (lastDays all n .0) (lastDays all n .1)) (withDays r 0 0) .fields) ≡ 7
+    try true = h
+    try false = h
 
-all-new-shaped : (all : List Record) (n : ℕ) (rs : List Record) → Shaped Old rs → Shaped New (newRecordsFrom all n rs)
+new-days : (all : List Record) (n : ℕ) (r : Record) → HasDays New (newRecord all n r .days)
+new-days all n r = try (isInput r)
+  where
+    try : (b : Bool) → HasDays New (pick b (withDays r (lastDays all n .0) (lastDays all n .1)) (withDays r 0 0) .days)
+    try true = (_, _, refl)
+    try false = (_, _, refl)
+
+all-new-shaped : (all : List Record) (n : ℕ) (rs : List Record) → Shaped rs → Shaped (newRecordsFrom all n rs)
 all-new-shaped all n [] s = tt
-all-new-shaped all n (r ∷ rs) s = unless-shaped New (isWindow r) (newRecord all n r) (newRecordsFrom all (clausesAfter n r) rs) (new-shaped all n r (s .0)) (all-new-shaped all (clausesAfter n r) rs (s .1))
+all-new-shaped all n (r ∷ rs) s = unless-shaped (isWindow r) (newRecord all n r) (newRecordsFrom all (clausesAfter n r) rs) (new-shaped all n r (s .0)) (all-new-shaped all (clausesAfter n r) rs (s .1))
 
-all-old-shaped : (n : ℕ) (rs : List Record) → Shaped New rs → Shaped Old (oldRecordsFrom n rs)
+all-new-days : (all : List Record) (n : ℕ) (rs : List Record) → HaveDays New (newRecordsFrom all n rs)
+all-new-days all n [] = tt
+all-new-days all n (r ∷ rs) = unless-days New (isWindow r) (newRecord all n r) (newRecordsFrom all (clausesAfter n r) rs) (new-days all n r) (all-new-days all (clausesAfter n r) rs)
+
+all-old-shaped : (n : ℕ) (rs : List Record) → Shaped rs → Shaped (oldRecordsFrom n rs)
 all-old-shaped n [] s = tt
-all-old-shaped n (r ∷ rs) s = (
-  record { seven = s .0 .seven; days = refl },
-  unless-shaped Old (not (isDated r)) (windowRecord n (daysBeside r)) (oldRecordsFrom (clausesAfter n r) rs) (record { seven = refl; days = refl }) (all-old-shaped (clausesAfter n r) rs (s .1)),
-)
+all-old-shaped n (r ∷ rs) s =
+    (s .0, unless-shaped (not (isDated r)) (windowRecord n (daysBeside r)) (oldRecordsFrom (clausesAfter n r) rs) refl (all-old-shaped (clausesAfter n r) rs (s .1)))
 
-pub converted-shaped : (form : Form) (rs : List Record) → Shaped form rs → Shaped (otherForm form) (convertedFrom form rs)
+all-old-days : (n : ℕ) (rs : List Record) → HaveDays Old (oldRecordsFrom n rs)
+all-old-days n [] = tt
+all-old-days n (r ∷ rs) = (refl, unless-days Old (not (isDated r)) (windowRecord n (daysBeside r)) (oldRecordsFrom (clausesAfter n r) rs) refl (all-old-days (clausesAfter n r) rs))
+
+pub converted-shaped : (form : Form) (rs : List Record) → Shaped rs → Shaped (convertedFrom form rs)
 converted-shaped Old rs s = all-new-shaped rs 0 rs s
 converted-shaped New rs s = all-old-shaped 0 rs s
+
+pub converted-days : (form : Form) (rs : List Record) → HaveDays (otherForm form) (convertedFrom form rs)
+converted-days Old rs = all-new-days rs 0 rs
+converted-days New rs = all-old-days 0 rs
 
 -- ── The file ──
 pub converted-form : (file : File) → convertedFile file .form ≡ otherForm (file .form)
@@ -60,7 +81,7 @@ converted-length file = file-length (otherForm (file .form)) (converted file)
 
 pub converted-records : (file : File) → records (convertedFile file) ≡ converted file
 unfolding convertedFile
-converted-records file = file-records (otherForm (file .form)) (converted file) (converted-shaped (file .form) (records file) (records-shaped file))
+converted-records file = file-records (otherForm (file .form)) (converted file) (converted-shaped (file .form) (records file) (records-shaped file)) (converted-days (file .form) (records file))
 
 many-fit : (form : Form) (m : ℕ) → m ≤ mostRecords form → fittingLength form (recordLength form * m) ≡ true
 many-fit Old m h =
@@ -74,14 +95,14 @@ pub converted-fits : (file : File) → length (converted file) ≤ mostRecords (
 unfolding convertedFile
 converted-fits file h = ap (fittingLength (otherForm (file .form))) (file-length (otherForm (file .form)) (converted file)) ∙ many-fit (otherForm (file .form)) (length (converted file)) h
 
-converted-read : (form : Form) (rs : List Record) (S : State) → Shaped form rs → read emptyState 0 rs ≡ allStand S → (T : State) × (read emptyState 0 (convertedFrom form rs) ≡ allStand T) × SameDays S T
+converted-read : (form : Form) (rs : List Record) (S : State) → HaveDays form rs → read emptyState 0 rs ≡ allStand S → (T : State) × (read emptyState 0 (convertedFrom form rs) ≡ allStand T) × SameDays S T
 converted-read Old rs S s q = old-to-new rs S s q
 converted-read New rs S s q = new-to-old rs S s q
 
 pub converted-stands : (file : File) (S : State) → Stands file S → length (converted file) ≤ mostRecords (otherForm (file .form)) → (T : State) × Stands (convertedFile file) T × SameDays S T
 unfolding ending
 converted-stands file S st h =
-    let a = converted-read (file .form) (records file) S (records-shaped file) (st .reads) in
+    let a = converted-read (file .form) (records file) S (records-days file) (st .reads) in
     (a .0, record { fits = converted-fits file h; reads = ap (read emptyState 0) (converted-records file) ∙ a .1 }, a .2)
 
 -- ── How many records it has ──

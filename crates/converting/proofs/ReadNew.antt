@@ -7,7 +7,7 @@ use Prim.Native.Nat.{ℕ, suc}
 use lib.Dec.{eqb, leb}
 use Rattle.record.specs.Record.{pick, Record, Kind, inputKind, windowKind, withDays, fieldA, fieldB, fieldC}
 use Rattle.record.specs.declared.Form.the-variants.{Old}
-use Rattle.record.proofs.Records.{Shaped}
+use Rattle.record.proofs.Records.{HaveDays}
 use Rattle.verdict.specs.Force.{windowOf}
 use Rattle.verdict.specs.Refusal.{zeroDays, isInput}
 use Rattle.verdict.specs.State.{State, Window, emptyState, entry, clauseOf, nextClause}
@@ -54,7 +54,7 @@ module _ (S : State) (k : ℕ) (r : Record) (S′ : State) (old : r .days ≡ no
       (λ e z. same-days (ap (λ (n : ℕ). eqb n 8) e) (input-added S k r S′ z .undated old))
       (λ n e z. window-days-after n z)
 
-pub read-days : (rs : List Record) (S : State) (k : ℕ) (S′ : State) → Shaped Old rs → read S k rs ≡ allStand S′ → ((n : ℕ) → daysIn S′ n ≡ daysAfter (daysIn S n) rs n) × (Ordered S → Ordered S′)
+pub read-days : (rs : List Record) (S : State) (k : ℕ) (S′ : State) → HaveDays Old rs → read S k rs ≡ allStand S′ → ((n : ℕ) → daysIn S′ n ≡ daysAfter (daysIn S n) rs n) × (Ordered S → Ordered S′)
 read-days [] S k S′ s q = ((λ n. ap (λ (X : State). daysIn X n) (sym (ending-stands q))), (λ O. subst Ordered (ending-stands q) O))
 read-days (r ∷ rs) S k S′ s q = try (step S k r) refl q (λ U z. read-days rs U (suc k) S′ (s .1) z)
   where
@@ -62,7 +62,7 @@ read-days (r ∷ rs) S k S′ s q = try (step S k r) refl q (λ U z. read-days r
         → ((U : State) → read U (suc k) rs ≡ allStand S′ → ((n : ℕ) → daysIn S′ n ≡ daysAfter (daysIn U n) rs n) × (Ordered U → Ordered S′))
         → ((n : ℕ) → daysIn S′ n ≡ daysAfter (daysIn S n) (r ∷ rs) n) × (Ordered S → Ordered S′)
     try (stands U) e z ih =
-        let d = redated S k r U (s .0 .days) e in
+        let d = redated S k r U (s .0) e in
         ((λ n. ih U z .0 n ∙ ap (λ (x : ℕ × ℕ). daysAfter x rs n) (d .after n)), (λ O. ih U z .1 (d .ordered O)))
     try (refused x) e z ih = absurd (stands-not-refused (sym z))
 
@@ -138,7 +138,7 @@ module _ (all : List Record) (ordered : (n : ℕ) → leb (lastDays all n .0) (l
     pub alike : Alike S′ final
     pub datedBy : DatedBy final
 
-  pub read-new : (rs : List Record) (S T S′ : State) (k j : ℕ) → Shaped Old rs → Alike S T → DatedBy T → read S k rs ≡ allStand S′ → ReadTo S′ T j (newRecordsFrom all (nextClause S) rs)
+  pub read-new : (rs : List Record) (S T S′ : State) (k j : ℕ) → HaveDays Old rs → Alike S T → DatedBy T → read S k rs ≡ allStand S′ → ReadTo S′ T j (newRecordsFrom all (nextClause S) rs)
   read-new [] S T S′ k j s A D q = record { final = T; reads = refl; alike = subst (λ (X : State). Alike X T) (ending-stands q) A; datedBy = D }
   read-new (r ∷ rs) S T S′ k j s A D q = try (step S k r) refl q (λ U Z i B E z. read-new rs U Z S′ (suc k) i (s .1) B E z)
     where
@@ -166,13 +166,13 @@ module _ (all : List Record) (ordered : (n : ℕ) → leb (lastDays all n .0) (l
           → ((U Z : State) (i : ℕ) → Alike U Z → DatedBy Z → read U (suc k) rs ≡ allStand S′ → ReadTo S′ Z i (newRecordsFrom all (nextClause U) rs))
           → ReadTo S′ T j (newRecordsFrom all (nextClause S) (r ∷ rs))
       try (stands U) e z ih =
-          let g = record-goes S T A D k j r U (s .0 .days) e in
+          let g = record-goes S T A D k j r U (s .0) e in
           here U z (ih U) (g .next) (g .becomes)
       try (refused x) e z ih = absurd (stands-not-refused (sym z))
 
 -- ── A whole file ──
 
-pub old-to-new : (rs : List Record) (S : State) → Shaped Old rs → read emptyState 0 rs ≡ allStand S → (T : State) × (read emptyState 0 (toNewRecords rs) ≡ allStand T) × SameDays S T
+pub old-to-new : (rs : List Record) (S : State) → HaveDays Old rs → read emptyState 0 rs ≡ allStand S → (T : State) × (read emptyState 0 (toNewRecords rs) ≡ allStand T) × SameDays S T
 old-to-new rs S s q = (a .final, a .reads, record { alike = a .alike; days = λ n. days n (isInput (clauseOf S n)) refl })
   where
     d : ((n : ℕ) → daysIn S n ≡ lastDays rs n) × (Ordered emptyState → Ordered S)

@@ -8,7 +8,7 @@ use native.Mathlib.Omega.{arith}
 use lib.Dec.{eqb}
 use Rattle.record.specs.Record.{pick, Record, Kind, otherKind, symbolKind, variableKind, applicationKind, inputKind, resolveKind, factorKind, severalKind, windowKind, kindNumbered}
 use Rattle.record.specs.declared.Form.the-variants.{New}
-use Rattle.record.proofs.Records.{Shaped}
+use Rattle.record.proofs.Records.{HaveDays}
 use Rattle.unification.proofs.Tests.{both-true}
 use Rattle.verdict.specs.Force.{windowOf}
 use Rattle.verdict.specs.Refusal.{hasDays, zeroDays, fieldsInRange, inOrder, isInput, kindOfRecord}
@@ -137,7 +137,7 @@ pub record ReadTo (S′ T : State) (j : ℕ) (rs : List Record) : Type 0 where
   pub reads : read T j rs ≡ allStand final
   pub same : SameDays S′ final
 
-read-old : (rs : List Record) (S T S′ : State) (k j : ℕ) → Shaped New rs → SameDays S T → OnlyInputs S → read S k rs ≡ allStand S′ → ReadTo S′ T j (oldRecordsFrom (nextClause S) rs)
+read-old : (rs : List Record) (S T S′ : State) (k j : ℕ) → HaveDays New rs → SameDays S T → OnlyInputs S → read S k rs ≡ allStand S′ → ReadTo S′ T j (oldRecordsFrom (nextClause S) rs)
 read-old [] S T S′ k j s D O q = record { final = T; reads = refl; same = subst (λ (X : State). SameDays X T) (ending-stands q) D }
 read-old (r ∷ rs) S T S′ k j s D O q = try (step S k r) refl q (λ U Z i B P z. read-old rs U Z S′ (suc k) i (s .1) B P z)
   where
@@ -167,12 +167,12 @@ read-old (r ∷ rs) S T S′ k j s D O q = try (step S k r) refl q (λ U Z i B P
         → ((U Z : State) (i : ℕ) → SameDays U Z → OnlyInputs U → read U (suc k) rs ≡ allStand S′ → ReadTo S′ Z i (oldRecordsFrom (nextClause U) rs))
         → ReadTo S′ T j (oldRecordsFrom (nextClause S) (r ∷ rs))
     try (stands U) e z ih =
-        let d = s .0 .days in
+        let d = s .0 in
         let g = record-goes S T D O k j r U (d .0) (d .1) (d .2) e in
         here U (λ Z i B. ih U Z i B (only-kept S k r U e O) z) (g .next) (g .becomes)
     try (refused x) e z ih = absurd (stands-not-refused (sym z))
 
-pub new-to-old : (rs : List Record) (S : State) → Shaped New rs → read emptyState 0 rs ≡ allStand S → (T : State) × (read emptyState 0 (toOldRecords rs) ≡ allStand T) × SameDays S T
+pub new-to-old : (rs : List Record) (S : State) → HaveDays New rs → read emptyState 0 rs ≡ allStand S → (T : State) × (read emptyState 0 (toOldRecords rs) ≡ allStand T) × SameDays S T
 new-to-old rs S s q =
     let a = read-old rs emptyState emptyState S 0 0 s (record { alike = record { sameArities = refl; sameRows = refl; sameClauses = refl; sameTotal = refl }; days = λ n. refl }) (record { others = λ n h. refl }) q in
     (a .final, a .reads, a .same)

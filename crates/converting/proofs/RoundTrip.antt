@@ -11,7 +11,7 @@ use Rattle.record.specs.Bytes.{bytesIn, Bytes}
 use Rattle.record.specs.Record.{pick, Record, File, newFile, withDays, records, fieldA, fieldB, fieldC}
 use Rattle.record.specs.declared.Form.the-variants.{Old, New}
 use Rattle.record.proofs.Bytes.{file-records, file-rewritten}
-use Rattle.record.proofs.Records.{ShapedRecord, Shaped, records-shaped}
+use Rattle.record.proofs.Records.{HasDays, HaveDays, records-shaped, records-days}
 use Rattle.unification.proofs.Lists.{Each}
 use Rattle.unification.proofs.Tests.{both-true, true-not-false}
 use Rattle.verdict.specs.Refusal.{zeroDays}
@@ -20,7 +20,7 @@ use Rattle.verdict.specs.Step.{stands, refused, Result, step, read, allStand, r
 use Rattle.verdict.specs.Verdict.{ending, Stands}
 use Rattle.verdict.proofs.Endings.{stands-not-refused}
 use Rattle.converting.specs.Converting.{always, isAlways, isWindow, isInput, isClause, clausesAfter, daysAfter, lastDays, newRecord, unless, newRecordsFrom, toNewRecords, withoutDays, daysOr, daysBeside, windowRecord, isDated, oldRecordsFrom, toOldRecords, convertedFile}
-use Rattle.converting.proofs.ConvertedStands.{converted-shaped}
+use Rattle.converting.proofs.ConvertedStands.{converted-shaped, converted-days}
 use Rattle.converting.proofs.Days.{by-kind}
 use Rattle.converting.proofs.KindsDated.{not-true, equal, eqb-itself}
 use Rattle.converting.proofs.ReadOld.{is-always, plain-zero, no-window}
@@ -39,15 +39,15 @@ zero-days first last z =
     let q = equal last 0 (t .1) in
     λ i. some (p i, q i)
 
-stands-fine : (S : State) (k : ℕ) (r : Record) (S′ : State) → ShapedRecord New r → step S k r ≡ stands S′ → FineNew r
+stands-fine : (S : State) (k : ℕ) (r : Record) (S′ : State) → HasDays New (r .days) → step S k r ≡ stands S′ → FineNew r
 stands-fine S k r S′ s q =
-    let d = s .days in
+    let d = s in
     by-kind S k r S′ (FineNew r) q
     (λ kind p n z. record { noWindow = n .noWindow; zeroBeside = λ h. d .2 ∙ zero-days (d .0) (d .1) (ap zeroDays (sym (d .2)) ∙ plain-zero S k r S′ kind p z) })
     (λ e z. record { noWindow = ap (λ (n : ℕ). eqb n 8) e; zeroBeside = λ h. absurd (true-not-false (ap (λ (n : ℕ). eqb n 4) e) h) })
     (λ e n z. absurd (no-window r (d .0) (d .1) (d .2) e n))
 
-pub read-fine : (rs : List Record) (S : State) (k : ℕ) (S′ : State) → Shaped New rs → read S k rs ≡ allStand S′ → Each FineNew rs
+pub read-fine : (rs : List Record) (S : State) (k : ℕ) (S′ : State) → HaveDays New rs → read S k rs ≡ allStand S′ → Each FineNew rs
 read-fine [] S k S′ s q = tt
 read-fine (r ∷ rs) S k S′ s q = try (step S k r) refl q (λ U z. read-fine rs U (suc k) S′ (s .1) z)
   where
@@ -86,7 +86,7 @@ module _ (all : List Record) where
   window-falls n m x true rs = refl
   window-falls n m x false rs = refl
 
-  back : (m : ℕ) (rs : List Record) → Each FineNew rs → Shaped New rs → ((n : ℕ) → m ≤ n → lastDays all n ≡ daysAfter always (oldRecordsFrom m rs) n) → newRecordsFrom all m (oldRecordsFrom m rs) ≡ rs
+  back : (m : ℕ) (rs : List Record) → Each FineNew rs → HaveDays New rs → ((n : ℕ) → m ≤ n → lastDays all n ≡ daysAfter always (oldRecordsFrom m rs) n) → newRecordsFrom all m (oldRecordsFrom m rs) ≡ rs
   back m [] f s h = refl
   back m (r ∷ rs) f s h =
       ap (λ (b : Bool). unless b (newRecord all m (withoutDays r)) (newRecordsFrom all (clausesAfter m r) (unless (not (isDated r)) (windowRecord m (daysBeside r)) (oldRecordsFrom (clausesAfter m r) rs)))) (f .0 .noWindow)
@@ -112,7 +112,7 @@ module _ (all : List Record) where
 
       itself : (b : Bool) → isInput r ≡ b → pick b (withDays (withoutDays r) (lastDays all m .0) (lastDays all m .1)) (withDays (withoutDays r) 0 0) ≡ r
       itself true e =
-          let d = s .0 .days in
+          let d = s .0 in
           let same : some (lastDays all m .0, lastDays all m .1) ≡ r .days = ap some (own e ∙ ap daysOr (d .2)) ∙ sym (d .2) in
           λ i. record { kind = r .kind; count = r .count; fields = r .fields; days = same i }
       itself false e =
@@ -128,7 +128,7 @@ module _ (all : List Record) where
       later : (n : ℕ) → clausesAfter m r ≤ n → lastDays all n ≡ daysAfter always (oldRecordsFrom (clausesAfter m r) rs) n
       later n l = let g = grows m (isClause r) in here n (omega arith) ∙ beyond n l (isInput r) refl
 
-pub records-again : (rs : List Record) (S : State) → Shaped New rs → read emptyState 0 rs ≡ allStand S → toNewRecords (toOldRecords rs) ≡ rs
+pub records-again : (rs : List Record) (S : State) → HaveDays New rs → read emptyState 0 rs ≡ allStand S → toNewRecords (toOldRecords rs) ≡ rs
 records-again rs S s q = back (toOldRecords rs) 0 rs (read-fine rs emptyState 0 S s q) s (λ n l. refl)
 
 -- ── The file ──
@@ -136,8 +136,8 @@ of-new : (bytes : List ℕ) (S : State) → Stands (newFile bytes) S → Bytes b
 unfolding convertedFile ending
 of-new bytes S t h =
     let rs = records (newFile bytes) in
-    ap (λ (xs : List Record). newFile (bytesIn New (toNewRecords xs))) (file-records Old (toOldRecords rs) (converted-shaped New rs (records-shaped (newFile bytes))))
-    ∙ ap (λ (xs : List Record). newFile (bytesIn New xs)) (records-again rs S (records-shaped (newFile bytes)) (t .reads))
+    ap (λ (xs : List Record). newFile (bytesIn New (toNewRecords xs))) (file-records Old (toOldRecords rs) (converted-shaped New rs (records-shaped (newFile bytes))) (converted-days New rs))
+    ∙ ap (λ (xs : List Record). newFile (bytesIn New xs)) (records-again rs S (records-days (newFile bytes)) (t .reads))
     ∙ ap newFile (file-rewritten New bytes (equal (length bytes % 20) 0 (both-true (leb (length bytes) 65520) (eqb (length bytes % 20) 0) (t .fits) .1)) h)
 
 pub new-again : (file : File) (S : State) → Stands file S → file .form ≡ New → Bytes (file .bytes) → convertedFile (convertedFile file) ≡ file

@@ -9,7 +9,7 @@ use lib.ListN.{length, length-append}
 use Rattle.record.specs.Record.{pick, Record, File, records, fieldA, fieldB, fieldC}
 use Rattle.record.specs.declared.Form.{Form}
 use Rattle.record.specs.declared.Form.the-variants.{New}
-use Rattle.record.proofs.Records.{Shaped, records-shaped}
+use Rattle.record.proofs.Records.{HaveDays, records-days}
 use Rattle.unification.proofs.Lists.{Each}
 use Rattle.unification.proofs.Tests.{both-true, true-not-false}
 use Rattle.verdict.specs.State.{State, emptyState}
@@ -81,7 +81,7 @@ old-placed n (r ∷ rs) f (b ∷ bs) after w e h =
         let t : oldRecordsFrom (clausesAfter n r) rs ≡ xs ++ (w ∷ after) = cc in
         subst (λ (y : Record). Placed n (withoutDays r ∷ y ∷ xs) w) s (in-front n (withoutDays r) (windowRecord n (daysBeside r) ∷ xs) w (in-front (clausesAfter n r) (windowRecord n (daysBeside r)) xs w (ih xs t)))
 
-of-records : (rs : List Record) (S : State) → Shaped New rs → read emptyState 0 rs ≡ allStand S → (before after : List Record) (w : Record) → toOldRecords rs ≡ before ++ (w ∷ after) → w .kind ≡ 8 → StraightAfter before w
+of-records : (rs : List Record) (S : State) → HaveDays New rs → read emptyState 0 rs ≡ allStand S → (before after : List Record) (w : Record) → toOldRecords rs ≡ before ++ (w ∷ after) → w .kind ≡ 8 → StraightAfter before w
 of-records rs S s q before after w e h =
     let P = old-placed 0 rs (read-fine rs emptyState 0 S s q) before after w e h in
     record { earlier = P .earlier; clause = P .clause; after = P .after; isKind = P .isKind; names = P .names ∙ omega arith; notAlways = P .notAlways }
@@ -89,4 +89,4 @@ of-records rs S s q before after w e h =
 pub windows-placed : (file : File) (S : State) → Stands file S → file .form ≡ New → (before after : List Record) (w : Record) → converted file ≡ before ++ (w ∷ after) → w .kind ≡ 8 → StraightAfter before w
 unfolding ending
 windows-placed file S st n before after w e h =
-    of-records (records file) S (subst (λ (x : Form). Shaped x (records file)) n (records-shaped file)) (st .reads) before after w (ap (λ (x : Form). convertedFrom x (records file)) (sym n) ∙ e) h
+    of-records (records file) S (subst (λ (x : Form). HaveDays x (records file)) n (records-days file)) (st .reads) before after w (ap (λ (x : Form). convertedFrom x (records file)) (sym n) ∙ e) h

@@ -1,0 +1,24 @@
+-- The contract of `to_new` and `to_old`: what they promise of every file of the one form and the other, every four tables and every output, with no condition on
+-- the call.
+use mathlib.Core.Path.{_≡_}
+use mathlib.Core.List.{List}
+use Prim.Native.Nat.{ℕ}
+use lib.ListN.{length}
+use Rattle.record.specs.Record.{File}
+use Rattle.verdict.specs.Tables.{Tables}
+use Rattle.converting.specs.Answer.{conversionNumbers, conversionAnswer, tablesLeft, outputLeft}
+use Rattle.converting.specs.Converting.{convertedFile}
+use Rattle.converting.specs.Promised.{ConversionPromised}
+use Rattle.rewriting.specs.Given.{conversionGiven}
+use Rattle.rewriting.specs.declared.ConversionOutcome.{ConversionOutcome}
+
+pub record ConversionAnswered (file : File) (before : Tables) (outputBefore : List ℕ) (m : ConversionOutcome) (after : Tables) (outputAfter : List ℕ) : Type 0 where
+  -- The four numbers of the answer, each table, cell by cell, and every byte of the output.
+  pub answer : conversionGiven m ≡ conversionNumbers (conversionAnswer file before (length outputBefore))
+  pub symbols : after .symbols ≡ tablesLeft file before (length outputBefore) .symbols
+  pub rows : after .rows ≡ tablesLeft file before (length outputBefore) .rows
+  pub clauses : after .clauses ≡ tablesLeft file before (length outputBefore) .clauses
+  pub bindings : after .bindings ≡ tablesLeft file before (length outputBefore) .bindings
+  pub output : outputAfter ≡ outputLeft (conversionAnswer file before (length outputBefore)) (convertedFile file .bytes) outputBefore
+  -- When each answer is given, and what the converted file is.
+  pub promised : ConversionPromised file before (length outputBefore)

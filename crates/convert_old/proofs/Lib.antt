@@ -1,0 +1,2 @@
+pub mod DatedRecords
+pub mod OldWritten

@@ -1,0 +1,4 @@
+pub mod Placing
+pub mod Numbering
+pub mod Counting
+pub mod Going
