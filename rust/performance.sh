@@ -1,6 +1,6 @@
 #!/usr/bin/env bash
-# The proved check, which clause covers which, the merge, calls of boards and the programs proofread and proofread_canonical against the second
-# implementation in one run, the second readout against the first, and the deepest files under a stack of 4 MiB, of 4.5 for the second readout.
+# The proved check, which clause covers which, the merge, conversions, calls of boards and the programs proofread and proofread_canonical against the
+# second implementation in one run, the second readout against the first, and the deepest files under a stack of 4 MiB, of 4.5 for the second readout.
 set -eu
 cd "$(dirname "$0")/.."
 rt staticlib checker_c

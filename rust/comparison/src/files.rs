@@ -1,13 +1,16 @@
 //! Files that are measured beside the heavy ones: of some thousand records, ordinary ones of some dozens, pairs that are merged,
-//! and files whose boards are called.
+//! files that are converted, and files whose boards are called.
 
 use std::fs;
 use std::path::Path;
 
+use yestrwyn_types::Form;
+use yestrwyn_vectors::examples::forms::{self, Formed};
 use yestrwyn_vectors::examples::merges::{self, Merge};
 use yestrwyn_vectors::examples::{cases, deep, edges, repeats, Example};
 use yestrwyn_vectors::random::SplitMix64;
 use yestrwyn_vectors::sketch::{app, neg, pos, var, Sketch};
+use yestrwyn_vectors::widened;
 
 /// The files by what they do.
 pub fn measured() -> Vec<Example> {
@@ -61,6 +64,44 @@ pub fn merged() -> Vec<Merge> {
         Merge::new(said, first, second)
     }));
     pairs
+}
+
+/// Files that are converted, in either direction: a stored example, rules with days and steps on them, and files at the edge of what
+/// the other form can take, with many days, with none, and refused.
+pub fn converted() -> Vec<Formed> {
+    let season = stored("season.proof");
+    let (dated, count) = (dated_rules(), deep::derivation(3000));
+    let mut files = vec![
+        Formed::new(Form::New, "`season.proof` in the new form", widened(&season)),
+        Formed::new(Form::Old, "`season.proof`", season),
+        Formed::new(Form::New, "the same in the new form", widened(&dated)),
+        Formed::new(Form::Old, "1,364 rules with a window each, and 1,364 steps on them", dated),
+        Formed::new(Form::New, "the same in the new form", widened(&count)),
+        Formed::new(Form::Old, "a count to 3,000", count),
+    ];
+    // Each in the old form first.
+    files.chunks_mut(2).for_each(<[Formed]>::reverse);
+    let named = [
+        ("to-new-3276-records", "3,276 symbols"),
+        ("to-new-3276-records-and-820-of-days", "3,276 records and 820 of days, all for one clause"),
+        ("to-new-3-records-and-4093-of-days", "3 records and 4,093 of days, all for one clause"),
+        ("22-to-new-4096-records", "4,096 symbols, refused with 22"),
+        (
+            "to-old-3276-records-of-which-820-have-days",
+            "3,276 records in the new form, 820 clauses with days",
+        ),
+        ("to-old-3276-records-of-which-0-have-days", "3,276 records in the new form, no clause with days"),
+        (
+            "to-old-2049-records-of-which-2047-have-days",
+            "2,049 records in the new form, 2,047 clauses with days",
+        ),
+        ("22-to-old-3276-records-of-which-3274-have-days", "3,276 records in the new form, refused with 22"),
+    ];
+    files.extend(named.map(|(name, said)| {
+        let found = forms::examples().into_iter().find(|file| file.name == name);
+        Formed { name: said.to_string(), ..found.unwrap_or_else(|| panic!("no file {name}")) }
+    }));
+    files
 }
 
 /// A file of some 4,000 clauses whose board is called, and the input clauses that are withdrawn and returned, by what they are.

@@ -10,7 +10,8 @@ use yestrwyn::limits::FILE_BYTES;
 use yestrwyn::{
     check_here, merge, merge_here, merge_into, Cells, Merged, Tables, Verdict, LENGTHS, MERGED_CELLS,
 };
-use yestrwyn_comparison::merges::{pair_of, MergeLengths, Merges};
+use yestrwyn_comparison::merges::{pair_of, Merges};
+use yestrwyn_comparison::outputs::OutputLengths;
 use yestrwyn_vectors::examples::deep;
 use yestrwyn_vectors::examples::merges::{examples, Merge};
 use yestrwyn_vectors::merges::{damaged_pair, pairs, random_pair};
@@ -31,7 +32,7 @@ struct Both {
 
 impl Both {
     /// Merges a pair by both.
-    fn same(&mut self, pair: &Merge, lengths: MergeLengths) {
+    fn same(&mut self, pair: &Merge, lengths: OutputLengths) {
         match self.merges.compare([&pair.first, &pair.second], lengths, 0xabcd) {
             Ok(Some(0)) => self.written += 1,
             Ok(Some(_)) => self.refused += 1,
@@ -51,7 +52,7 @@ fn all_stored_merges() {
     with_stack(|| {
         let mut both = Both::default();
         for (pair, more) in pairs().iter().zip([0, 1, 5].into_iter().cycle()) {
-            both.same(pair, MergeLengths::longer(more));
+            both.same(pair, OutputLengths::longer(more));
         }
         assert!(both.written > 60 && both.refused > 60, "{} and {}", both.written, both.refused);
     });
@@ -62,8 +63,8 @@ fn random_and_damaged_pairs() {
     with_stack(|| {
         let mut both = Both::default();
         for seed in 1000..3000 {
-            both.same(&random_pair(seed), MergeLengths::longer((seed % 3) as usize));
-            both.same(&damaged_pair(seed), MergeLengths::longer((seed % 4) as usize));
+            both.same(&random_pair(seed), OutputLengths::longer((seed % 3) as usize));
+            both.same(&damaged_pair(seed), OutputLengths::longer((seed % 4) as usize));
         }
         assert!(both.written > 1200 && both.refused > 1200, "{} and {}", both.written, both.refused);
     });
@@ -74,7 +75,7 @@ fn pairs_of_every_kind_with_parts_of_any_length() {
     with_stack(|| {
         let mut both = Both::default();
         for seed in 0..3000 {
-            both.same(&pair_of(seed), MergeLengths::of(seed));
+            both.same(&pair_of(seed), OutputLengths::of(seed));
         }
         assert!(both.written > 800 && both.refused > 800, "{} and {}", both.written, both.refused);
     });
@@ -90,7 +91,7 @@ fn stored_vectors() {
             let file = example.file;
             for (first, second) in [(&file, &empty), (&empty, &file), (&file, &file)] {
                 let pair = Merge::new(&example.name, first.clone(), second.clone());
-                both.same(&pair, MergeLengths::longer(1));
+                both.same(&pair, OutputLengths::longer(1));
             }
         }
         assert!(both.written > 200 && both.refused > 4000, "{} and {}", both.written, both.refused);
@@ -105,8 +106,8 @@ fn deep_files() {
         let trip = random_pair(3).second;
         for example in deep::examples() {
             let name = &example.name;
-            both.same(&Merge::new(name, example.file.clone(), trip.clone()), MergeLengths::longer(0));
-            both.same(&Merge::new(name, trip.clone(), example.file), MergeLengths::longer(2));
+            both.same(&Merge::new(name, example.file.clone(), trip.clone()), OutputLengths::longer(0));
+            both.same(&Merge::new(name, trip.clone(), example.file), OutputLengths::longer(2));
         }
         assert!(both.refused > 20, "{} and {}", both.written, both.refused);
     });
@@ -119,7 +120,7 @@ fn outputs_of_any_length() {
         let names = ["equal-symbols", "both-empty", "4096-records", "17-file-1-in-both", "1-file-1"];
         for pair in names.map(named) {
             for output in [0, 1, 16, 304, 4096, 65_520, 65_535, 65_536, 65_537, 131_072] {
-                both.same(&pair, MergeLengths { output, ..MergeLengths::longer(0) });
+                both.same(&pair, OutputLengths { output, ..OutputLengths::longer(0) });
             }
         }
         // Three of the pairs are written, where the output has 65,536 bytes or more.
@@ -133,11 +134,11 @@ fn short_tables() {
         let mut both = Both::default();
         for (short, least) in LENGTHS.into_iter().enumerate() {
             for length in [0, 1, least - 1, least] {
-                let mut lengths = MergeLengths::longer(3);
+                let mut lengths = OutputLengths::longer(3);
                 lengths.tables[short] = length;
                 for name in ["equal-symbols", "1-file-1", "1-file-2"] {
                     both.same(&named(name), lengths);
-                    both.same(&named(name), MergeLengths { output: 65_535, ..lengths });
+                    both.same(&named(name), OutputLengths { output: 65_535, ..lengths });
                 }
             }
         }
@@ -178,7 +179,7 @@ fn answers_of_any_length() {
         let mut both = Both::default();
         for name in ["equal-symbols", "17-file-2-kind-5", "4096-records", "4097-records", "5-file-2"] {
             for answer in 0..=6 {
-                both.same(&named(name), MergeLengths { answer, ..MergeLengths::longer(1) });
+                both.same(&named(name), OutputLengths { answer, ..OutputLengths::longer(1) });
             }
         }
         assert_eq!((both.written, both.refused), (6, 9));
@@ -197,7 +198,7 @@ fn files_of_any_length() {
             };
             both.same(
                 &Merge::new(&format!("{one} and {other} bytes"), file(one), file(other)),
-                MergeLengths::longer(1),
+                OutputLengths::longer(1),
             );
         }
         // Nothing, 1, 4,095 and 4,096 records, where these are 4,096 at most together.
@@ -212,7 +213,7 @@ fn a_file_with_itself() {
         let mut both = Both::default();
         for seed in 0..500 {
             let Merge { first, .. } = random_pair(seed);
-            if let Err(difference) = both.merges.compare([&first, &first], MergeLengths::longer(1), 0x1234) {
+            if let Err(difference) = both.merges.compare([&first, &first], OutputLengths::longer(1), 0x1234) {
                 panic!("{difference}; seed {seed}");
             }
         }

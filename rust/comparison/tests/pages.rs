@@ -8,14 +8,19 @@ use std::slice;
 use yestrwyn::exported::PROGRESS_CELLS;
 use yestrwyn::exported::{board_open_numbers, board_return_numbers, board_withdraw_numbers};
 use yestrwyn::exported::{check_numbers_with, Arrays, Nodes, Origins, Values};
-use yestrwyn::{check_here, covers_here, merge_here, Cells, Tables, ENOUGH, LENGTHS};
+use yestrwyn::{
+    check_form_here, check_here, covers_here, merge_here, to_new_here, to_old_here, Cells, Form, Tables,
+    ENOUGH, LENGTHS,
+};
 use yestrwyn_comparison::pieces::{self, READOUTS};
 use yestrwyn_types::limits::{BOARD_CELLS, FILE_BYTES};
 use yestrwyn_types::{ANSWER_CELLS, BOARD_ANSWER_CELLS};
 use yestrwyn_vectors::boards::Lent;
 use yestrwyn_vectors::examples::boards::{self, Call, Script};
+use yestrwyn_vectors::examples::forms::{self, Formed};
 use yestrwyn_vectors::examples::merges::{self, Merge};
 use yestrwyn_vectors::examples::{canonical, cases, days, deep, edges, published, Example};
+use yestrwyn_vectors::forms::{convert_into, damaged_form, random_form};
 use yestrwyn_vectors::merges::{damaged_pair, random_pair};
 use yestrwyn_vectors::{board_script, covering_file, dated_file, random_file};
 
@@ -189,6 +194,39 @@ fn merges_beside_unreadable_pages() {
         for pair in named.chain((0..150).map(random_pair)).chain((0..100).map(damaged_pair)) {
             same_merge(&pair, Place::Last);
             same_merge(&pair, Place::First);
+        }
+    };
+    yestrwyn::with_stack(compare).expect("a thread");
+}
+
+/// Checks and converts a file of a form that lies against an unreadable page, with tables and an output that fill their pages.
+fn same_form(Formed { name, form, day, file }: &Formed, place: Place) {
+    let mut pages = Guarded::new(file.len());
+    let lent = put(&mut pages, file, place);
+    let mut guarded = LENGTHS.map(|cells| Guarded::new(2 * cells));
+    let [symbols, rows, clauses, bindings] = guarded.each_mut().map(|table| table.cells());
+    let mut tables = Tables { symbols, rows, clauses, bindings };
+    let answer = yestrwyn_second::check_form(*form, *day, file);
+    assert_eq!(check_form_here(*form, *day, lent, &mut tables), answer, "{name} {place:?}");
+    let (mut output, mut theirs) = (Guarded::new(FILE_BYTES), vec![0; FILE_BYTES]);
+    let right = convert_into(*form, file, &mut Cells::new().lend(), &mut theirs);
+    let converted = match form {
+        Form::Old => to_new_here(lent, &mut tables, output.bytes()),
+        Form::New => to_old_here(lent, &mut tables, output.bytes()),
+    };
+    assert_eq!(converted, right, "{name} {place:?}");
+    assert!(output.bytes() == theirs, "{name} {place:?}");
+}
+
+#[test]
+fn both_forms_beside_unreadable_pages() {
+    let compare = || {
+        let random = Form::ALL.into_iter().flat_map(|form| {
+            (0..100).flat_map(move |seed| [random_form(form, seed), damaged_form(form, seed)])
+        });
+        for file in forms::examples().into_iter().chain(random) {
+            same_form(&file, Place::Last);
+            same_form(&file, Place::First);
         }
     };
     yestrwyn::with_stack(compare).expect("a thread");

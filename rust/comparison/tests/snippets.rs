@@ -1,12 +1,13 @@
 //! The programs that the guide to the format quotes compile, and print what the stored readouts say; so do the programs
-//! in C that print the second readout, that ask which clause covers which, that merge two files and that open a board.
+//! in C that print the second readout, that ask which clause covers which, that merge two files, that check and convert files of
+//! either form, and that open a board.
 
 use std::fs;
 use std::path::{Path, PathBuf};
 use std::process::{Command, Output, Stdio};
 use std::sync::OnceLock;
 
-use yestrwyn::{Covering, MergeRefusal, Outcome};
+use yestrwyn::{Covering, Form, MergeRefusal, Outcome};
 use yestrwyn_second::board::Afresh;
 
 #[allow(dead_code)]
@@ -16,6 +17,10 @@ mod board;
 #[allow(dead_code)]
 #[path = "../../yestrwyn/examples/check.rs"]
 mod check;
+
+#[allow(dead_code)]
+#[path = "../../yestrwyn/examples/convert.rs"]
+mod convert;
 
 #[allow(dead_code)]
 #[path = "../../yestrwyn/examples/merge.rs"]
@@ -93,6 +98,12 @@ fn covers_program() -> &'static Path {
 fn merge_program() -> &'static Path {
     static PROGRAM: OnceLock<PathBuf> = OnceLock::new();
     PROGRAM.get_or_init(|| compiled("merge"))
+}
+
+/// The programs `form` and `convert`, compiled once.
+fn form_programs() -> &'static [PathBuf; 2] {
+    static PROGRAMS: OnceLock<[PathBuf; 2]> = OnceLock::new();
+    PROGRAMS.get_or_init(|| ["form", "convert"].map(compiled))
 }
 
 /// The program `board`, compiled once.
@@ -265,6 +276,88 @@ fn merge_from_rust() {
     assert_eq!(refusal.to_string(), "file 2: refused 17 at 30");
 }
 
+/// What the program `convert` makes of a file that lies in some folder.
+fn converted(word: &str, name: &Path) -> Output {
+    let [_, program] = form_programs();
+    Command::new(program).arg(word).arg(name).output().expect("it runs")
+}
+
+/// Every example to the new form, checked there, and back.
+#[test]
+fn both_forms_from_c_and_rust() {
+    let [form, _] = form_programs();
+    let (mut written, mut refused) = (0, 0);
+    for example in EXAMPLES {
+        let name = path(&format!("examples/{example}.proof"));
+        let file = fs::read(&name).expect("a stored example");
+        let output = converted("new", &name);
+        match yestrwyn_second::to_new(&file) {
+            Ok(new) => {
+                assert!(output.status.success() && output.stdout == new, "{example}");
+                assert_eq!(convert::converted(Form::New, &file).expect("a converted file"), new);
+                let store = Path::new(env!("CARGO_TARGET_TMPDIR")).join(format!("{example}.store"));
+                fs::write(&store, &new).expect("it is written");
+                let back = converted("old", &store);
+                let right = yestrwyn_second::to_old(&new).expect("it is converted back");
+                assert!(back.status.success() && back.stdout == right, "{example}");
+                assert_eq!(convert::converted(Form::Old, &new).expect("a converted file"), right);
+                for day in [0, 21_000] {
+                    let input = fs::File::open(&store).expect("it is there");
+                    let checked = Command::new(form).arg(day.to_string()).stdin(Stdio::from(input)).output();
+                    let line = format!("{}\n", yestrwyn_second::check(day, &file).verdict);
+                    assert_eq!(String::from_utf8_lossy(&checked.expect("it runs").stdout), line, "{example}");
+                }
+                written += 1;
+            }
+            Err(refusal) => {
+                assert!(!output.status.success() && output.stdout.is_empty(), "{example}");
+                let line = format!("refused {} at {}\n", refusal.reason.number(), refusal.record);
+                assert_eq!(String::from_utf8_lossy(&output.stderr), line, "{example}");
+                let error = convert::converted(Form::New, &file).expect_err("a refusal");
+                assert_eq!(error.to_string(), refusal.to_string());
+                refused += 1;
+            }
+        }
+    }
+    assert_eq!((written, refused), (11, 1));
+}
+
+/// A missing file, a folder, other words, and a full device.
+#[test]
+fn failed_reads_and_writes_of_a_conversion() {
+    let [form, program] = form_programs();
+    let good = path("examples/season.proof");
+    for name in ["examples/missing.proof", "examples"] {
+        let output = converted("new", &path(name));
+        assert!(!output.status.success() && output.stdout.is_empty() && !output.stderr.is_empty(), "{name}");
+    }
+    let good = good.to_string_lossy();
+    for (program, words) in [
+        (program, ""),
+        (program, "new"),
+        (program, "newer F"),
+        (program, "F new"),
+        (program, "old F F"),
+        (form, ""),
+        (form, "x"),
+        (form, "65536"),
+        (form, "0 F"),
+    ] {
+        let words: Vec<String> = words.split_whitespace().map(|word| word.replace('F', &good)).collect();
+        let output = Command::new(program).args(&words).stdin(Stdio::null()).output().expect("it runs");
+        assert!(!output.status.success() && output.stdout.is_empty(), "{words:?}");
+        assert!(String::from_utf8_lossy(&output.stderr).starts_with("usage: "), "{words:?}");
+    }
+    for (program, words) in [(program, vec!["new", &*good]), (form, vec![DAY])] {
+        let full = fs::File::options().write(true).open("/dev/full").expect("a full device");
+        let mut program = Command::new(program);
+        program.args(words).stdin(Stdio::null()).stdout(Stdio::from(full)).stderr(Stdio::piped());
+        let written = program.spawn().and_then(|child| child.wait_with_output()).expect("it runs");
+        assert!(!written.status.success());
+        assert!(String::from_utf8_lossy(&written.stderr).starts_with("standard output: "));
+    }
+}
+
 /// The calls of the examples' page, as the programs read them: the curfew is lifted and restored, and so is the request; then calls
 /// that are refused.
 const CALLS: [&str; 10] = ["-1", "+1", "-3", "-1", "+3", "+1", "+1", "-6", "-2", "-65535"];
@@ -435,6 +528,8 @@ fn the_guide_quotes_the_programs() {
         ("c", "comparison/snippets/readout.c"),
         ("c", "comparison/snippets/merge.c"),
         ("rust", "yestrwyn/examples/merge.rs"),
+        ("c", "comparison/snippets/convert.c"),
+        ("rust", "yestrwyn/examples/convert.rs"),
         ("c", "comparison/snippets/board.c"),
         ("rust", "yestrwyn/examples/board.rs"),
     ];

@@ -8,9 +8,11 @@ use yestrwyn::{
     canonical_readout, canonical_readout_piece, write_canonical_readout, write_canonical_readout_here,
 };
 use yestrwyn::{check, check_into, covers, covers_into, merge, merge_into, readout, readout_piece};
+use yestrwyn::{check_form, check_form_into, to_new, to_new_into, to_old, to_old_into, Form};
 use yestrwyn::{write_readout, write_readout_here, Board, Cells, Rest, Tables, Workspace, ENOUGH};
 use yestrwyn_second::board::Afresh;
 use yestrwyn_vectors::examples::deep;
+use yestrwyn_vectors::widened;
 
 /// Runs something on a thread of 128 KiB. A test's own thread has 2 MiB, and the check alone takes more
 /// than 1 MiB for any file.
@@ -57,6 +59,30 @@ fn the_deepest_files_on_a_small_thread() {
             assert_eq!(opened.as_mut().map(|board| board.withdraw(1)).map_err(|refusal| *refusal), after);
         });
         assert!(cells == second, "{}", example.name);
+    }
+}
+
+/// The same of the functions for files of either form.
+#[test]
+fn both_forms_of_the_deepest_files_on_a_small_thread() {
+    for example in deep::examples() {
+        let (old, new, mut cells) = (&example.file, &widened(&example.file), Cells::new());
+        let answers = [(Form::Old, old), (Form::New, new)]
+            .map(|(form, file)| yestrwyn_second::check_form(form, 0, file));
+        let [there, back] = [yestrwyn_second::to_new(old), yestrwyn_second::to_old(new)];
+        on_a_small_thread(|| {
+            for ((form, file), answer) in [(Form::Old, old), (Form::New, new)].into_iter().zip(answers) {
+                assert_eq!(check_form(form, 0, file).expect("an answer"), answer);
+                assert_eq!(check_form_into(form, 0, file, &mut cells.lend()).expect("an answer"), answer);
+            }
+            assert_eq!(to_new(old).expect("an answer"), there);
+            assert_eq!(to_old(new).expect("an answer"), back);
+            let mut output = vec![0; FILE_BYTES];
+            let length = to_new_into(old, &mut cells.lend(), &mut output).expect("an answer").length();
+            assert_eq!(length, there.as_ref().ok().map(Vec::len));
+            let length = to_old_into(new, &mut cells.lend(), &mut output).expect("an answer").length();
+            assert_eq!(length, back.as_ref().ok().map(Vec::len));
+        });
     }
 }
 

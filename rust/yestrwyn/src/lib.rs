@@ -1,5 +1,5 @@
-//! The proved check and readouts of resolution proof files, which of their clauses covers which, two files merged into one, and
-//! boards, on which input clauses are withdrawn and returned.
+//! The proved check and readouts of resolution proof files, which of their clauses covers which, two files merged into one, files
+//! converted between their two forms, and boards, on which input clauses are withdrawn and returned.
 //!
 //! ```no_run
 //! let file = std::fs::read("trip.proof")?;
@@ -20,7 +20,10 @@
 //! [`canonical_readout()`] is the readout with the variables of each line numbered by first appearance, so that clauses
 //! with the same literals in the same order, over the same symbols, print the same literals whichever planner wrote them.
 //!
-//! [`check()`], the readouts, [`covers()`] and [`merge()`] take care of the stack themselves. Functions that end in
+//! A file has one of two forms ([`Form`]): in the new one the days of a rule stand beside it. [`check_form()`] checks a file of
+//! either, [`to_new()`] and [`to_old()`] convert one, and everything else takes the old form.
+//!
+//! [`check()`], the readouts, [`covers()`], [`merge()`] and the conversions take care of the stack themselves. Functions that end in
 //! `_here` run on the caller's, and say how much of it they need. A service that checks many files keeps a
 //! [`Workspace`]; one that follows which rules are lifted and restored keeps a [`Board`].
 
@@ -30,7 +33,9 @@ pub mod exported;
 
 mod board;
 mod check;
+mod convert;
 mod cover;
+mod form;
 mod merge;
 mod readout;
 mod stack;
@@ -38,7 +43,9 @@ mod workspace;
 
 pub use board::Board;
 pub use check::{check, check_here, check_into};
+pub use convert::{to_new, to_new_here, to_new_into, to_old, to_old_here, to_old_into};
 pub use cover::{covers, covers_here, covers_into};
+pub use form::{check_form, check_form_here, check_form_into};
 pub use merge::{merge, merge_here, merge_into};
 pub use readout::{
     canonical_readout, canonical_readout_piece, canonical_readout_piece_here, write_canonical_readout,
@@ -49,9 +56,11 @@ pub use readout::{
 };
 pub use stack::{with_stack, STACK};
 pub use workspace::Workspace;
-pub use yestrwyn_types::{input_clauses, limits, record};
+pub use yestrwyn_types::{input_clauses, input_clauses_form, limits, record};
 pub use yestrwyn_types::{
-    Answer, BoardAnswer, BoardRefusal, Cells, ClauseState, Covering, InputClause, MergeRefusal, Merged,
-    Outcome, Reason, Tables, Verdict,
+    Answer, BoardAnswer, BoardRefusal, Cells, ClauseState, ConversionRefusal, Converted, Covering, Dated,
+    Form, InputClause, MergeRefusal, Merged, Outcome, Reason, Tables, Verdict,
 };
-pub use yestrwyn_types::{ANSWER_CELLS, BOARD_ANSWER_CELLS, COVERING_CELLS, LENGTHS, MERGED_CELLS};
+pub use yestrwyn_types::{
+    ANSWER_CELLS, BOARD_ANSWER_CELLS, CONVERTED_CELLS, COVERING_CELLS, LENGTHS, MERGED_CELLS,
+};

@@ -1,5 +1,5 @@
-//! Compares the proved check, plain and for services, the two proved readouts, which clause covers which, the proved merge and boards
-//! with the second implementation on files from a seed on, each on a day of its own:
+//! Compares the proved check, plain, for services and of either form, the two proved readouts, which clause covers which, the proved
+//! merge, conversions and boards with the second implementation on files from a seed on, each on a day of its own:
 //!
 //! ```text
 //! differential SEED COUNT
@@ -7,8 +7,8 @@
 //!
 //! All files are checked for services with one workspace. Of each readout it takes two pieces: the first with
 //! room for every line, and one from any clause with any room. Of the clauses of each file it compares two pairs. With each
-//! file goes a pair of files that it merges, a board with a sequence of calls, and a call on any contents of a board. Prints one
-//! line; at the first difference it prints the file, or what differs, in hexadecimal and ends with 1.
+//! file goes a pair of files that it merges, a file of either form that it checks and converts, a board with a sequence of calls, and
+//! a call on any contents of a board. Prints one line; at the first difference it prints the file, or what differs, in hexadecimal and ends with 1.
 
 use std::process::ExitCode;
 
@@ -16,16 +16,20 @@ use yestrwyn::with_stack;
 use yestrwyn_comparison::boards::{script_of, Any, BoardLengths, Boards};
 use yestrwyn_comparison::compare::{day_and_file_of, lengths_of, Pair};
 use yestrwyn_comparison::covers::{for_covering, Clauses, Coverings};
-use yestrwyn_comparison::merges::{pair_of, MergeLengths, Merges};
+use yestrwyn_comparison::forms::{form_of, Forms};
+use yestrwyn_comparison::merges::{pair_of, Merges};
+use yestrwyn_comparison::outputs::OutputLengths;
 use yestrwyn_comparison::pieces::{Second, READOUTS};
+use yestrwyn_comparison::Difference;
 use yestrwyn_vectors::examples::boards::Script;
+use yestrwyn_vectors::examples::forms::Formed;
 use yestrwyn_vectors::random::SplitMix64;
 
 /// Pairs of clauses that are compared of each file.
 const PAIRS: usize = 2;
 
-/// How many files gave each kind of answer, and how many had no room for one; and the same of the pairs of clauses and of
-/// the merges.
+/// How many files gave each kind of answer, and how many had no room for one; and the same of the pairs of clauses, of the merges, of
+/// the files of either form and of their conversions.
 #[derive(Default)]
 struct Tally {
     kinds: [u64; 3],
@@ -34,6 +38,10 @@ struct Tally {
     coverings_untouched: u64,
     merges: [u64; 3],
     merges_untouched: u64,
+    forms: [u64; 3],
+    forms_untouched: u64,
+    conversions: [u64; 3],
+    conversions_untouched: u64,
     bytes: u64,
 }
 
@@ -60,7 +68,8 @@ fn run(seed: u64, count: u64) -> ExitCode {
             println!("seed {own}: {difference}; {:?}; day {day}; file {}", lengths_of(own), hex(&file));
             return ExitCode::FAILURE;
         }
-        if let Err(difference) = both.merge(own, &mut tally).and_then(|()| both.board(own)) {
+        let others = both.merge(own, &mut tally).and_then(|()| both.form(own, &mut tally));
+        if let Err(difference) = others.and_then(|()| both.board(own)) {
             println!("seed {own}: {difference}");
             return ExitCode::FAILURE;
         }
@@ -68,14 +77,24 @@ fn run(seed: u64, count: u64) -> ExitCode {
     let Tally { kinds: [open, accepted, refused], untouched, bytes, .. } = tally;
     let Tally { coverings: [no, yes, nothing], coverings_untouched, .. } = tally;
     let Tally { merges: [written, _, not_written], merges_untouched, .. } = tally;
+    let Tally { forms, forms_untouched, conversions: [converted, _, not_converted], .. } = tally;
     let boards = both.boards.met;
     println!(
         "{count} files, {bytes} bytes, no difference: {open} open, {accepted} accepted, {refused} refused, \
          {untouched} with too short an answer; pairs of clauses: {yes} yes, {no} no, {nothing} refused, \
          {coverings_untouched} with too short an answer; merges: {written} written, {not_written} refused, \
-         {merges_untouched} with too short an answer; openings and calls of boards: {} with a clause, {} with none, \
+         {merges_untouched} with too short an answer; of either form: {} open, {} accepted, {} refused, {forms_untouched} with \
+         too short an answer; conversions: {converted} written, {not_converted} refused, {} with too short an answer; \
+         openings and calls of boards: {} with a clause, {} with none, \
          {} refused, {} with too short an answer",
-        boards.kinds[1], boards.kinds[0], boards.kinds[2], boards.untouched
+        forms[0],
+        forms[1],
+        forms[2],
+        tally.conversions_untouched,
+        boards.kinds[1],
+        boards.kinds[0],
+        boards.kinds[2],
+        boards.untouched
     );
     ExitCode::SUCCESS
 }
@@ -86,6 +105,7 @@ struct Both {
     pair: Pair,
     coverings: Coverings,
     merges: Merges,
+    forms: Forms,
     boards: Boards,
 }
 
@@ -111,12 +131,26 @@ impl Both {
 
     /// Counts the answer for a pair of files if the merge does not differ; otherwise says where, with the pair.
     fn merge(&mut self, own: u64, tally: &mut Tally) -> Result<(), String> {
-        let (pair, lengths) = (pair_of(own), MergeLengths::of(own));
+        let (pair, lengths) = (pair_of(own), OutputLengths::of(own));
         let kind = self.merges.compare([&pair.first, &pair.second], lengths, own as u16);
         let kind = kind.map_err(|difference| {
             format!("{difference}; {lengths:?}; first {}; second {}", hex(&pair.first), hex(&pair.second))
         })?;
         count(kind, &mut tally.merges, &mut tally.merges_untouched);
+        Ok(())
+    }
+
+    /// Counts the answers for a file of either form if neither check nor conversion differs; otherwise says where, with the file.
+    fn form(&mut self, own: u64, tally: &mut Tally) -> Result<(), String> {
+        let (file, lengths, outputs) = (form_of(own), lengths_of(!own), OutputLengths::of(!own));
+        let said = |difference: Difference| {
+            let Formed { form, day, file, .. } = &file;
+            format!("{difference}; {lengths:?}; {outputs:?}; {form:?} form, day {day}; file {}", hex(file))
+        };
+        let kind = self.forms.compare(&file, lengths, own as u16).map_err(said)?;
+        count(kind, &mut tally.forms, &mut tally.forms_untouched);
+        let kind = self.forms.convert(file.form, &file.file, outputs, own as u16).map_err(said)?;
+        count(kind, &mut tally.conversions, &mut tally.conversions_untouched);
         Ok(())
     }
 

@@ -1,9 +1,9 @@
-//! The proved check, plain and for services, which clause covers which, the proved merge and calls of boards, beside the second
-//! implementation on the same files in one run: tables in Markdown with the times and their ratio. Arguments name tables;
+//! The proved check, plain and for services, which clause covers which, the proved merge, conversions and calls of boards, beside the
+//! second implementation on the same files in one run: tables in Markdown with the times and their ratio. Arguments name tables;
 //! without any, all are made:
 //!
 //! ```text
-//! performance [check] [services] [calls] [covers] [merge] [board]
+//! performance [check] [services] [calls] [covers] [merge] [convert] [board]
 //! ```
 
 use std::env;
@@ -14,15 +14,17 @@ use std::time::{Duration, Instant};
 
 use yestrwyn::{Board, BoardRefusal, Workspace};
 use yestrwyn_comparison::clock::own_time;
-use yestrwyn_comparison::files::{called, measured, merged, ordinary, Called};
+use yestrwyn_comparison::files::{called, converted, measured, merged, ordinary, Called};
 use yestrwyn_comparison::questions::{questions, Question};
 use yestrwyn_comparison::rounds::Rounds;
 use yestrwyn_types::limits::{FILE_BYTES, RECORD_BYTES};
-use yestrwyn_types::{Answer, Cells};
+use yestrwyn_types::{Answer, Cells, Form};
 use yestrwyn_vectors::boards::Lent;
 use yestrwyn_vectors::examples::boards::{Call, Script};
+use yestrwyn_vectors::examples::forms::Formed;
 use yestrwyn_vectors::examples::merges::Merge;
 use yestrwyn_vectors::examples::{cases, heavy, Example};
+use yestrwyn_vectors::forms::convert_into;
 use yestrwyn_vectors::stored::groups;
 
 /// A measurement is repeated until it takes about so long.
@@ -32,19 +34,22 @@ const LONG_ENOUGH: Duration = Duration::from_millis(5);
 type Table = fn() -> io::Result<()>;
 
 /// The tables by name.
-const TABLES: [(&str, Table); 6] = [
+const TABLES: [(&str, Table); 7] = [
     ("check", check_table),
     ("services", services_table),
     ("calls", calls_table),
     ("covers", covers_table),
     ("merge", merge_table),
+    ("convert", convert_table),
     ("board", board_table),
 ];
 
 fn main() -> io::Result<()> {
     let asked: Vec<String> = env::args().skip(1).collect();
     if asked.iter().any(|name| TABLES.iter().all(|(table, _)| table != name)) {
-        return Err(io::Error::other("the tables are check, services, calls, covers, merge and board"));
+        return Err(io::Error::other(
+            "the tables are check, services, calls, covers, merge, convert and board",
+        ));
     }
     let tables =
         TABLES.iter().filter(|(table, _)| asked.is_empty() || asked.iter().any(|name| name == table));
@@ -99,6 +104,15 @@ fn merge_table() -> io::Result<()> {
     );
     println!("|---|---|---|---|---|---|---|---|");
     yestrwyn::with_stack(|| merged().iter().for_each(merge_line))
+}
+
+/// Files converted to the other form: the whole call, and the middle of what it takes more than a check of the file by its own form.
+fn convert_table() -> io::Result<()> {
+    println!(
+        "| file that is converted | proved | second | ratio | over ten rounds | proved, less the check | second, less the check | ratio |"
+    );
+    println!("|---|---|---|---|---|---|---|---|");
+    yestrwyn::with_stack(|| converted().iter().for_each(convert_line))
 }
 
 /// Calls of boards: the check of the file anew, for services, beside a call; and a call by the second implementation.
@@ -193,6 +207,26 @@ fn merge_line(pair: &Merge) {
     println!("| {} | {whole} | {} |", pair.name, less.middles());
 }
 
+/// A line of the table of conversions, both with tables and an output that are lent to them again and again.
+fn convert_line(Formed { name, form, file, .. }: &Formed) {
+    let mut outputs = [(); 2].map(|()| vec![0; FILE_BYTES]);
+    let [ours, theirs] = &mut outputs;
+    let mut proved = |cells: &mut Cells| match form {
+        Form::Old => yestrwyn::to_new_here(file, &mut cells.lend(), ours),
+        Form::New => yestrwyn::to_old_here(file, &mut cells.lend(), ours),
+    };
+    let mut other = |cells: &mut Cells| convert_into(*form, file, &mut cells.lend(), theirs);
+    let [plain, second]: [Check; 2] = match form {
+        Form::Old => [plain, second],
+        Form::New => [plain_new, second_new],
+    };
+    let [whole, less] = Rounds::take_parts(
+        || and_less_the_checks(&[file], &mut proved, plain),
+        || and_less_the_checks(&[file], &mut other, second),
+    );
+    println!("| {name} | {whole} | {} |", less.middles());
+}
+
 /// The lines of the last table for a file: each call is a withdrawal or a return, half of them either.
 fn board_lines(called: &Called) {
     let Called { name, file, clauses } = called;
@@ -249,11 +283,14 @@ fn time_calls(clauses: &[u16], mut run: impl FnMut(Call) -> Result<Option<u16>, 
     all / calls
 }
 
+/// A check of a file on a day.
+type Check = fn(u16, &[u8], &mut Cells) -> Answer;
+
 /// The time of something that checks files first, and that less the time of the checks alone.
 fn and_less_the_checks<T>(
     files: &[&[u8]],
     mut run: impl FnMut(&mut Cells) -> T,
-    check: fn(u16, &[u8], &mut Cells) -> Answer,
+    check: Check,
 ) -> [Duration; 2] {
     let mut cells = Cells::new();
     let whole = time(|| {
@@ -271,6 +308,16 @@ fn plain(day: u16, file: &[u8], cells: &mut Cells) -> Answer {
 /// The second implementation.
 fn second(day: u16, file: &[u8], cells: &mut Cells) -> Answer {
     yestrwyn_second::check_into(day, file, &mut cells.lend())
+}
+
+/// The proved check of a file of the new form.
+fn plain_new(day: u16, file: &[u8], cells: &mut Cells) -> Answer {
+    yestrwyn::check_form_here(Form::New, day, file, &mut cells.lend())
+}
+
+/// The second implementation's.
+fn second_new(day: u16, file: &[u8], cells: &mut Cells) -> Answer {
+    yestrwyn_second::check_form_into(Form::New, day, file, &mut cells.lend())
 }
 
 /// How long a check takes for all files.
