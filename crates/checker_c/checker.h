@@ -5,9 +5,10 @@
  *
  * Link with libchecker_c.a. All functions are proved to meet their contracts,
  * for every day, every file and whatever else they are lent (Exported.antt,
- * ExportedWith.antt, ExportedReadout.antt, ExportedCovers.antt and
- * ExportedMerge.antt in specs/ of the crates exported, exported_readout,
- * exported_covers and exported_merge).
+ * ExportedForm.antt, ExportedWith.antt, ExportedReadout.antt,
+ * ExportedCovers.antt, ExportedMerge.antt and, of checker_to_new and
+ * checker_to_old, ExportedConversion.antt in specs/ of the crates exported,
+ * exported_readout, exported_covers, exported_merge and exported_conversion).
  * They never fail, never block, ask for no memory and keep nothing between calls.
  * The contracts of the board are ExportedOpening, of checker_board_open, and
  * ExportedCall, of the other two, in ExportedBoard.antt in specs/ of the crate
@@ -16,8 +17,9 @@
  * That they come to an end asks for a stack of 8 MiB: call them on a thread
  * that has that much left. An ordinary file takes less than 1.5 MiB of it, and
  * the deepest files known up to 4 MiB; for the second readout it is half a MiB
- * more. No proof says how much a call takes. With a workspace (checker_check_with) it is some 24 KiB, and up to
- * 2.6 MiB; the rule is the same. */
+ * more. No proof says how much a call takes. With a workspace
+ * (checker_check_with) it is some 24 KiB, and up to 2.6 MiB; the rule is the
+ * same. */
 #ifndef CHECKER_H
 #define CHECKER_H
 
@@ -373,8 +375,9 @@ void checker_merge(const uint8_t *first, size_t first_len,
  * days of the last such record for it, or 0 and 65,535 if there is none. To the
  * old form, each record is written without its days, and straight after each
  * input clause whose days are not 0 and 65,535 comes one record of kind 8 with
- * them. Converted to the old form and back, a file has the same bytes; converted
- * to the new form and back, the same clauses, steps and days.
+ * them. If nothing is refused, a file converted to the old form and back has the
+ * same bytes, and one converted to the new form and back the same clauses, steps
+ * and days.
  *
  *   file      the bytes of the file
  *   symbols, rows, clauses, bindings
