@@ -9,7 +9,7 @@ use lib.Seq.{length-take-le}
 use borrow.Author.Tests.{eq-eqb, ne-eqb}
 use Rattle.record.specs.Bytes.{lowThenHigh, recordBytes, bytesIn, Bytes}
 use Rattle.record.specs.Record.{pick, Record, oldFile, withDays, recordCount, recordPart, decoded, records, kindOf}
-use Rattle.record.specs.declared.Form.the-variants.{Old, New}
+use Rattle.record.specs.declared.Form.the-variants.{New}
 use Rattle.record.proofs.Bytes.{record-whole}
 use Rattle.converting.specs.Converting.{isInput, isWindow, clausesAfter, lastDays, newRecord, unless, newRecordsFrom, toNewRecords}
 use Rattle.day_table.specs.DayTable.{daysAt}

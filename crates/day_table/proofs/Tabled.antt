@@ -6,12 +6,12 @@ use Prim.Native.Nat.{ℕ, zero, suc, _+_, _*_, _≤_, _<_}
 use native.Mathlib.Numerals.{add-one}
 use native.Mathlib.Omega.{arith}
 use lib.Dec.{eqb}
-use lib.ListN.{length, getD, set, drop, length-set, drop-of-length-le}
+use lib.ListN.{length, set, drop, length-set, drop-of-length-le}
 use lib.Seq.{getD-set-same, getD-set-other}
 use borrow.Author.Tests.{eq-eqb, ne-eqb}
 use Rattle.record.specs.Record.{pick, Record, oldFile, recordCount, recordPart, decoded, records, kindOf, fieldOf, fieldA, fieldB, fieldC}
 use Rattle.record.proofs.Records.{record-numbered, records-length}
-use Rattle.converting.specs.Converting.{always, isWindow, daysAfter, lastDays}
+use Rattle.converting.specs.Converting.{always, isWindow, daysAfter}
 use Rattle.converting.proofs.KindsDated.{equal}
 use Rattle.day_table.specs.DayTable.{daysAt, withDaysOf, alwaysBelow, withWindow, withWindows, DaysTold}
 

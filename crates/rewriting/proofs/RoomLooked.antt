@@ -1,10 +1,10 @@
 -- A result that has too many records for its form, and one that is written.
-use mathlib.Core.Path.{_≡_, sym, ap, ap₂, _∙_, subst}
+use mathlib.Core.Path.{_≡_, sym, ap, _∙_, subst}
 use mathlib.Core.Bool.{Bool, true, false}
 use mathlib.Core.List.{List, [], _∷_, _++_}
 use Prim.Native.Nat.{ℕ, _*_, _%_, _≤_, _<_}
 use native.Mathlib.Omega.{arith}
-use lib.Dec.{eqb, leb, ltb, leb→le}
+use lib.Dec.{eqb, leb, leb→le}
 use lib.ListN.{length, drop}
 use borrow.Author.Tests.{lt-ltb, le-ltb}
 use Rattle.record.specs.Bytes.{bytesIn}
@@ -13,7 +13,7 @@ use Rattle.record.specs.declared.Form.{Form}
 use Rattle.record.specs.declared.Form.the-variants.{Old, New}
 use Rattle.record.proofs.Bytes.{file-length}
 use Rattle.unification.proofs.Tests.{to-T, both-true}
-use Rattle.verdict.specs.Verdict.{fittingLength, fitting}
+use Rattle.verdict.specs.Verdict.{fittingLength}
 use Rattle.converting.specs.Answer.{Conversion, written, refusedWith, conversionNumbers, roomFor, outputLeft}
 use Rattle.converting.specs.Converting.{otherForm, mostRecords, toNewRecords, toOldRecords, converted, convertedFile}
 use Rattle.placing.specs.Placing.{Written}

@@ -1,5 +1,5 @@
 -- What is left, with what is counted, comes to the whole.
-use mathlib.Core.Path.{refl, sym, ap, _∙_}
+use mathlib.Core.Path.{refl, ap, _∙_}
 use Prim.Native.Nat.{ℕ, _+_, _-_, _≤_}
 use native.Mathlib.Omega.{arith}
 use Rattle.record.specs.Record.{newFile, decodedIn, records}

@@ -6,7 +6,6 @@ use native.Mathlib.Omega.{arith}
 use lib.ListN.{length}
 use Rattle.day_table.specs.DayTable.{alwaysBelow}
 use Rattle.day_table.proofs.Tabled.{days-length, none-always, one-always}
-use borrow.Author.Needs.{needs}
 use Rattle.day_table.proofs.put_always.Statement.{statement}
 use Rattle.day_table.proofs.put_always.Tie as tie
 use Rattle.day_table.proofs.put_always.Reads as reads

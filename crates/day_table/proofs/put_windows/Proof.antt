@@ -4,7 +4,7 @@ use mathlib.Core.List.{List}
 use Prim.Native.Nat.{ℕ, _-_, _≤_}
 use native.Mathlib.Omega.{arith}
 use lib.ListN.{length, drop}
-use Rattle.record.specs.Record.{oldFile, recordCount, records, decoded, recordPart}
+use Rattle.record.specs.Record.{oldFile, records, decoded}
 use Rattle.day_table.specs.DayTable.{withWindows}
 use Rattle.day_table.proofs.Tabled.{window-length, windows-on, windows-end}
 use borrow.Author.Needs.{needs}

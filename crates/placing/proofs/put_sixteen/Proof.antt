@@ -1,12 +1,10 @@
 -- After each turn the first i bytes are placed.
 use mathlib.Core.Path.{_≡_, refl, sym, ap, _∙_}
-use mathlib.Core.List.{List}
 use Prim.Native.Nat.{ℕ, _-_, _≤_}
 use native.Mathlib.Omega.{arith}
 use lib.ListN.{length, take, length-set}
 use Rattle.placing.specs.Placing.{placedAt}
 use Rattle.placing.proofs.Placing.{place-none, byte-placed}
-use borrow.Author.Needs.{needs}
 use Rattle.placing.proofs.put_sixteen.Statement.{statement}
 use Rattle.placing.proofs.put_sixteen.Tie as tie
 use Rattle.placing.proofs.put_sixteen.Reads as reads

@@ -1,5 +1,5 @@
 use native.Mathlib.Omega.{arith}
-use Rattle.convert_new.proofs.NewWritten.{window-dropped, next-room, part-placeable, pair-room, next-placed}
+use Rattle.convert_new.proofs.NewWritten.{window-dropped, part-placeable, pair-room, next-placed}
 use borrow.Author.Needs.{needs}
 use Rattle.convert_new.proofs.writing.write_next.Statement.{statement}
 use Rattle.convert_new.proofs.writing.write_next.Tie as tie
