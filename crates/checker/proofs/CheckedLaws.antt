@@ -20,6 +20,7 @@ use Rattle.demands.proofs.RepeatsShown.{repeats-shown}
 use Rattle.demands.proofs.SeveralShown.{several-shown}
 use Rattle.demands.proofs.TotalShown.{bindings-held}
 use Rattle.demands.proofs.DaysShown.{days-only-choose}
+use Rattle.demands.proofs.FormsShown.{old-form-as-before}
 use Rattle.demands.proofs.LiftingShown.{nothing-lost}
 use Rattle.demands.proofs.Demanded.{check-length, check-tables, check-reads, tables-length, tables-short, tables-read, demand1, demand2, demand3}
 use borrow.Author.Tests.{not-false, not-true}
@@ -43,6 +44,7 @@ module _ (day : ℕ) (F : File) (t : Tables) (a : Answer) (here : Tables) (isAns
     several = several-shown F;
     held = bindings-held day F t;
     lifting = nothing-lost F;
+    forms = old-form-as-before;
     days = days-only-choose F (lengthsOf t);
   }
 

@@ -9,6 +9,7 @@ use Rattle.unification.specs.Row.{Variable}
 use Rattle.derivation.specs.Stored.{originTableOf}
 use Rattle.demands.specs.Days.{DaysOnlyChoose}
 use Rattle.demands.specs.Demands.{Demand1, Demand2, Demand3}
+use Rattle.demands.specs.Forms.{OldFormAsBefore}
 use Rattle.demands.specs.Lifting.{NothingLost}
 use Rattle.demands.specs.Outlines.{OutlinesBeforeUnification}
 use Rattle.verdict.specs.Refusal.{Reason}
@@ -46,6 +47,8 @@ pub record Checked (day : ℕ) (file : File) (before : Tables) (a : Answer) (aft
   pub days : DaysOnlyChoose file (lengthsOf before)
   -- Document 02, Q-7.
   pub lifting : NothingLost file
+  -- Document 02, Q-11.
+  pub forms : OldFormAsBefore
 
 -- A node table, a table of origins and an array of values that the caller lends, whatever they hold.
 pub record Workspace : Type 0 where

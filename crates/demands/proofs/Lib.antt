@@ -27,3 +27,4 @@ pub mod TotalShown
 pub mod LiftingShown
 pub mod DaysShown
 pub mod LengthsShown
+pub mod FormsShown

@@ -7,3 +7,4 @@ pub mod Total
 pub mod Lifting
 pub mod Days
 pub mod Lengths
+pub mod Forms

@@ -103,7 +103,7 @@ fn derived(origins: &Origins, count: u16, flags: &mut [u16])
     }
 }
 
-// Which of so many clauses are in force on a day: by the windows of the file, and the clauses' parents. The flags are 1 before.
+// Which of so many clauses are in force on a day: by the days that the records of the file give, and the clauses' parents. The flags are 1 before.
 pub fn in_force(form: Form, day: u16, file: &[u8], origins: &Origins, count: u16, flags: &mut [u16])
     requires { ⌜ length (now origins) ≡ 32768 ⌝ }
     ensures { λ _. ⌜ now (flags .exit) ≡ flagsInForce day (inForm form (now (file .entry))) (now (origins .entry)) count (now (flags .entry)) ⌝ }
