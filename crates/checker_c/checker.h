@@ -16,7 +16,7 @@
  *
  * That they come to an end asks for a stack of 8 MiB: call them on a thread
  * that has that much left. An ordinary file takes less than 1.5 MiB of it, and
- * the deepest files known up to 4 MiB; for the second readout it is half a MiB
+ * the deepest files known up to 4 MiB; for the readouts it is half a MiB
  * more. No proof says how much a call takes. With a workspace
  * (checker_check_with) it is some 24 KiB, and up to 2.6 MiB; the rule is the
  * same. */

@@ -5,7 +5,7 @@ use std::panic;
 use std::thread::{self, Builder};
 
 /// The stack that a check may need. Ordinary files take less than 1.5 MiB and the deepest that we know
-/// of 4 MiB, and half a MiB more for the second readout; how much a call takes is measured and not proved, so the rule is twice that.
+/// of 4 MiB, and half a MiB more for the readouts; how much a call takes is measured and not proved, so the rule is twice that.
 pub const STACK: usize = 8 << 20;
 
 /// Runs something on a thread of its own with [`STACK`] bytes of stack, and waits for it. It may borrow
