@@ -1,5 +1,5 @@
 -- Document 01, "The file": sixteen bytes are a record, with its kind, its count and seven fields. Document 02, Q-11: in the new form a record has four bytes more,
--- two days. What comes after it is over records: the form is asked for again only by the test of a file's length.
+-- two days. What the check does with a file is over its records; besides them the form decides which lengths a file may have.
 -- A file's parts are lists of bytes; a byte that a list does not have is 0.
 use mathlib.Core.Bool.{Bool, true, false}
 use mathlib.Core.Option.{Option, none, some}
