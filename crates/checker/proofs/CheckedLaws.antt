@@ -117,3 +117,12 @@ cleared-nodes = refl
 pub cleared-origins : clearTable ≡ originTableOf []
 unfolding clearTable
 cleared-origins = refl
+
+-- The tables that a check leaves, by their parts.
+pub tables-checked : (day : ℕ) (file : File) (before : Tables) (a : Answer) (after : Tables) → Checked day file before a after → after ≡ tablesAfter file before
+tables-checked day file before a after K =
+    let s = K .symbols in
+    let r = K .rows in
+    let c = K .clauses in
+    let b = K .bindings in
+    λ i. record { symbols = s i; rows = r i; clauses = c i; bindings = b i }

@@ -6,15 +6,16 @@ use Prim.Native.Nat.{ℕ}
 use lib.ListN.{length}
 use Rattle.record.specs.Record.{File}
 use Rattle.verdict.specs.Tables.{Tables}
-use Rattle.converting.specs.Answer.{conversionNumbers, conversionAnswer, tablesLeft, outputLeft}
+use Rattle.writing.specs.Writing.{writingNumbers, outputLeft}
+use Rattle.converting.specs.Answer.{conversionAnswer, tablesLeft}
 use Rattle.converting.specs.Converting.{convertedFile}
 use Rattle.converting.specs.Promised.{ConversionPromised}
-use Rattle.rewriting.specs.Given.{conversionGiven}
-use Rattle.rewriting.specs.declared.ConversionOutcome.{ConversionOutcome}
+use Rattle.writing_answer.specs.Given.{writingGiven}
+use Rattle.writing_answer.specs.declared.WritingOutcome.{WritingOutcome}
 
-pub record ConversionAnswered (file : File) (before : Tables) (outputBefore : List ℕ) (m : ConversionOutcome) (after : Tables) (outputAfter : List ℕ) : Type 0 where
+pub record ConversionAnswered (file : File) (before : Tables) (outputBefore : List ℕ) (m : WritingOutcome) (after : Tables) (outputAfter : List ℕ) : Type 0 where
   -- The four numbers of the answer, each table, cell by cell, and every byte of the output.
-  pub answer : conversionGiven m ≡ conversionNumbers (conversionAnswer file before (length outputBefore))
+  pub answer : writingGiven m ≡ writingNumbers (conversionAnswer file before (length outputBefore))
   pub symbols : after .symbols ≡ tablesLeft file before (length outputBefore) .symbols
   pub rows : after .rows ≡ tablesLeft file before (length outputBefore) .rows
   pub clauses : after .clauses ≡ tablesLeft file before (length outputBefore) .clauses

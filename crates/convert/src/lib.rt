@@ -1,33 +1,19 @@
 // A proof file converted to the other form. What that is, and what is shown of it, the crate converting has. In specs/, `Contract` has what this crate promises.
 // What comes after the check is in the crate rewriting.
-use answer::Verdict;
 use answer::stands;
 use checker::check_with;
 use following::nodes::Nodes;
 use following::nodes::Origins;
 use following::values::ValueCells;
 use record::Form;
-use rewriting::ConversionOutcome;
 use rewriting::rewrite;
-ghost use mathlib.Core.Path.{_≡_};
+use writing_answer::WritingOutcome;
+use writing_answer::refusal;
 ghost use Prim.Native.Nat.{_≤_};
 ghost use lib.ListN.{length};
 ghost use Rattle.record.specs.Record.{inForm, oldFile, newFile};
 ghost use Rattle.entry.specs.Progress.{tablesWith};
-ghost use Rattle.rewriting.specs.Given.{conversionGiven};
 ghost use Rattle.convert.specs.Contract.{ConversionAnswered};
-ghost use Rattle.convert.specs.Refusal.{refusalGiven};
-
-// The file's own refusal. A verdict that is none has the number 0, which nobody asks for.
-fn refusal(verdict: Verdict) -> ConversionOutcome
-    ensures { λ m. ⌜ conversionGiven m ≡ refusalGiven verdict ⌝ }
-{
-    match verdict {
-        Verdict::Open => ConversionOutcome::Refused(0, 1, 0),
-        Verdict::Accepted(n) => ConversionOutcome::Refused(0, 1, 0),
-        Verdict::Refused(q, k) => ConversionOutcome::Refused(q, 1, k),
-    }
-}
 
 // The conversion with a workspace for the check, which then takes the days of an old file.
 fn convert_with(
@@ -41,7 +27,7 @@ fn convert_with(
     origins: &mut Origins,
     values: &mut ValueCells,
     output: &mut [u8],
-) -> ConversionOutcome
+) -> WritingOutcome
     requires { ⌜ 65536 ≤ length (now output) ⌝ }
     ensures { λ m. ⌜ ConversionAnswered (inForm form (now (file .entry))) (tablesWith (now (symbols .entry)) (now (rows .entry)) (now (clauses .entry)) (now (bindings .entry))) (now (output .entry)) m (tablesWith (now (symbols .exit)) (now (rows .exit)) (now (clauses .exit)) (now (bindings .exit))) (now (output .exit)) ⌝ }
 {
@@ -59,7 +45,7 @@ fn convert_with(
     );
     let v = a.verdict;
     if !stands(v) {
-        return refusal(v);
+        return refusal(v, 1);
     }
     rewrite(form, file, nodes, output)
 }
@@ -75,11 +61,11 @@ fn convert(
     clauses: &mut [u16],
     bindings: &mut [u16],
     output: &mut [u8],
-) -> ConversionOutcome
+) -> WritingOutcome
     ensures { λ m. ⌜ ConversionAnswered (inForm form (now (file .entry))) (tablesWith (now (symbols .entry)) (now (rows .entry)) (now (clauses .entry)) (now (bindings .entry))) (now (output .entry)) m (tablesWith (now (symbols .exit)) (now (rows .exit)) (now (clauses .exit)) (now (bindings .exit))) (now (output .exit)) ⌝ }
 {
     if output.len() < 65536 {
-        return ConversionOutcome::Refused(2, 0, 0);
+        return WritingOutcome::Refused(2, 0, 0);
     }
     let mut nodes = [0u16; 32768];
     let mut origins = [0u16; 32768];
@@ -106,7 +92,7 @@ pub fn to_new(
     clauses: &mut [u16],
     bindings: &mut [u16],
     output: &mut [u8],
-) -> ConversionOutcome
+) -> WritingOutcome
     ensures { λ m. ⌜ ConversionAnswered (oldFile (now (file .entry))) (tablesWith (now (symbols .entry)) (now (rows .entry)) (now (clauses .entry)) (now (bindings .entry))) (now (output .entry)) m (tablesWith (now (symbols .exit)) (now (rows .exit)) (now (clauses .exit)) (now (bindings .exit))) (now (output .exit)) ⌝ }
 {
     convert(Form::Old, file, symbols, rows, clauses, bindings, output)
@@ -120,7 +106,7 @@ pub fn to_old(
     clauses: &mut [u16],
     bindings: &mut [u16],
     output: &mut [u8],
-) -> ConversionOutcome
+) -> WritingOutcome
     ensures { λ m. ⌜ ConversionAnswered (newFile (now (file .entry))) (tablesWith (now (symbols .entry)) (now (rows .entry)) (now (clauses .entry)) (now (bindings .entry))) (now (output .entry)) m (tablesWith (now (symbols .exit)) (now (rows .exit)) (now (clauses .exit)) (now (bindings .exit))) (now (output .exit)) ⌝ }
 {
     convert(Form::New, file, symbols, rows, clauses, bindings, output)

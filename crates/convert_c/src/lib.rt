@@ -1,7 +1,7 @@
 // The conversions of a proof file with their answer in cells, as C has it. `ExportedConversion` in specs/ of the crate exported_conversion says what they promise.
 use convert::to_new;
 use convert::to_old;
-use exported_conversion::put_conversion;
+use exported_writing::put_writing;
 ghost use Rattle.record.specs.Record.{oldFile, newFile};
 ghost use Rattle.entry.specs.Progress.{tablesWith};
 ghost use Rattle.exported_conversion.specs.ExportedConversion.{ExportedConversion};
@@ -22,7 +22,7 @@ pub fn new_to_cells(
         return;
     }
     let m = to_new(file, symbols, rows, clauses, bindings, output);
-    put_conversion(m, answer);
+    put_writing(m, answer);
 }
 
 // A new file in the old form, in the same way.
@@ -41,5 +41,5 @@ pub fn old_to_cells(
         return;
     }
     let m = to_old(file, symbols, rows, clauses, bindings, output);
-    put_conversion(m, answer);
+    put_writing(m, answer);
 }

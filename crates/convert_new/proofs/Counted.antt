@@ -7,9 +7,8 @@ use native.Mathlib.Omega.{arith}
 use lib.ListN.{length}
 use borrow.Author.Tests.{eq-eqb, ne-eqb}
 use Rattle.record.specs.Record.{pick, Record, oldFile, decoded, records, kindOf}
-use Rattle.converting.specs.Converting.{isWindow, clausesAfter, newRecord, unless, newRecordsFrom, toNewRecords}
-use Rattle.converting.specs.Promised.{howMany}
-use Rattle.placing.specs.Placing.{one}
+use Rattle.record.specs.Sorts.{isWindow, clausesAfter, unless, howMany, one}
+use Rattle.converting.specs.Converting.{newRecord, newRecordsFrom, toNewRecords}
 use Rattle.convert_new.specs.NewFile.{isKept}
 
 module _ (part : List ℕ) {k : ℕ} (isKind : k ≡ kindOf part) where

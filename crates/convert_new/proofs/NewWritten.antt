@@ -11,11 +11,13 @@ use Rattle.record.specs.Bytes.{lowThenHigh, recordBytes, bytesIn, Bytes}
 use Rattle.record.specs.Record.{pick, Record, oldFile, withDays, recordCount, recordPart, decoded, records, kindOf}
 use Rattle.record.specs.declared.Form.the-variants.{New}
 use Rattle.record.proofs.Bytes.{record-whole}
-use Rattle.converting.specs.Converting.{isInput, isWindow, clausesAfter, lastDays, newRecord, unless, newRecordsFrom, toNewRecords}
+use Rattle.record.proofs.Sorts.{unless-joined}
+use Rattle.record.specs.Sorts.{isInput, isWindow, clausesAfter, unless}
+use Rattle.converting.specs.Converting.{lastDays, newRecord, newRecordsFrom, toNewRecords}
 use Rattle.day_table.specs.DayTable.{daysAt}
 use Rattle.placing.specs.Placing.{placedAt, PartPlaceable, Placed, Written}
 use Rattle.placing.proofs.Placing.{place-none, place-length, place-two, part-length, first-sixteen}
-use Rattle.placing.proofs.Going.{unless-joined, Going, ByRecord, going-first, few-now, going-room, going-more, going-end}
+use Rattle.placing.proofs.Going.{Going, ByRecord, going-first, few-now, going-room, going-more, going-end}
 use Rattle.convert_new.specs.NewFile.{dayBeside, tabled, newOf, NextWritable, NewWritable}
 
 -- ── A day ──

@@ -7,8 +7,9 @@ use Prim.Native.Nat.{ℕ, _+_, _*_, _≤_, _<_}
 use lib.ListN.{length, getD}
 use Rattle.record.specs.Bytes.{bytesIn}
 use Rattle.record.specs.Record.{pick, Record, oldFile, withDays, decoded, records}
+use Rattle.record.specs.Sorts.{isInput, isWindow, unless}
 use Rattle.record.specs.declared.Form.the-variants.{New}
-use Rattle.converting.specs.Converting.{isInput, isWindow, lastDays, unless, toNewRecords}
+use Rattle.converting.specs.Converting.{lastDays, toNewRecords}
 use Rattle.day_table.specs.DayTable.{daysAt}
 
 -- A record remains if it is no window.

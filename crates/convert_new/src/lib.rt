@@ -9,8 +9,8 @@ use record::record_part;
 ghost use mathlib.Core.Path.{_≡_};
 ghost use lib.ListN.{length};
 ghost use Rattle.record.specs.Record.{decoded, oldFile, records};
+ghost use Rattle.record.specs.Sorts.{one};
 ghost use Rattle.converting.specs.Converting.{toNewRecords};
-ghost use Rattle.placing.specs.Placing.{one};
 ghost use Rattle.convert_new.specs.NewFile.{isKept};
 
 // 1 for a record that remains, and 0 for a window.

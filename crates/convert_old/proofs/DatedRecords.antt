@@ -10,10 +10,9 @@ use borrow.Author.Tests.{eq-eqb, ne-eqb}
 use Rattle.record.specs.Record.{newFile, recordCount, decodedIn, records, kindOf, fieldOf}
 use Rattle.record.specs.declared.Form.the-variants.{New}
 use Rattle.record.proofs.Records.{records-length}
+use Rattle.record.specs.Sorts.{howMany, one}
 use Rattle.converting.specs.Converting.{isDated, toOldRecords}
-use Rattle.converting.specs.Promised.{howMany}
 use Rattle.converting.proofs.ConvertedStands.{old-counted}
-use Rattle.placing.specs.Placing.{one}
 
 -- The tests, and what they come to.
 abbrev tested : Bool → Bool → Bool → Bool

@@ -10,10 +10,12 @@ use Rattle.record.specs.Bytes.{lowThenHigh, recordBytes, bytesIn, Bytes}
 use Rattle.record.specs.Record.{Record, newFile, recordCount, recordPart, decoded, decodedIn, records, fieldOf}
 use Rattle.record.specs.declared.Form.the-variants.{Old, New}
 use Rattle.record.proofs.Bytes.{record-whole}
-use Rattle.converting.specs.Converting.{clausesAfter, unless, withoutDays, daysBeside, windowRecord, isDated, oldRecordsFrom, toOldRecords}
+use Rattle.record.proofs.Sorts.{unless-joined}
+use Rattle.record.specs.Sorts.{clausesAfter, unless}
+use Rattle.converting.specs.Converting.{withoutDays, daysBeside, windowRecord, isDated, oldRecordsFrom, toOldRecords}
 use Rattle.placing.specs.Placing.{placedAt, PartPlaceable, Placed, Written}
 use Rattle.placing.proofs.Placing.{place-length, place-two, part-length, first-sixteen}
-use Rattle.placing.proofs.Going.{unless-joined, Going, ByRecord, going-first, few-now, going-room, going-more, going-end}
+use Rattle.placing.proofs.Going.{Going, ByRecord, going-first, few-now, going-room, going-more, going-end}
 use Rattle.convert_old.specs.OldFile.{oldOf, NextWritable, OldWritable}
 
 -- ── A window, two numbers at a time ──

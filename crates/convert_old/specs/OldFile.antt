@@ -7,8 +7,9 @@ use Prim.Native.Nat.{ℕ, _+_, _≤_, _<_}
 use lib.ListN.{length}
 use Rattle.record.specs.Bytes.{bytesIn}
 use Rattle.record.specs.Record.{Record, newFile, decodedIn, records}
+use Rattle.record.specs.Sorts.{unless}
 use Rattle.record.specs.declared.Form.the-variants.{Old, New}
-use Rattle.converting.specs.Converting.{unless, withoutDays, daysBeside, windowRecord, isDated, toOldRecords}
+use Rattle.converting.specs.Converting.{withoutDays, daysBeside, windowRecord, isDated, toOldRecords}
 
 -- What a record becomes, where the next clause has the number n: itself without its days, and the window of a clause that is not always in force.
 abbrev pub oldOf : ℕ → Record → List Record

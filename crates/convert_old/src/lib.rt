@@ -10,9 +10,9 @@ use record::record_part;
 ghost use mathlib.Core.Path.{_≡_};
 ghost use lib.ListN.{length};
 ghost use Rattle.record.specs.Record.{decodedIn, newFile, records};
+ghost use Rattle.record.specs.Sorts.{one};
 ghost use Rattle.record.specs.declared.Form.the-variants.{New};
 ghost use Rattle.converting.specs.Converting.{isDated, toOldRecords};
-ghost use Rattle.placing.specs.Placing.{one};
 
 // Whether a record of the new form is an input clause that is not always in force.
 pub fn is_dated(part: &[u8]) -> bool

@@ -2,12 +2,11 @@
 use mathlib.Core.Path.{_≡_, refl, sym, ap, _∙_, subst}
 use mathlib.Core.Bool.{Bool, true, false}
 use mathlib.Core.Option.{Option, none, some}
-use mathlib.Core.List.{List, [], _∷_, _++_}
-use Prim.Native.Nat.{ℕ, suc, _+_, _-_, _*_, _≤_, _<_}
+use mathlib.Core.List.{List, [], _∷_}
+use Prim.Native.Nat.{ℕ, suc, _*_, _≤_, _<_}
 use native.Mathlib.Omega.{arith}
 use lib.Dec.{ltb, ltb→lt, lt→ltb, nltb→le}
-use lib.ListN.{length, getD, drop, length-append, length-drop, List·getD-append}
-use lib.Seq.{getD-append-add, getD-drop}
+use lib.ListN.{length, getD}
 use Rattle.record.specs.Record.{File, recordLength}
 use Rattle.record.specs.declared.Form.{Form}
 use Rattle.record.specs.declared.Form.the-variants.{Old, New}
@@ -19,9 +18,11 @@ use Rattle.verdict.specs.Tables.{Tables, lengthsOf, tablesAfter}
 use Rattle.verdict.specs.Verdict.{Verdict, accepted, open′, refusal, Lengths, standing, firstEmpty, Reading, untouched, readTo, reading, verdictGiven, longEnough, fitting, ending, check, Stands}
 use Rattle.verdict.specs.Force.{usesInForce}
 use Rattle.verdict.proofs.Endings.{reading-length, reading-tables, reading-records}
-use Rattle.converting.specs.Answer.{Conversion, written, refusedWith, roomFor, unlessRefused, conversionAnswer, tablesLeft, outputLeft}
+use Rattle.writing.specs.Writing.{Writing, written, refusedWith, unlessRefused, outputLeft, WrittenAt}
+use Rattle.writing.proofs.Written.{same-refused, written-not-refused, same-written, written-at, refused-kept}
+use Rattle.converting.specs.Answer.{roomFor, conversionAnswer, tablesLeft}
 use Rattle.converting.specs.Converting.{otherForm, mostRecords, converted, convertedFile}
-use Rattle.converting.specs.Promised.{Condition, shortOutput, fileRefused, tooManyNew, tooManyOld, SameContents, WrittenAt, ConversionPromised}
+use Rattle.converting.specs.Promised.{Condition, shortOutput, fileRefused, tooManyNew, tooManyOld, SameContents, ConversionPromised}
 use Rattle.converting.proofs.ConvertedBytes.{converted-bytes}
 use Rattle.converting.proofs.ConvertedStands.{converted-length, converted-stands, new-counted, old-counted}
 use Rattle.converting.proofs.Days.{SameDays}
@@ -70,15 +71,6 @@ any-day file n day other reason k = try (reading file n)
     try (readTo (refusedAt S x j)) q = q
 
 -- ── The answer ──
-same-refused : {a b c x y z : ℕ} → refusedWith a b c ≡ refusedWith x y z → (a ≡ x) × (b ≡ y) × (c ≡ z)
-same-refused e = (cc, cc, cc)
-
-written-not-refused : {n a b c : ℕ} → written n ≡ refusedWith a b c → ⊥
-written-not-refused e = let z : _≡_ {A = ℕ} 0 1 = cc in omega arith
-
-same-written : {n m : ℕ} → written n ≡ written m → n ≡ m
-same-written e = cc
-
 same-contents : (S T : State) → SameDays S T → SameContents S T
 same-contents S T D = record { symbols = D .alike .sameArities; rows = D .alike .sameRows; clauses = D .alike .sameClauses; days = D .days }
 
@@ -87,20 +79,20 @@ contents-again S T U a b = record { symbols = a .symbols ∙ b .symbols; rows = 
 
 module _ (file : File) (tables : Tables) (room : ℕ) where
   -- The refusal that the condition at a place gives, or nothing of the kind.
-  abbrev nothing : Conversion
+  abbrev nothing : Writing
   nothing = written 0
 
   abbrev most : ℕ
   most = mostRecords (otherForm (file .form))
 
-  abbrev places : List Conversion
+  abbrev places : List Writing
   places =
       (elim (ltb room 65536) [ true ↦ refusedWith 2 0 0 | false ↦ nothing ])
-      ∷ unlessRefused (check 0 file (lengthsOf tables) .verdict) nothing
+      ∷ unlessRefused 1 (check 0 file (lengthsOf tables) .verdict) nothing
       ∷ (elim (ltb most (length (converted file))) [ true ↦ refusedWith 22 0 0 | false ↦ nothing ])
       ∷ []
 
-  abbrev given : ℕ → Conversion
+  abbrev given : ℕ → Writing
   given place = getD places place nothing
 
   -- 22, by the form of the file.
@@ -116,7 +108,7 @@ module _ (file : File) (tables : Tables) (room : ℕ) where
 
   gives : {place number which k : ℕ} → Condition file tables room place number which k → given place ≡ refusedWith number which k
   gives (shortOutput l) = ap (λ (b : Bool). elim b [ true ↦ refusedWith 2 0 0 | false ↦ nothing ]) (from-T (ltb room 65536) (lt→ltb room 65536 l))
-  gives (fileRefused q) = ap (λ (v : Verdict). unlessRefused v nothing) q
+  gives (fileRefused q) = ap (λ (v : Verdict). unlessRefused 1 v nothing) q
   gives (tooManyNew e l) = too-many (subst (λ (x : Form). mostRecords (otherForm x) < length (converted file)) (sym e) l)
   gives (tooManyOld e l) = too-many (subst (λ (x : Form). mostRecords (otherForm x) < length (converted file)) (sym e) l)
 
@@ -142,7 +134,7 @@ module _ (file : File) (tables : Tables) (room : ℕ) where
           absurd (written-not-refused (sym e ∙ ap given (sym z) ∙ gives c))
 
   -- What the conversion has come to: the first condition that holds, or none.
-  data Outcome : Conversion → Type 0 where
+  data Outcome : Writing → Type 0 where
     refusedBy : {place number which k : ℕ} → Condition file tables room place number which k → ((p n f j : ℕ) → Condition file tables room p n f j → place ≤ p) → Outcome (refusedWith number which k)
     none-holds : ((p n f j : ℕ) → ¬ Condition file tables room p n f j) → Outcome (written (recordLength (otherForm (file .form)) * length (converted file)))
 
@@ -153,13 +145,13 @@ module _ (file : File) (tables : Tables) (room : ℕ) where
       try true q = refusedBy (by-form q) h
       try false q = none-holds (λ p n f j c. let l = past 2 h (ap (λ (b : Bool). elim b [ true ↦ refusedWith 22 0 0 | false ↦ nothing ]) q) p n f j c in let m = three-places c in omega arith)
 
-  verdict-outcome : From 1 → Outcome (unlessRefused (check 0 file (lengthsOf tables) .verdict) (roomFor file))
+  verdict-outcome : From 1 → Outcome (unlessRefused 1 (check 0 file (lengthsOf tables) .verdict) (roomFor file))
   verdict-outcome h = try (check 0 file (lengthsOf tables) .verdict) refl
     where
-      try : (v : Verdict) → check 0 file (lengthsOf tables) .verdict ≡ v → Outcome (unlessRefused v (roomFor file))
+      try : (v : Verdict) → check 0 file (lengthsOf tables) .verdict ≡ v → Outcome (unlessRefused 1 v (roomFor file))
       try (refusal reason k) q = refusedBy (fileRefused q) h
-      try (accepted n) q = room-outcome (past 1 h (ap (λ (v : Verdict). unlessRefused v nothing) q))
-      try open′ q = room-outcome (past 1 h (ap (λ (v : Verdict). unlessRefused v nothing) q))
+      try (accepted n) q = room-outcome (past 1 h (ap (λ (v : Verdict). unlessRefused 1 v nothing) q))
+      try open′ q = room-outcome (past 1 h (ap (λ (v : Verdict). unlessRefused 1 v nothing) q))
 
   outcome : Outcome (conversionAnswer file tables room)
   unfolding conversionAnswer
@@ -168,18 +160,18 @@ module _ (file : File) (tables : Tables) (room : ℕ) where
       start : From 0
       start p n f j c = omega arith
 
-      try : (b : Bool) → ltb room 65536 ≡ b → Outcome (elim b [ true ↦ refusedWith 2 0 0 | false ↦ unlessRefused (check 0 file (lengthsOf tables) .verdict) (roomFor file) ])
+      try : (b : Bool) → ltb room 65536 ≡ b → Outcome (elim b [ true ↦ refusedWith 2 0 0 | false ↦ unlessRefused 1 (check 0 file (lengthsOf tables) .verdict) (roomFor file) ])
       try true q = refusedBy (shortOutput (ltb→lt room 65536 (to-T (ltb room 65536) q))) start
       try false q = verdict-outcome (past 0 start (ap (λ (b : Bool). elim b [ true ↦ refusedWith 2 0 0 | false ↦ nothing ]) q))
 
-  refused-only : (number which k : ℕ) (m : Conversion) → Outcome m → m ≡ refusedWith number which k
+  refused-only : (number which k : ℕ) (m : Writing) → Outcome m → m ≡ refusedWith number which k
       → (place : ℕ) × Condition file tables room place number which k × ((p n f j : ℕ) → Condition file tables room p n f j → place ≤ p)
   refused-only number which k m (refusedBy {place} {number = n} {which = f} {k = j} c least) e =
       let s = same-refused e in
       (place, subst (λ (x : ℕ). Condition file tables room place x which k) (s .0) (subst (λ (x : ℕ). Condition file tables room place n x k) (s .1) (subst (λ (x : ℕ). Condition file tables room place n f x) (s .2) c)), least)
   refused-only number which k m (none-holds h) e = absurd (written-not-refused e)
 
-  refused-if : (place number which k : ℕ) (m : Conversion) → Outcome m → Condition file tables room place number which k → ((p n f j : ℕ) → Condition file tables room p n f j → place ≤ p) → m ≡ refusedWith number which k
+  refused-if : (place number which k : ℕ) (m : Writing) → Outcome m → Condition file tables room place number which k → ((p n f j : ℕ) → Condition file tables room p n f j → place ≤ p) → m ≡ refusedWith number which k
   refused-if place number which k m (refusedBy {place = q} {number = n} {which = f} {k = j} c least) d l =
       let a = l q n f j c in
       let b = least place number which k d in
@@ -187,11 +179,11 @@ module _ (file : File) (tables : Tables) (room : ℕ) where
       sym (gives c) ∙ ap given e ∙ gives d
   refused-if place number which k m (none-holds h) d l = absurd (h place number which k d)
 
-  written-only : (n : ℕ) (m : Conversion) → Outcome m → m ≡ written n → (n ≡ length (convertedFile file .bytes)) × ((p x f j : ℕ) → ¬ Condition file tables room p x f j)
+  written-only : (n : ℕ) (m : Writing) → Outcome m → m ≡ written n → (n ≡ length (convertedFile file .bytes)) × ((p x f j : ℕ) → ¬ Condition file tables room p x f j)
   written-only n m (refusedBy c least) e = absurd (written-not-refused (sym e))
   written-only n m (none-holds h) e = (sym (same-written e) ∙ sym (converted-length file), h)
 
-  written-if : (m : Conversion) → Outcome m → ((p n f j : ℕ) → ¬ Condition file tables room p n f j) → m ≡ written (length (convertedFile file .bytes))
+  written-if : (m : Writing) → Outcome m → ((p n f j : ℕ) → ¬ Condition file tables room p n f j) → m ≡ written (length (convertedFile file .bytes))
   written-if m (refusedBy {place} {number} {which} {k} c least) h = absurd (h place number which k c)
   written-if m (none-holds g) h = ap written (sym (converted-length file))
 
@@ -244,16 +236,7 @@ module _ (file : File) (tables : Tables) (room : ℕ) where
         let r : ¬ (room < 65536) = λ s. no-condition 0 2 0 0 (shortOutput s) in
         let h = not-longer .0 in
         let m = its-length in
-        let q = length-drop n output in
-        let p = length-append (convertedFile file .bytes) (drop n output) in
-        subst (λ (a : Conversion). WrittenAt (convertedFile file .bytes) output (outputLeft a (convertedFile file .bytes) output)) (sym e) (record {
-          sameLength = omega (arith, p, q, m, h, r, l);
-          atStart = λ i x. List·getD-append (convertedFile file .bytes) (drop n output) 0 i x;
-          restKept = λ i x.
-              let z : i ≡ length (convertedFile file .bytes) + (i - n) = omega (arith, m) in
-              let y : n + (i - n) ≡ i = omega (arith, m) in
-              ap (λ (j : ℕ). getD (convertedFile file .bytes ++ drop n output) j 0) z ∙ getD-append-add (convertedFile file .bytes) (drop n output) (i - n) 0 ∙ getD-drop n output (i - n) 0 ∙ ap (λ (j : ℕ). getD output j 0) y;
-        })
+        written-at (convertedFile file .bytes) output (conversionAnswer file tables room) n e m (omega (arith, m, h, r, l))
 
   -- ── Tables ──
   tables-by : (b : Bool) → ltb room 65536 ≡ b → tablesLeft file tables room ≡ elim b [ true ↦ tables | false ↦ tablesAfter file tables ]
@@ -279,7 +262,7 @@ conversion-promised file tables room = record {
   countedOld = old-counted file;
   everyDay = λ day reason k. (any-day file (lengthsOf tables) 0 day reason k, any-day file (lengthsOf tables) day 0 reason k);
   outputWritten = output-written file tables room;
-  outputKept = λ number which k e output. ap (λ (a : Conversion). outputLeft a (convertedFile file .bytes) output) e;
+  outputKept = λ number which k e output. refused-kept (convertedFile file .bytes) output (conversionAnswer file tables room) number which k e;
   tablesKept = λ l. tables-by file tables room true (from-T (ltb room 65536) (lt→ltb room 65536 l));
   tablesChecked = λ h. tables-by file tables room false (not-true (ltb room 65536) (λ t. h (ltb→lt room 65536 (to-T (ltb room 65536) t))));
   stands = λ n e. let a = is-written file tables room n e in (a .state, a .other, a .stands, a .otherStands, same-contents (a .state) (a .other) (a .same));

@@ -12,9 +12,10 @@ use Rattle.record.specs.declared.Form.{Form}
 use Rattle.record.specs.declared.Form.the-variants.{Old, New}
 use Rattle.record.proofs.Bytes.{file-bytes, records-fit}
 use Rattle.record.proofs.Records.{records-length}
+use Rattle.record.specs.Sorts.{isInput, isWindow, isClause, clausesAfter, unless}
 use Rattle.unification.proofs.Tests.{to-T, both-true}
 use Rattle.verdict.specs.Verdict.{fittingLength, fitting}
-use Rattle.converting.specs.Converting.{always, isInput, isWindow, isClause, clausesAfter, daysAfter, lastDays, newRecord, unless, newRecordsFrom, daysOr, daysBeside, windowRecord, isDated, oldRecordsFrom, otherForm, convertedFrom, converted, convertedFile}
+use Rattle.converting.specs.Converting.{always, daysAfter, lastDays, newRecord, newRecordsFrom, daysOr, daysBeside, windowRecord, isDated, oldRecordsFrom, otherForm, convertedFrom, converted, convertedFile}
 
 unless-fits : (form : Form) (b : Bool) (r : Record) (rs : List Record) → Fits form r → AllFit form rs → AllFit form (unless b r rs)
 unless-fits form true r rs h hs = hs

@@ -11,12 +11,12 @@ use Rattle.record.specs.declared.Form.{Form}
 use Rattle.record.specs.declared.Form.the-variants.{Old, New}
 use Rattle.record.proofs.Bytes.{file-length, file-records}
 use Rattle.record.proofs.Records.{HasDays, Shaped, HaveDays, records-shaped, records-days}
+use Rattle.record.specs.Sorts.{isInput, isWindow, clausesAfter, unless, howMany}
 use Rattle.unification.proofs.Tests.{from-T}
 use Rattle.verdict.specs.State.{State, emptyState}
 use Rattle.verdict.specs.Step.{read, allStand}
 use Rattle.verdict.specs.Verdict.{fittingLength, fitting, ending, Stands}
-use Rattle.converting.specs.Converting.{isInput, isWindow, clausesAfter, lastDays, newRecord, unless, newRecordsFrom, daysBeside, windowRecord, isDated, oldRecordsFrom, otherForm, mostRecords, convertedFrom, converted, convertedFile}
-use Rattle.converting.specs.Promised.{howMany}
+use Rattle.converting.specs.Converting.{lastDays, newRecord, newRecordsFrom, daysBeside, windowRecord, isDated, oldRecordsFrom, otherForm, mostRecords, convertedFrom, converted, convertedFile}
 use Rattle.converting.proofs.Days.{SameDays}
 use Rattle.converting.proofs.KindsDated.{eqb-itself}
 use Rattle.converting.proofs.ReadNew.{old-to-new}

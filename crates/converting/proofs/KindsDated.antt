@@ -5,9 +5,9 @@ use mathlib.Core.Option.{Option}
 use Prim.Native.Nat.{ℕ, suc}
 use lib.Dec.{eqb, leb, eqb→eq, eqb-refl}
 use Rattle.record.specs.Record.{pick, Record, otherKind, Kind, symbolKind, variableKind, applicationKind, inputKind, resolveKind, factorKind, severalKind, windowKind, kindNumbered}
+use Rattle.record.specs.Sorts.{clausesAfter}
 use Rattle.unification.proofs.Tests.{to-T, from-T, true-not-false}
 use Rattle.verdict.specs.Refusal.{hasDays, kindOfRecord}
-use Rattle.converting.specs.Converting.{clausesAfter}
 
 -- ── Tests ──
 pub not-true : (b : Bool) → ¬ (b ≡ true) → b ≡ false

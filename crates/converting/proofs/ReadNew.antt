@@ -8,12 +8,13 @@ use lib.Dec.{eqb, leb}
 use Rattle.record.specs.Record.{pick, Record, Kind, inputKind, windowKind, withDays, fieldA, fieldB, fieldC}
 use Rattle.record.specs.declared.Form.the-variants.{Old}
 use Rattle.record.proofs.Records.{HaveDays}
+use Rattle.record.specs.Sorts.{isWindow, clausesAfter, unless}
 use Rattle.verdict.specs.Force.{windowOf}
 use Rattle.verdict.specs.Refusal.{zeroDays, isInput}
 use Rattle.verdict.specs.State.{State, Window, emptyState, entry, clauseOf, nextClause}
 use Rattle.verdict.specs.Step.{stands, refused, Result, step, read, allStand, refusedAt}
 use Rattle.verdict.proofs.Endings.{ending-stands, stands-not-refused}
-use Rattle.converting.specs.Converting.{always, isWindow, clausesAfter, daysAfter, lastDays, newRecord, unless, newRecordsFrom, toNewRecords}
+use Rattle.converting.specs.Converting.{always, daysAfter, lastDays, newRecord, newRecordsFrom, toNewRecords}
 use Rattle.converting.specs.Promised.{windowDays, daysIn}
 use Rattle.converting.proofs.StatesAlike.{Alike, next-alike}
 use Rattle.converting.proofs.Days.{plain-kept, InputAdded, input-added, window-added, window-ordered, window-dates, by-kind, only-inputs, SameDays, read-on-stands}

@@ -9,13 +9,14 @@ use lib.Dec.{eqb}
 use Rattle.record.specs.Record.{pick, Record, Kind, otherKind, symbolKind, variableKind, applicationKind, inputKind, resolveKind, factorKind, severalKind, windowKind, kindNumbered}
 use Rattle.record.specs.declared.Form.the-variants.{New}
 use Rattle.record.proofs.Records.{HaveDays}
+use Rattle.record.specs.Sorts.{clausesAfter, unless}
 use Rattle.unification.proofs.Tests.{both-true}
 use Rattle.verdict.specs.Force.{windowOf}
 use Rattle.verdict.specs.Refusal.{hasDays, zeroDays, fieldsInRange, inOrder, isInput, kindOfRecord}
 use Rattle.verdict.specs.State.{State, Window, emptyState, withWindow, clauseOf, nextClause}
 use Rattle.verdict.specs.Step.{stands, refused, Result, step, read, allStand, refusedAt}
 use Rattle.verdict.proofs.Endings.{ending-stands, stands-not-refused}
-use Rattle.converting.specs.Converting.{always, isAlways, clausesAfter, unless, withoutDays, daysOr, daysBeside, windowRecord, isDated, oldRecordsFrom, toOldRecords}
+use Rattle.converting.specs.Converting.{always, isAlways, withoutDays, daysOr, daysBeside, windowRecord, isDated, oldRecordsFrom, toOldRecords}
 use Rattle.converting.specs.Promised.{windowDays, daysIn}
 use Rattle.converting.proofs.StatesAlike.{Alike, next-alike}
 use Rattle.converting.proofs.Days.{next-none, plain-kept, input-added, input-ordered, window-days, by-kind, read-on-stands, OnlyInputs, only-kept, SameDays}

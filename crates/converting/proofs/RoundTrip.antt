@@ -12,6 +12,7 @@ use Rattle.record.specs.Record.{pick, Record, File, newFile, withDays, records,
 use Rattle.record.specs.declared.Form.the-variants.{Old, New}
 use Rattle.record.proofs.Bytes.{file-records, file-rewritten}
 use Rattle.record.proofs.Records.{HasDays, HaveDays, records-shaped, records-days}
+use Rattle.record.specs.Sorts.{isWindow, isInput, isClause, clausesAfter, unless}
 use Rattle.unification.proofs.Lists.{Each}
 use Rattle.unification.proofs.Tests.{both-true, true-not-false}
 use Rattle.verdict.specs.Refusal.{zeroDays}
@@ -19,7 +20,7 @@ use Rattle.verdict.specs.State.{State, emptyState}
 use Rattle.verdict.specs.Step.{stands, refused, Result, step, read, allStand, refusedAt}
 use Rattle.verdict.specs.Verdict.{ending, Stands}
 use Rattle.verdict.proofs.Endings.{stands-not-refused}
-use Rattle.converting.specs.Converting.{always, isAlways, isWindow, isInput, isClause, clausesAfter, daysAfter, lastDays, newRecord, unless, newRecordsFrom, toNewRecords, withoutDays, daysOr, daysBeside, windowRecord, isDated, oldRecordsFrom, toOldRecords, convertedFile}
+use Rattle.converting.specs.Converting.{always, isAlways, daysAfter, lastDays, newRecord, newRecordsFrom, toNewRecords, withoutDays, daysOr, daysBeside, windowRecord, isDated, oldRecordsFrom, toOldRecords, convertedFile}
 use Rattle.converting.proofs.ConvertedStands.{converted-shaped, converted-days}
 use Rattle.converting.proofs.Days.{by-kind}
 use Rattle.converting.proofs.KindsDated.{not-true, equal, eqb-itself}

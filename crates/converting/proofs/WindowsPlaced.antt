@@ -10,13 +10,14 @@ use Rattle.record.specs.Record.{pick, Record, File, records, fieldA, fieldB, fi
 use Rattle.record.specs.declared.Form.{Form}
 use Rattle.record.specs.declared.Form.the-variants.{New}
 use Rattle.record.proofs.Records.{HaveDays, records-days}
+use Rattle.record.specs.Sorts.{isInput, isClause, clausesAfter, unless, howMany}
 use Rattle.unification.proofs.Lists.{Each}
 use Rattle.unification.proofs.Tests.{both-true, true-not-false}
 use Rattle.verdict.specs.State.{State, emptyState}
 use Rattle.verdict.specs.Step.{read, allStand}
 use Rattle.verdict.specs.Verdict.{ending, Stands}
-use Rattle.converting.specs.Converting.{always, isAlways, isInput, isClause, clausesAfter, unless, withoutDays, daysBeside, windowRecord, isDated, oldRecordsFrom, toOldRecords, convertedFrom, converted}
-use Rattle.converting.specs.Promised.{howMany, StraightAfter}
+use Rattle.converting.specs.Converting.{always, isAlways, withoutDays, daysBeside, windowRecord, isDated, oldRecordsFrom, toOldRecords, convertedFrom, converted}
+use Rattle.converting.specs.Promised.{StraightAfter}
 use Rattle.converting.proofs.KindsDated.{equal}
 use Rattle.converting.proofs.RoundTrip.{FineNew, read-fine}
 

@@ -1,11 +1,12 @@
 -- Document 02, Q-11: a file converted from one form to the other, on its records. In the old form days stand in records of kind 8, in the new one beside their clause.
-use mathlib.Core.Bool.{Bool, true, false, _&&_, not}
+use mathlib.Core.Bool.{Bool, _&&_, not}
 use mathlib.Core.Option.{Option, none, some}
 use mathlib.Core.List.{List, [], _∷_}
-use Prim.Native.Nat.{ℕ, suc}
-use lib.Dec.{eqb, leb}
+use Prim.Native.Nat.{ℕ}
+use lib.Dec.{eqb}
 use Rattle.record.specs.Bytes.{bytesIn}
 use Rattle.record.specs.Record.{pick, Record, File, inForm, withDays, records, fieldA, fieldB, fieldC}
+use Rattle.record.specs.Sorts.{isWindow, isInput, clausesAfter, unless}
 use Rattle.record.specs.declared.Form.{Form}
 use Rattle.record.specs.declared.Form.the-variants.{Old, New}
 
@@ -15,20 +16,6 @@ always = (0, 65535)
 
 abbrev pub isAlways : ℕ × ℕ → Bool
 isAlways days = eqb (days .0) 0 && eqb (days .1) 65535
-
--- Records by what they declare: the window of a clause; an input clause; a clause, which is an input clause or a step's.
-abbrev pub isWindow : Record → Bool
-isWindow r = eqb (r .kind) 8
-
-abbrev pub isInput : Record → Bool
-isInput r = eqb (r .kind) 4
-
-abbrev pub isClause : Record → Bool
-isClause r = leb 4 (r .kind) && leb (r .kind) 7
-
--- The number that the next clause has, after a record. Clauses of steps count.
-abbrev pub clausesAfter : ℕ → Record → ℕ
-clausesAfter n r = pick (isClause r) (suc n) n
 
 -- ── From the old form to the new one ──
 
@@ -44,10 +31,6 @@ lastDays rs n = daysAfter always rs n
 -- A record with its days: those that supersede for input clause n, and zero for every other record.
 abbrev pub newRecord : List Record → ℕ → Record → Record
 newRecord all n r = pick (isInput r) (withDays r (lastDays all n .0) (lastDays all n .1)) (withDays r 0 0)
-
-abbrev pub unless : Bool → Record → List Record → List Record
-unless true r rs = rs
-unless false r rs = r ∷ rs
 
 -- Records of a file that has `all`, where the next clause has the number n. Those of kind 8 fall away, and the others remain in their order.
 abbrev pub newRecordsFrom : List Record → ℕ → List Record → List Record

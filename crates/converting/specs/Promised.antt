@@ -1,21 +1,22 @@
 -- Document 02, Q-11: what is shown of the answer to a conversion, and of the converted file.
 use mathlib.Core.Path.{_≡_}
 use mathlib.Core.Logic.{_↔_}
-use mathlib.Core.Bool.{Bool}
 use mathlib.Core.Option.{Option, none, some}
 use mathlib.Core.List.{List, [], _∷_, _++_}
 use Prim.Native.Nat.{ℕ, _+_, _*_, _≤_, _<_}
 use lib.ListN.{length, getD}
 use Rattle.record.specs.Bytes.{Bytes}
-use Rattle.record.specs.Record.{pick, Record, File, records, fieldA, fieldB, fieldC}
+use Rattle.record.specs.Record.{Record, File, records, fieldA, fieldB, fieldC}
+use Rattle.record.specs.Sorts.{isWindow, isClause, howMany}
 use Rattle.record.specs.declared.Form.the-variants.{Old, New}
 use Rattle.verdict.specs.Force.{windowOf}
 use Rattle.verdict.specs.Refusal.{Reason, reasonNumber}
 use Rattle.verdict.specs.State.{State, Window, arities, rowsOf, derivations}
 use Rattle.verdict.specs.Tables.{Tables, lengthsOf, tablesAfter}
 use Rattle.verdict.specs.Verdict.{Lengths, refusal, check, Stands}
-use Rattle.converting.specs.Answer.{written, refusedWith, conversionAnswer, tablesLeft, outputLeft}
-use Rattle.converting.specs.Converting.{always, isWindow, isClause, isDated, converted, convertedFile}
+use Rattle.writing.specs.Writing.{written, refusedWith, outputLeft, WrittenAt}
+use Rattle.converting.specs.Answer.{conversionAnswer, tablesLeft}
+use Rattle.converting.specs.Converting.{always, isDated, converted, convertedFile}
 
 -- ── When a conversion is refused ──
 
@@ -49,11 +50,6 @@ pub record SameCells (t u : Tables) : Type 0 where
   pub clauses : (n i : ℕ) → 1 ≤ i → i ≤ 4 → getD (t .clauses) (5 * n + i) 0 ≡ getD (u .clauses) (5 * n + i) 0
   pub bindings : t .bindings ≡ u .bindings
 
--- How many records of a list are of a sort.
-abbrev pub howMany : (Record → Bool) → List Record → ℕ
-howMany sort [] = 0
-howMany sort (r ∷ rs) = pick (sort r) 1 0 + howMany sort rs
-
 -- A window, after some records: it stands straight after an input clause, is for that one, and is not always.
 pub record StraightAfter (before : List Record) (window : Record) : Type 0 where
   pub earlier : List Record
@@ -64,12 +60,6 @@ pub record StraightAfter (before : List Record) (window : Record) : Type 0 where
   pub notAlways : ¬ ((fieldB window, fieldC window) ≡ always)
 
 -- ── What a conversion leaves ──
-
--- A file at the start of an output, and the rest of the output as it was.
-pub record WrittenAt (bytes output left : List ℕ) : Type 0 where
-  pub sameLength : length left ≡ length output
-  pub atStart : (i : ℕ) → i < length bytes → getD left i 0 ≡ getD bytes i 0
-  pub restKept : (i : ℕ) → length bytes ≤ i → getD left i 0 ≡ getD output i 0
 
 pub record ConversionPromised (file : File) (tables : Tables) (room : ℕ) : Type 0 where
   -- A conversion is refused with a number, a file and a record exactly if the condition for them holds and none before it does,

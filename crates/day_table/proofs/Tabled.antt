@@ -11,7 +11,8 @@ use lib.Seq.{getD-set-same, getD-set-other}
 use borrow.Author.Tests.{eq-eqb, ne-eqb}
 use Rattle.record.specs.Record.{pick, Record, oldFile, recordCount, recordPart, decoded, records, kindOf, fieldOf, fieldA, fieldB, fieldC}
 use Rattle.record.proofs.Records.{record-numbered, records-length}
-use Rattle.converting.specs.Converting.{always, isWindow, daysAfter}
+use Rattle.record.specs.Sorts.{isWindow}
+use Rattle.converting.specs.Converting.{always, daysAfter}
 use Rattle.converting.proofs.KindsDated.{equal}
 use Rattle.day_table.specs.DayTable.{daysAt, withDaysOf, alwaysBelow, withWindow, withWindows, DaysTold}
 

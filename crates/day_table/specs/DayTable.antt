@@ -4,7 +4,8 @@ use mathlib.Core.List.{List, [], _∷_}
 use Prim.Native.Nat.{ℕ, zero, suc, _+_, _*_, _<_}
 use lib.ListN.{getD, set}
 use Rattle.record.specs.Record.{pick, Record, fieldA, fieldB, fieldC}
-use Rattle.converting.specs.Converting.{isWindow, lastDays}
+use Rattle.record.specs.Sorts.{isWindow}
+use Rattle.converting.specs.Converting.{lastDays}
 
 -- The first and last day of clause n in a table.
 abbrev pub daysAt : List ℕ → ℕ → ℕ × ℕ

@@ -11,7 +11,7 @@ use Rattle.record.specs.Record.{pick, File, Record, records, otherKind, Kind, s
 use Rattle.unification.proofs.Tests.{some-injective, some-not-none}
 use Rattle.derivation.specs.Derivation.{input, Derivation, resolve, factor}
 use Rattle.demands.specs.Conditions.{IsWindow}
-use Rattle.demands.specs.Demands.{clausesOf, Dates, byWindow, besideClause}
+use Rattle.demands.specs.Demands.{clausesOf, Dates, byWindow, byDaysBeside}
 use Rattle.verdict.specs.Refusal.{kindOfRecord, leftOf, rightNumbers, rightOf, deletedOf}
 use Rattle.verdict.specs.State.{State, Window, emptyState, windowsWith, derivations, nextClause}
 use Rattle.verdict.specs.Step.{stands, refused, Result, windowIn, unifyResolve, unifyFactor, enterResolvent, enter, step, read, allStand, refusedAt}
@@ -63,7 +63,7 @@ of-clause n r first last e d = ap (givenBy n r) d ∙ ap (λ (k : ℕ). pick (eq
 -- It gives one exactly if it dates a clause.
 pub dates-given : {n clause first last : ℕ} {r : Record} → Dates n r clause first last → windowGiven n r ≡ some (windowOn clause first last)
 dates-given {n} {r = r} (byWindow w) = of-window n r w
-dates-given {n} {first = first} {last = last} {r = r} (besideClause e d) = of-clause n r first last e d
+dates-given {n} {first = first} {last = last} {r = r} (byDaysBeside e d) = of-clause n r first last e d
 
 same-window : {v w : Window} → _≡_ {A = Option Window} (some v) (some w) → v ≡ w
 same-window e = some-injective e
@@ -83,7 +83,7 @@ given-dates n r w q = try (r .days) refl q
     try (some d) p z = at (eqb (r .kind) 4) refl z
       where
         at : (b : Bool) → eqb (r .kind) 4 ≡ b → pick b (some (windowOn n (d .0) (d .1))) none ≡ some w → Dates n r (w .clause) (w .first) (w .last)
-        at true y x = by (windowOn n (d .0) (d .1)) (besideClause (equal (r .kind) 4 y) p) (same-window x)
+        at true y x = by (windowOn n (d .0) (d .1)) (byDaysBeside (equal (r .kind) 4 y) p) (same-window x)
         at false y x = absurd (some-not-none refl x)
 
 -- ── What a record leaves of windows and of clauses ──

@@ -1,13 +1,14 @@
 -- The mission's three demands, stated of the definitions, for every file, every four tables and, since document 02's Q-6, every day.
 use mathlib.Core.Path.{_≡_}
 use mathlib.Core.Logic.{_⊎_}
-use mathlib.Core.Bool.{true, _&&_}
+use mathlib.Core.Bool.{true}
 use mathlib.Core.Option.{some}
 use mathlib.Core.List.{List, [], _∷_, map}
 use Prim.Native.Nat.{ℕ, _+_, _*_, _≤_, _<_}
 use lib.Dec.{leb}
 use lib.ListN.{length, getD, take, drop}
 use Rattle.record.specs.Record.{pick, File, Record, records, fieldA, fieldB, fieldC}
+use Rattle.record.specs.Sorts.{isClause, one, howMany}
 use Rattle.unification.specs.Bindings.{bindingAt}
 use Rattle.unification.specs.Environment.{follow, Binding, Environment, Ends}
 use Rattle.unification.specs.Repeated.{IsEarliest}
@@ -198,17 +199,16 @@ pub record Due (file : File) (tables : Tables) (number k : ℕ) : Type 0 where
 
 -- (e) Document 02, Q-6 and Q-11. The clauses that records make: an input clause and every step takes a number.
 abbrev pub clausesOf : Record → ℕ
-clausesOf r = pick (leb 4 (r .kind) && leb (r .kind) 7) 1 0
+clausesOf r = one (isClause r)
 
 abbrev pub clausesIn : List Record → ℕ
-clausesIn [] = 0
-clausesIn (r ∷ rs) = clausesOf r + clausesIn rs
+clausesIn rs = howMany isClause rs
 
 -- A record gives a clause its first and last day: one of kind 8 the clause that it names, and an input clause with days beside it itself, which has the number `before`, that of
 -- the clauses before it.
 pub data Dates (before : ℕ) (r : Record) : (clause first last : ℕ) → Type 0 where
   byWindow : IsWindow r → Dates before r (fieldA r) (fieldB r) (fieldC r)
-  besideClause : {first last : ℕ} → r .kind ≡ 4 → r .days ≡ some (first, last) → Dates before r before first last
+  byDaysBeside : {first last : ℕ} → r .kind ≡ 4 → r .days ≡ some (first, last) → Dates before r before first last
 
 abbrev pub DatesAt : File → ℕ → Record → (clause first last : ℕ) → Type 0
 DatesAt file k r clause first last = RecordAt file k r × Dates (clausesIn (take k (records file))) r clause first last

@@ -6,8 +6,8 @@ use native.Mathlib.Omega.{arith}
 use lib.ListN.{length, drop}
 use Rattle.record.specs.Record.{File}
 use Rattle.verdict.specs.Tables.{Tables}
-use Rattle.rewriting.specs.Given.{conversionGiven}
-use Rattle.rewriting.specs.declared.ConversionOutcome.{ConversionOutcome}
+use Rattle.writing_answer.specs.Given.{writingGiven}
+use Rattle.writing_answer.specs.declared.WritingOutcome.{WritingOutcome}
 use Rattle.convert.specs.Contract.{ConversionAnswered}
 use Rattle.exported_conversion.specs.ExportedConversion.{ExportedConversion}
 
@@ -23,7 +23,7 @@ conversion-left-alone file t O A l = record {
   promised = λ m. absurd (omega arith);
 }
 
-pub conversion-exported : (file : File) (t : Tables) (O A : List ℕ) (m : ConversionOutcome) (here : Tables) (O′ A′ : List ℕ) → 4 ≤ length A → ConversionAnswered file t O m here O′ → A′ ≡ conversionGiven m ++ drop 4 A → ExportedConversion file t O A here O′ A′
+pub conversion-exported : (file : File) (t : Tables) (O A : List ℕ) (m : WritingOutcome) (here : Tables) (O′ A′ : List ℕ) → 4 ≤ length A → ConversionAnswered file t O m here O′ → A′ ≡ writingGiven m ++ drop 4 A → ExportedConversion file t O A here O′ A′
 conversion-exported file t O A m here O′ A′ l K q = record {
   answerLeft = λ x. absurd (omega arith);
   outputKept = λ x. absurd (omega arith);

@@ -6,7 +6,8 @@ use Prim.Native.Nat.{ℕ, _<_, _≤_}
 use lib.ListN.{length, drop}
 use Rattle.record.specs.Record.{File}
 use Rattle.verdict.specs.Tables.{Tables}
-use Rattle.converting.specs.Answer.{conversionNumbers, conversionAnswer, tablesLeft, outputLeft}
+use Rattle.writing.specs.Writing.{writingNumbers, outputLeft}
+use Rattle.converting.specs.Answer.{conversionAnswer, tablesLeft}
 use Rattle.converting.specs.Converting.{convertedFile}
 use Rattle.converting.specs.Promised.{ConversionPromised}
 
@@ -16,7 +17,7 @@ pub record ExportedConversion (file : File) (before : Tables) (outputBefore answ
   pub outputKept : length answerBefore < 4 → outputAfter ≡ outputBefore
   pub tablesKept : length answerBefore < 4 → after ≡ before
   -- Otherwise the four numbers of the answer, and the cells past the fourth as they were.
-  pub answer : 4 ≤ length answerBefore → answerAfter ≡ conversionNumbers (conversionAnswer file before (length outputBefore)) ++ drop 4 answerBefore
+  pub answer : 4 ≤ length answerBefore → answerAfter ≡ writingNumbers (conversionAnswer file before (length outputBefore)) ++ drop 4 answerBefore
   -- Each table, cell by cell, and every byte of the output.
   pub tables : 4 ≤ length answerBefore → after ≡ tablesLeft file before (length outputBefore)
   pub output : 4 ≤ length answerBefore → outputAfter ≡ outputLeft (conversionAnswer file before (length outputBefore)) (convertedFile file .bytes) outputBefore

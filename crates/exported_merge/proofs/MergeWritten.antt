@@ -1,25 +1,14 @@
--- The four cells of an answer to a merge, and the contract of the exported `merge` from its own.
+-- The contract of the exported `merge` from its own.
 use mathlib.Core.Path.{_≡_, refl, ap, _∙_}
-use mathlib.Core.List.{List, [], _∷_, _++_}
+use mathlib.Core.List.{List, _++_}
 use Prim.Native.Nat.{ℕ, _<_, _≤_}
 use native.Mathlib.Omega.{arith}
-use lib.ListN.{length, drop, set}
+use lib.ListN.{length, drop}
 use Rattle.verdict.specs.Tables.{Tables}
 use Rattle.merge.specs.Contract.{MergeAnswered}
-use Rattle.joining.specs.Given.{mergeGiven}
-use Rattle.joining.specs.declared.MergeOutcome.{MergeOutcome}
+use Rattle.writing_answer.specs.Given.{writingGiven}
+use Rattle.writing_answer.specs.declared.WritingOutcome.{WritingOutcome}
 use Rattle.exported_merge.specs.ExportedMerge.{ExportedMerge}
-
--- Four stores put four numbers before the rest.
-four : (xs : List ℕ) (a b c d : ℕ) → 4 ≤ length xs → set (set (set (set xs 0 a) 1 b) 2 c) 3 d ≡ a ∷ b ∷ c ∷ d ∷ drop 4 xs
-four (_ ∷ _ ∷ _ ∷ _ ∷ xs) a b c d l = refl
-four (_ ∷ _ ∷ _ ∷ []) a b c d l = absurd (omega arith)
-four (_ ∷ _ ∷ []) a b c d l = absurd (omega arith)
-four (_ ∷ []) a b c d l = absurd (omega arith)
-four [] a b c d l = absurd (omega arith)
-
-pub four-stored : (a b c d : ℕ) (numbers xs : List ℕ) → (a ∷ b ∷ c ∷ d ∷ []) ≡ numbers → 4 ≤ length xs → set (set (set (set xs 0 a) 1 b) 2 c) 3 d ≡ numbers ++ drop 4 xs
-four-stored a b c d numbers xs q l = four xs a b c d l ∙ ap (λ (v : List ℕ). v ++ drop 4 xs) q
 
 -- The two ways that the exported function can go.
 pub merge-left-alone : (first second : List ℕ) (t : Tables) (O A : List ℕ) → length A < 4 → ExportedMerge first second t O A t O A
@@ -33,7 +22,7 @@ merge-left-alone first second t O A l = record {
   promised = λ m. absurd (omega arith);
 }
 
-pub merge-exported : (first second : List ℕ) (t : Tables) (O A : List ℕ) (m : MergeOutcome) (here : Tables) (O′ A′ : List ℕ) → 4 ≤ length A → MergeAnswered first second t O m here O′ → A′ ≡ mergeGiven m ++ drop 4 A → ExportedMerge first second t O A here O′ A′
+pub merge-exported : (first second : List ℕ) (t : Tables) (O A : List ℕ) (m : WritingOutcome) (here : Tables) (O′ A′ : List ℕ) → 4 ≤ length A → MergeAnswered first second t O m here O′ → A′ ≡ writingGiven m ++ drop 4 A → ExportedMerge first second t O A here O′ A′
 merge-exported first second t O A m here O′ A′ l K q = record {
   answerLeft = λ x. absurd (omega arith);
   outputKept = λ x. absurd (omega arith);

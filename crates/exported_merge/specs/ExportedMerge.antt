@@ -5,7 +5,8 @@ use mathlib.Core.List.{List, _++_}
 use Prim.Native.Nat.{ℕ, _<_, _≤_}
 use lib.ListN.{length, drop}
 use Rattle.verdict.specs.Tables.{Tables}
-use Rattle.merging.specs.Answer.{mergeNumbers, mergeAnswer, tablesLeft, outputLeft}
+use Rattle.writing.specs.Writing.{writingNumbers, outputLeft}
+use Rattle.merging.specs.Answer.{mergeAnswer, tablesLeft}
 use Rattle.merging.specs.Merging.{mergedFile}
 use Rattle.merging.specs.Promised.{MergePromised}
 
@@ -15,7 +16,7 @@ pub record ExportedMerge (first second : List ℕ) (before : Tables) (outputBefo
   pub outputKept : length answerBefore < 4 → outputAfter ≡ outputBefore
   pub tablesKept : length answerBefore < 4 → after ≡ before
   -- Otherwise the four numbers of the answer, and the cells past the fourth as they were.
-  pub answer : 4 ≤ length answerBefore → answerAfter ≡ mergeNumbers (mergeAnswer first second before (length outputBefore)) ++ drop 4 answerBefore
+  pub answer : 4 ≤ length answerBefore → answerAfter ≡ writingNumbers (mergeAnswer first second before (length outputBefore)) ++ drop 4 answerBefore
   -- Each table, cell by cell, and every byte of the output.
   pub tables : 4 ≤ length answerBefore → after ≡ tablesLeft first second before (length outputBefore)
   pub output : 4 ≤ length answerBefore → outputAfter ≡ outputLeft (mergeAnswer first second before (length outputBefore)) (mergedFile first second) outputBefore

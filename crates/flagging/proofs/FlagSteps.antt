@@ -57,17 +57,6 @@ module _ (form : Form) (day n : ℕ) (p L : List ℕ) {kind : ℕ} (isKind : kin
       sym (ap (λ (z : Bool). pick z (set L n (dayFlag day (fieldOf p 7) (fieldOf p 8))) L) (ne-eqb (kindOf p) 4 (λ q. e (isKind ∙ q))))
       ∙ sym (ap (λ (t : Form). withRecord day n (decodedIn t p) L) o)
 
--- How many clauses a record makes.
-module _ (p : List ℕ) {kind : ℕ} (isKind : kind ≡ kindOf p) where
-  pub makes-none-low : kind < 4 → 0 ≡ clausesOf (decoded p)
-  makes-none-low l = rw (← isKind, lt-leb 4 kind l)
-
-  pub makes-none-high : 4 ≤ kind → 7 < kind → 0 ≡ clausesOf (decoded p)
-  makes-none-high l h = rw (← isKind, le-leb 4 kind l, lt-leb kind 7 h)
-
-  pub makes-one : 4 ≤ kind → kind ≤ 7 → 1 ≡ clausesOf (decoded p)
-  makes-one l h = rw (← isKind, le-leb 4 kind l, le-leb kind 7 h)
-
 -- One record more.
 module _ (F : File) (k : ℕ) {p : List ℕ} (isPart : p ≡ recordPart F k) where
   makes : clausesOf (decoded p) ≡ clausesOf (recordAt F k)

@@ -7,13 +7,13 @@ use record::field;
 use record::kind;
 use record::record_count;
 use record::record_part;
+use sorts::clauses_of;
 use tables::cell;
 use tables::set_cell;
 ghost use mathlib.Core.Path.{_≡_};
 ghost use lib.ListN.{length};
 ghost use Rattle.force.specs.Flags.{dayFlag, withRecord, flagsAfter, flagFrom, derivedFlags, flagsInForce};
-ghost use Rattle.record.specs.Record.{inForm, recordCount, decoded, decodedIn};
-ghost use Rattle.demands.specs.Demands.{clausesOf};
+ghost use Rattle.record.specs.Record.{inForm, recordCount, decodedIn};
 
 // The flag that a first and a last day give on a day: both are included.
 fn day_flag(day: u16, first: u16, last: u16) -> u16
@@ -43,17 +43,6 @@ fn put_days(form: Form, day: u16, part: &[u8], c: usize, flags: &mut [u16])
             }
         }
     }
-}
-
-// How many clauses a record makes: one of kind 4 to 7 makes one.
-fn clauses_of(part: &[u8]) -> usize
-    ensures { λ n. ⌜ n ≡ clausesOf (decoded (now (part .entry))) ⌝ }
-{
-    let tag = kind(part);
-    if tag < 4 {
-        return 0;
-    }
-    if 7 < tag { 0 } else { 1 }
 }
 
 // The flags of input clauses, by the days that records give: the last ones for a clause stay.

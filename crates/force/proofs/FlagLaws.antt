@@ -21,7 +21,7 @@ use Rattle.demands.proofs.Advance.{take-next}
 use Rattle.demands.specs.Demands.{clausesOf, clausesIn}
 use Rattle.demands.proofs.Dating.{givenBy, windowGiven, withGiven, windowsAfter, stands-windows}
 use Rattle.demands.proofs.RangeTests.{not-true, equal, unequal}
-use Rattle.force.specs.Flags.{dayFlag, withDaysOf, withRecord, flagsAfter, flagFrom, withFlag, derivedFlags, flagsInForce}
+use Rattle.force.specs.Flags.{dayFlag, withFlagOfDays, withRecord, flagsAfter, flagFrom, withFlag, derivedFlags, flagsInForce}
 
 -- ── The flags that windows give ──
 
@@ -57,7 +57,7 @@ record-sets : (day n : ℕ) (r : Record) (L : List ℕ) → withRecord day n r L
 unfolding withRecord flagSet
 record-sets day n r L = try (r .days) (eqb (r .kind) 8) refl (eqb (r .kind) 4) refl
   where
-    try : (d : Option (ℕ × ℕ)) (a : Bool) → eqb (r .kind) 8 ≡ a → (b : Bool) → eqb (r .kind) 4 ≡ b → withDaysOf day n r d L ≡ flagSet day (givenBy n r d) L
+    try : (d : Option (ℕ × ℕ)) (a : Bool) → eqb (r .kind) 8 ≡ a → (b : Bool) → eqb (r .kind) 4 ≡ b → withFlagOfDays day n r d L ≡ flagSet day (givenBy n r d) L
     try none true p b q = rw p refl
     try none false p b q = rw p refl
     try (some d) a p true q = rw q refl

@@ -16,12 +16,12 @@ abbrev pub dayFlag : ℕ → ℕ → ℕ → ℕ
 dayFlag day first last = pick (leb first day && leb day last) 1 0
 
 -- The flags L after one record, where n clauses stand before it: a window sets the flag of its clause, whatever it was; in the new form the days beside an input clause set its own.
-abbrev pub withDaysOf : ℕ → ℕ → Record → Option (ℕ × ℕ) → List ℕ → List ℕ
-withDaysOf day n r none L = pick (eqb (r .kind) 8) (set L (fieldA r) (dayFlag day (fieldB r) (fieldC r))) L
-withDaysOf day n r (some days) L = pick (eqb (r .kind) 4) (set L n (dayFlag day (days .0) (days .1))) L
+abbrev pub withFlagOfDays : ℕ → ℕ → Record → Option (ℕ × ℕ) → List ℕ → List ℕ
+withFlagOfDays day n r none L = pick (eqb (r .kind) 8) (set L (fieldA r) (dayFlag day (fieldB r) (fieldC r))) L
+withFlagOfDays day n r (some days) L = pick (eqb (r .kind) 4) (set L n (dayFlag day (days .0) (days .1))) L
 
 unfoldable pub withRecord : ℕ → ℕ → Record → List ℕ → List ℕ
-withRecord day n r L = withDaysOf day n r (r .days) L
+withRecord day n r L = withFlagOfDays day n r (r .days) L
 
 -- The flags after the first k records of a file.
 abbrev pub flagsAfter : ℕ → File → ℕ → List ℕ → List ℕ

@@ -14,6 +14,7 @@ use Rattle.record.specs.Record.{pick, oldFile, Record, records, recordCount}
 use Rattle.record.specs.declared.Form.the-variants.{Old}
 use Rattle.record.proofs.Bytes.{file-length, file-joined, file-rewritten}
 use Rattle.record.proofs.Records.{Shaped, records-length, records-shaped}
+use Rattle.record.specs.Sorts.{isSymbol, isRow, isClause, isStep, howMany, unless}
 use Rattle.unification.specs.Row.{Row}
 use Rattle.unification.proofs.Tests.{to-T, from-T, both-true, true-not-false}
 use Rattle.derivation.specs.Derivation.{Derivation}
@@ -21,15 +22,16 @@ use Rattle.verdict.specs.State.{State, emptyState}
 use Rattle.verdict.specs.Verdict.{fittingLength, Stands}
 use Rattle.demands.proofs.Inversions.{not-below}
 use Rattle.demands.proofs.RangeTests.{not-true, equal, at-most}
-use Rattle.merging.specs.Answer.{Merge, written, refusedWith, mergeNumbers, firstWhere, symbolList, firstOther, roomFor, afterChecks, outputLeft}
-use Rattle.merging.specs.Merging.{isSymbol, isRow, isClause, isStep, howMany, shifted, symbolsAfter, unless, withoutSymbols, merged, mergedFile}
+use Rattle.writing.specs.Writing.{Writing, written, refusedWith, writingNumbers, outputLeft}
+use Rattle.merging.specs.Answer.{firstWhere, symbolList, firstOther, roomFor, afterChecks}
+use Rattle.merging.specs.Merging.{shifted, symbolsAfter, withoutSymbols, merged, mergedFile}
 use Rattle.merging.proofs.Counting.{stands-counted}
 use Rattle.merging.proofs.ShiftedFits.{shifted-fit}
 use Rattle.raising.specs.Wrapped.{wrapped}
-use Rattle.shifting.specs.Shifting.{shiftedBytes, placedAt, SecondWritable, SecondWritten}
-use Rattle.joining.specs.Given.{mergeGiven}
+use Rattle.shifting.specs.Shifting.{shiftedBytes, SecondWritable, SecondWritten}
+use Rattle.writing_answer.specs.Given.{writingGiven}
 use Rattle.joining.specs.Joined.{tooMany, BothStand, Joinable, FileWritten, Joined}
-use Rattle.joining.specs.declared.MergeOutcome as given
+use Rattle.writing_answer.specs.declared.WritingOutcome as given
 
 -- ── Records that fit are written as they are ──
 small-list : (xs : List ℕ) → ((i : ℕ) → getD xs i 0 < 65536) → map (λ n. n % 65536) xs ≡ xs
@@ -227,36 +229,36 @@ module _ (first second : List ℕ) (symbols rows clauses : ℕ) (output : List �
 -- ── The ways of joining ──
 
 -- What comes after both checks, by what the searches find.
-abbrev afterSearches : List Record → Option ℕ → Option ℕ → Option ℕ → Merge
+abbrev afterSearches : List Record → Option ℕ → Option ℕ → Option ℕ → Writing
 afterSearches rs mine theirs other =
     elim mine [
       | some k ↦ refusedWith 17 1 k
       | none ↦ elim theirs [ some k ↦ refusedWith 17 2 k | none ↦ elim other [ some k ↦ refusedWith 18 2 k | none ↦ roomFor rs ] ]
     ]
 
-module _ (first second output : List ℕ) (m : given.MergeOutcome) where
-  refused-joined : (number file k : ℕ) → afterChecks (records (oldFile first)) (records (oldFile second)) ≡ refusedWith number file k → mergeGiven m ≡ 2 ∷ number ∷ file ∷ k ∷ [] → Joined first second output m output
-  refused-joined number file k e g = record { answer = g ∙ ap mergeNumbers (sym e); bytes = ap (λ (x : Merge). outputLeft x (mergedFile first second) output) (sym e) }
+module _ (first second output : List ℕ) (m : given.WritingOutcome) where
+  refused-joined : (number file k : ℕ) → afterChecks (records (oldFile first)) (records (oldFile second)) ≡ refusedWith number file k → writingGiven m ≡ 2 ∷ number ∷ file ∷ k ∷ [] → Joined first second output m output
+  refused-joined number file k e g = record { answer = g ∙ ap writingNumbers (sym e); bytes = ap (λ (x : Writing). outputLeft x (mergedFile first second) output) (sym e) }
 
-  pub step-first : (k : ℕ) → some k ≡ firstWhere isStep 0 (records (oldFile first)) → mergeGiven m ≡ 2 ∷ 17 ∷ 1 ∷ k ∷ [] → Joined first second output m output
+  pub step-first : (k : ℕ) → some k ≡ firstWhere isStep 0 (records (oldFile first)) → writingGiven m ≡ 2 ∷ 17 ∷ 1 ∷ k ∷ [] → Joined first second output m output
   step-first k q g = refused-joined 17 1 k (λ i. afterSearches (merged (records (oldFile first)) (records (oldFile second))) (sym q i) (firstWhere isStep 0 (records (oldFile second))) (firstOther (symbolList (records (oldFile first))) 0 (records (oldFile second)))) g
 
   module _ (q : none ≡ firstWhere isStep 0 (records (oldFile first))) where
-    pub step-second : (k : ℕ) → some k ≡ firstWhere isStep 0 (records (oldFile second)) → mergeGiven m ≡ 2 ∷ 17 ∷ 2 ∷ k ∷ [] → Joined first second output m output
+    pub step-second : (k : ℕ) → some k ≡ firstWhere isStep 0 (records (oldFile second)) → writingGiven m ≡ 2 ∷ 17 ∷ 2 ∷ k ∷ [] → Joined first second output m output
     step-second k p g = refused-joined 17 2 k (λ i. afterSearches (merged (records (oldFile first)) (records (oldFile second))) (sym q i) (sym p i) (firstOther (symbolList (records (oldFile first))) 0 (records (oldFile second)))) g
 
     module _ (p : none ≡ firstWhere isStep 0 (records (oldFile second))) where
-      pub other-symbol : (k : ℕ) → some k ≡ firstOther (symbolList (records (oldFile first))) 0 (records (oldFile second)) → mergeGiven m ≡ 2 ∷ 18 ∷ 2 ∷ k ∷ [] → Joined first second output m output
+      pub other-symbol : (k : ℕ) → some k ≡ firstOther (symbolList (records (oldFile first))) 0 (records (oldFile second)) → writingGiven m ≡ 2 ∷ 18 ∷ 2 ∷ k ∷ [] → Joined first second output m output
       other-symbol k o g = refused-joined 18 2 k (λ i. afterSearches (merged (records (oldFile first)) (records (oldFile second))) (sym q i) (sym p i) (sym o i)) g
 
       module _ (o : none ≡ firstOther (symbolList (records (oldFile first))) 0 (records (oldFile second))) where
         room-left : afterChecks (records (oldFile first)) (records (oldFile second)) ≡ roomFor (merged (records (oldFile first)) (records (oldFile second)))
         room-left = λ i. afterSearches (merged (records (oldFile first)) (records (oldFile second))) (sym q i) (sym p i) (sym o i)
 
-        pub too-many : ltb 4096 (length (merged (records (oldFile first)) (records (oldFile second)))) ≡ true → mergeGiven m ≡ 2 ∷ 19 ∷ 0 ∷ 0 ∷ [] → Joined first second output m output
+        pub too-many : ltb 4096 (length (merged (records (oldFile first)) (records (oldFile second)))) ≡ true → writingGiven m ≡ 2 ∷ 19 ∷ 0 ∷ 0 ∷ [] → Joined first second output m output
         too-many t g = refused-joined 19 0 0 (room-left ∙ ap (λ (b : Bool). elim b [ true ↦ refusedWith 19 0 0 | false ↦ written (16 * length (merged (records (oldFile first)) (records (oldFile second)))) ]) t) g
 
-        pub joined-whole : (left : List ℕ) (end : ℕ) → ltb 4096 (length (merged (records (oldFile first)) (records (oldFile second)))) ≡ false → FileWritten first second output left end → mergeGiven m ≡ 0 ∷ end ∷ 0 ∷ 0 ∷ [] → Joined first second output m left
+        pub joined-whole : (left : List ℕ) (end : ℕ) → ltb 4096 (length (merged (records (oldFile first)) (records (oldFile second)))) ≡ false → FileWritten first second output left end → writingGiven m ≡ 0 ∷ end ∷ 0 ∷ 0 ∷ [] → Joined first second output m left
         unfolding mergedFile
         joined-whole left end t W g =
             let e : afterChecks (records (oldFile first)) (records (oldFile second)) ≡ written (16 * length (merged (records (oldFile first)) (records (oldFile second)))) =
@@ -264,6 +266,6 @@ module _ (first second output : List ℕ) (m : given.MergeOutcome) where
             in
             let l = file-length Old (merged (records (oldFile first)) (records (oldFile second))) in
             record {
-              answer = g ∙ ap (λ (n : ℕ). 0 ∷ n ∷ 0 ∷ 0 ∷ []) (W .ends ∙ l) ∙ ap mergeNumbers (sym e);
-              bytes = W .bytes ∙ ap (λ (n : ℕ). mergedFile first second ++ drop n output) l ∙ ap (λ (x : Merge). outputLeft x (mergedFile first second) output) (sym e);
+              answer = g ∙ ap (λ (n : ℕ). 0 ∷ n ∷ 0 ∷ 0 ∷ []) (W .ends ∙ l) ∙ ap writingNumbers (sym e);
+              bytes = W .bytes ∙ ap (λ (n : ℕ). mergedFile first second ++ drop n output) l ∙ ap (λ (x : Writing). outputLeft x (mergedFile first second) output) (sym e);
             }

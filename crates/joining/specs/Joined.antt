@@ -8,10 +8,11 @@ use lib.ListN.{length, drop}
 use Rattle.record.specs.Record.{pick, oldFile, records}
 use Rattle.verdict.specs.State.{State}
 use Rattle.verdict.specs.Verdict.{Stands}
-use Rattle.merging.specs.Answer.{mergeNumbers, afterChecks, outputLeft}
+use Rattle.writing.specs.Writing.{writingNumbers, outputLeft}
+use Rattle.merging.specs.Answer.{afterChecks}
 use Rattle.merging.specs.Merging.{merged, mergedFile}
-use Rattle.joining.specs.Given.{mergeGiven}
-use Rattle.joining.specs.declared.MergeOutcome.{MergeOutcome}
+use Rattle.writing_answer.specs.Given.{writingGiven}
+use Rattle.writing_answer.specs.declared.WritingOutcome.{WritingOutcome}
 
 -- Two files of these lengths, with so many symbols, come to over 4,096 records: the fewer symbols are written once.
 abbrev pub tooMany : ℕ → ℕ → ℕ → ℕ → Bool
@@ -39,6 +40,6 @@ pub record FileWritten (first second : List ℕ) (output : List ℕ) (left : Lis
   pub bytes : left ≡ mergedFile first second ++ drop (length (mergedFile first second)) output
   pub ends : end ≡ length (mergedFile first second)
 
-pub record Joined (first second : List ℕ) (output : List ℕ) (m : MergeOutcome) (left : List ℕ) : Type 0 where
-  pub answer : mergeGiven m ≡ mergeNumbers (afterChecks (records (oldFile first)) (records (oldFile second)))
+pub record Joined (first second : List ℕ) (output : List ℕ) (m : WritingOutcome) (left : List ℕ) : Type 0 where
+  pub answer : writingGiven m ≡ writingNumbers (afterChecks (records (oldFile first)) (records (oldFile second)))
   pub bytes : left ≡ outputLeft (afterChecks (records (oldFile first)) (records (oldFile second))) (mergedFile first second) output

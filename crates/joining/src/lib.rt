@@ -1,21 +1,16 @@
 // What comes after the checks of two files that are to be merged: steps, symbols and the number of records are looked at, and then the file is written. In specs/,
-// `Given` has the numbers of the answer; `Joined` says how the parts of this program go about it.
+// `Joined` says how the parts of this program go about it.
 use searching::Found;
 use searching::first_other;
 use searching::first_step;
 use shifting::writing::write_second;
+use writing_answer::WritingOutcome;
 ghost use mathlib.Core.Path.{_≡_};
 ghost use lib.ListN.{length};
 ghost use Rattle.record.specs.Record.{records};
 ghost use Rattle.merging.specs.Answer.{afterChecks};
 ghost use Rattle.merging.specs.Merging.{mergedFile};
 ghost use Rattle.joining.specs.Joined.{BothStand, tooMany, Joined, FileWritten, Joinable};
-
-// Written, with the length of the file; or refused: a number, the file that it is about, 0 for neither, and a record.
-pub enum MergeOutcome {
-    Written(u32),
-    Refused(u8, u8, u16),
-}
 
 // Whether the merged file has over 4,096 records: the symbols that both files have are written once.
 fn too_many(first: &[u8], second: &[u8], symbols: u16, others: u16) -> bool
@@ -54,25 +49,25 @@ pub fn join(
     clauses: u16,
     others: u16,
     output: &mut [u8],
-) -> MergeOutcome
+) -> WritingOutcome
     requires { ⌜ BothStand (now first) (now second) symbols rows clauses others (now output) ⌝ }
     ensures { λ m. ⌜ Joined (now (first .entry)) (now (second .entry)) (now (output .entry)) m (now (output .exit)) ⌝ }
 {
     let mine = first_step(first);
     if let Found::At(k) = mine {
-        return MergeOutcome::Refused(17, 1, k);
+        return WritingOutcome::Refused(17, 1, k);
     }
     let theirs = first_step(second);
     if let Found::At(k) = theirs {
-        return MergeOutcome::Refused(17, 2, k);
+        return WritingOutcome::Refused(17, 2, k);
     }
     let other = first_other(first, second);
     if let Found::At(k) = other {
-        return MergeOutcome::Refused(18, 2, k);
+        return WritingOutcome::Refused(18, 2, k);
     }
     if too_many(first, second, symbols, others) {
-        return MergeOutcome::Refused(19, 0, 0);
+        return WritingOutcome::Refused(19, 0, 0);
     }
     let end = write_both(first, second, symbols, rows, clauses, output);
-    MergeOutcome::Written(end as u32)
+    WritingOutcome::Written(end as u32)
 }

@@ -4,15 +4,16 @@ use mathlib.Core.List.{List}
 use lib.ListN.{length}
 use Prim.Native.Nat.{ℕ}
 use Rattle.verdict.specs.Tables.{Tables}
-use Rattle.merging.specs.Answer.{mergeNumbers, mergeAnswer, tablesLeft, outputLeft}
+use Rattle.writing.specs.Writing.{writingNumbers, outputLeft}
+use Rattle.merging.specs.Answer.{mergeAnswer, tablesLeft}
 use Rattle.merging.specs.Merging.{mergedFile}
 use Rattle.merging.specs.Promised.{MergePromised}
-use Rattle.joining.specs.Given.{mergeGiven}
-use Rattle.joining.specs.declared.MergeOutcome.{MergeOutcome}
+use Rattle.writing_answer.specs.Given.{writingGiven}
+use Rattle.writing_answer.specs.declared.WritingOutcome.{WritingOutcome}
 
-pub record MergeAnswered (first second : List ℕ) (before : Tables) (outputBefore : List ℕ) (m : MergeOutcome) (after : Tables) (outputAfter : List ℕ) : Type 0 where
+pub record MergeAnswered (first second : List ℕ) (before : Tables) (outputBefore : List ℕ) (m : WritingOutcome) (after : Tables) (outputAfter : List ℕ) : Type 0 where
   -- The four numbers of the answer, each table, cell by cell, and every byte of the output.
-  pub answer : mergeGiven m ≡ mergeNumbers (mergeAnswer first second before (length outputBefore))
+  pub answer : writingGiven m ≡ writingNumbers (mergeAnswer first second before (length outputBefore))
   pub symbols : after .symbols ≡ tablesLeft first second before (length outputBefore) .symbols
   pub rows : after .rows ≡ tablesLeft first second before (length outputBefore) .rows
   pub clauses : after .clauses ≡ tablesLeft first second before (length outputBefore) .clauses

@@ -5,10 +5,10 @@ use checker::check_with;
 use following::nodes::Nodes;
 use following::nodes::Origins;
 use following::values::ValueCells;
-use joining::MergeOutcome;
-use merge_second::answers::refusal;
 use merge_second::merge_second;
 use record::Form;
+use writing_answer::WritingOutcome;
+use writing_answer::refusal;
 ghost use Prim.Native.Nat.{_≤_};
 ghost use lib.ListN.{length};
 ghost use Rattle.entry.specs.Progress.{tablesWith};
@@ -26,7 +26,7 @@ fn merge_with(
     origins: &mut Origins,
     values: &mut ValueCells,
     output: &mut [u8],
-) -> MergeOutcome
+) -> WritingOutcome
     requires { ⌜ 65536 ≤ length (now output) ⌝ }
     ensures { λ m. ⌜ MergeAnswered (now (first .entry)) (now (second .entry)) (tablesWith (now (symbols .entry)) (now (rows .entry)) (now (clauses .entry)) (now (bindings .entry))) (now (output .entry)) m (tablesWith (now (symbols .exit)) (now (rows .exit)) (now (clauses .exit)) (now (bindings .exit))) (now (output .exit)) ⌝ }
 {
@@ -72,11 +72,11 @@ pub fn merge(
     clauses: &mut [u16],
     bindings: &mut [u16],
     output: &mut [u8],
-) -> MergeOutcome
+) -> WritingOutcome
     ensures { λ m. ⌜ MergeAnswered (now (first .entry)) (now (second .entry)) (tablesWith (now (symbols .entry)) (now (rows .entry)) (now (clauses .entry)) (now (bindings .entry))) (now (output .entry)) m (tablesWith (now (symbols .exit)) (now (rows .exit)) (now (clauses .exit)) (now (bindings .exit))) (now (output .exit)) ⌝ }
 {
     if output.len() < 65536 {
-        return MergeOutcome::Refused(2, 0, 0);
+        return WritingOutcome::Refused(2, 0, 0);
     }
     let mut nodes = [0u16; 32768];
     let mut origins = [0u16; 32768];

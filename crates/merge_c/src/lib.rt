@@ -1,5 +1,5 @@
 // The merge of two proof files with its answer in cells, as C has it. `ExportedMerge` in specs/ of the crate exported_merge says what it promises.
-use exported_merge::put_merge;
+use exported_writing::put_writing;
 use merge::merge;
 ghost use Rattle.entry.specs.Progress.{tablesWith};
 ghost use Rattle.exported_merge.specs.ExportedMerge.{ExportedMerge};
@@ -21,5 +21,5 @@ pub fn merge_to_cells(
         return;
     }
     let m = merge(first, second, symbols, rows, clauses, bindings, output);
-    put_merge(m, answer);
+    put_writing(m, answer);
 }

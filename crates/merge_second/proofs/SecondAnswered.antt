@@ -1,7 +1,7 @@
--- A refusal of either file, and the answer to a merge, the tables and the output after the second file's check.
+-- The tables after a refusal of either file, and the answer to a merge, the tables and the output after the second file's check.
 use mathlib.Core.Path.{_≡_, refl, sym, ap, _∙_}
 use mathlib.Core.Bool.{Bool, true, false}
-use mathlib.Core.List.{List, [], _∷_}
+use mathlib.Core.List.{List}
 use Prim.Native.Nat.{ℕ}
 use lib.ListN.{length}
 use Rattle.record.specs.Record.{File, oldFile, records}
@@ -9,7 +9,7 @@ use Rattle.unification.proofs.Tests.{true-not-false}
 use Rattle.verdict.specs.Refusal.{Reason}
 use Rattle.verdict.specs.State.{State}
 use Rattle.verdict.specs.Step.{stateOf}
-use Rattle.verdict.specs.Tables.{Tables, lengthsOf, tablesAfter}
+use Rattle.verdict.specs.Tables.{Tables, lengthsOf}
 use Rattle.verdict.specs.Verdict.{Verdict, accepted, open′, refusal, verdictNumbers, check, longEnough, Stands, stateGiven}
 use Rattle.demands.proofs.Demanded.{not-refused}
 use Rattle.verdict.proofs.Endings.{reading-records}
@@ -19,52 +19,27 @@ use Rattle.answer.specs.declared.Verdict as verdict
 use Rattle.answer.specs.declared.Verdict.the-variants as verdicts
 use Rattle.answer.proofs.GivenNumbers.{stateLeft, verdict-given, symbols-given, stands-not-refused, refused-given}
 use Rattle.checker.specs.Contract.{Checked}
-use Rattle.merging.specs.Answer.{Merge, mergeNumbers, afterChecks, unlessRefused, tablesUnlessRefused, outputLeft}
+use Rattle.checker.proofs.CheckedLaws.{tables-checked}
+use Rattle.writing.proofs.Written.{stands-on}
+use Rattle.writing_answer.proofs.Refusals.{refused-ends, refused-is}
+use Rattle.writing.specs.Writing.{Writing, writingNumbers, outputLeft}
+use Rattle.merging.specs.Answer.{afterChecks, tablesUnlessRefused}
 use Rattle.merging.specs.Merging.{mergedFile}
-use Rattle.joining.specs.Given.{mergeGiven}
-use Rattle.merge_second.specs.Going.{refusalGiven, FirstStands, SecondAnswered}
+use Rattle.writing_answer.specs.Given.{writingGiven, refusalGiven}
+use Rattle.merge_second.specs.Going.{FirstStands, SecondAnswered}
 use Rattle.joining.specs.Joined.{BothStand, Joined}
-use Rattle.joining.specs.declared.MergeOutcome as given
+use Rattle.writing_answer.specs.declared.WritingOutcome as given
 
--- ── A verdict, and what becomes of the merge ──
-
--- A refusal ends the work.
-pub refused-ends : (file : ℕ) (v : verdict.Verdict) (w : Verdict) (next : Merge) → verdictCoded v ≡ verdictNumbers w → verdictStands v ≡ false → mergeNumbers (unlessRefused file w next) ≡ refusalGiven file v
-refused-ends file verdicts.Open w next e t = absurd (true-not-false refl t)
-refused-ends file (verdicts.Accepted n) w next e t = absurd (true-not-false refl t)
-refused-ends file (verdicts.Refused q k) w next e t =
-    let r = refused-given q k w e in
-    ap (λ (x : Verdict). mergeNumbers (unlessRefused file x next)) (r .1) ∙ ap (λ (n : ℕ). 2 ∷ n ∷ file ∷ k ∷ []) (r .2)
-
+-- ── A verdict, and what becomes of the tables ──
 pub refused-tables : (v : verdict.Verdict) (w : Verdict) (here next : Tables) → verdictCoded v ≡ verdictNumbers w → verdictStands v ≡ false → tablesUnlessRefused w here next ≡ here
 refused-tables verdicts.Open w here next e t = absurd (true-not-false refl t)
 refused-tables (verdicts.Accepted n) w here next e t = absurd (true-not-false refl t)
 refused-tables (verdicts.Refused q k) w here next e t = ap (λ (x : Verdict). tablesUnlessRefused x here next) (refused-given q k w e .1)
 
-pub refused-is : (file : ℕ) (v : verdict.Verdict) (w : Verdict) (next : Merge) → verdictCoded v ≡ verdictNumbers w → verdictStands v ≡ false → (X O : List ℕ) → outputLeft (unlessRefused file w next) X O ≡ O
-refused-is file verdicts.Open w next e t X O = absurd (true-not-false refl t)
-refused-is file (verdicts.Accepted n) w next e t X O = absurd (true-not-false refl t)
-refused-is file (verdicts.Refused q k) w next e t X O = ap (λ (x : Verdict). outputLeft (unlessRefused file x next) X O) (refused-given q k w e .1)
-
--- A file that stands goes on.
-pub stands-on : (file : ℕ) (w : Verdict) (next : Merge) → ((q : Reason) (k : ℕ) → ¬ (w ≡ refusal q k)) → unlessRefused file w next ≡ next
-stands-on file (accepted n) next h = refl
-stands-on file open′ next h = refl
-stands-on file (refusal q k) next h = absurd (h q k refl)
-
 pub tables-on : (w : Verdict) (here next : Tables) → ((q : Reason) (k : ℕ) → ¬ (w ≡ refusal q k)) → tablesUnlessRefused w here next ≡ next
 tables-on (accepted n) here next h = refl
 tables-on open′ here next h = refl
 tables-on (refusal q k) here next h = absurd (h q k refl)
-
--- Tables by their parts.
-pub checked-tables : (file : File) (before : Tables) (a : answer.Answer) (after : Tables) → Checked 0 file before a after → after ≡ tablesAfter file before
-checked-tables file before a after K =
-    let s = K .symbols in
-    let r = K .rows in
-    let c = K .clauses in
-    let b = K .bindings in
-    λ i. record { symbols = s i; rows = r i; clauses = c i; bindings = b i }
 
 -- The state that a check leaves is that of the file that stands.
 pub left-state : (file : File) (tables : Tables) (S : State) → longEnough (lengthsOf tables) ≡ true → Stands file S → stateLeft file (lengthsOf tables) ≡ S
@@ -78,10 +53,10 @@ module _ (first second : List ℕ) (between : Tables) (output : List ℕ) (mine 
   given₂ : verdictCoded (theirs .verdict) ≡ verdictNumbers (check 0 (oldFile second) (lengthsOf between) .verdict)
   given₂ = verdict-given 0 (oldFile second) (lengthsOf between) theirs (L .answer)
 
-  pub second-refused : (m : given.MergeOutcome) (b : Bool) → b ≡ verdictStands (theirs .verdict) → b ≡ false → mergeGiven m ≡ refusalGiven 2 (theirs .verdict) → SecondAnswered first second between output m after output
+  pub second-refused : (m : given.WritingOutcome) (b : Bool) → b ≡ verdictStands (theirs .verdict) → b ≡ false → writingGiven m ≡ refusalGiven 2 (theirs .verdict) → SecondAnswered first second between output m after output
   second-refused m b t f g = record {
     answer = g ∙ sym (refused-ends 2 (theirs .verdict) verdict₂ (afterChecks (records (oldFile first)) (records (oldFile second))) given₂ (sym t ∙ f));
-    tables = checked-tables (oldFile second) between theirs after L;
+    tables = tables-checked 0 (oldFile second) between theirs after L;
     bytes = sym (refused-is 2 (theirs .verdict) verdict₂ (afterChecks (records (oldFile first)) (records (oldFile second))) given₂ (sym t ∙ f) (mergedFile first second) output);
   }
 
@@ -105,11 +80,11 @@ module _ (first second : List ℕ) (between : Tables) (output : List ℕ) (mine 
           room = F .room;
         }
 
-    pub both-joined : (m : given.MergeOutcome) (left : List ℕ) → Joined first second output m left → SecondAnswered first second between output m after left
+    pub both-joined : (m : given.WritingOutcome) (left : List ℕ) → Joined first second output m left → SecondAnswered first second between output m after left
     both-joined m left J =
         let e = stands-on 2 verdict₂ (afterChecks (records (oldFile first)) (records (oldFile second))) not-second in
         record {
-          answer = J .answer ∙ ap mergeNumbers (sym e);
-          tables = checked-tables (oldFile second) between theirs after L;
-          bytes = J .bytes ∙ ap (λ (y : Merge). outputLeft y (mergedFile first second) output) (sym e);
+          answer = J .answer ∙ ap writingNumbers (sym e);
+          tables = tables-checked 0 (oldFile second) between theirs after L;
+          bytes = J .bytes ∙ ap (λ (y : Writing). outputLeft y (mergedFile first second) output) (sym e);
         }

@@ -1,17 +1,15 @@
 // The second part of a merge, where the first file stands: the second file's check, and where that stands too, the merged file. In specs/, `Going` says how
 // the parts of a merge go about it. What comes after both checks is in the crate joining.
-pub mod answers;
-
 use answer::Answer;
 use answer::stands;
-use answers::refusal;
 use checker::check_with;
 use following::nodes::Nodes;
 use following::nodes::Origins;
 use following::values::ValueCells;
-use joining::MergeOutcome;
 use joining::join;
 use record::Form;
+use writing_answer::WritingOutcome;
+use writing_answer::refusal;
 ghost use Rattle.entry.specs.Progress.{tablesWith};
 ghost use Rattle.merge_second.specs.Going.{FirstStands, SecondAnswered};
 
@@ -28,7 +26,7 @@ pub fn merge_second(
     origins: &mut Origins,
     values: &mut ValueCells,
     output: &mut [u8],
-) -> MergeOutcome
+) -> WritingOutcome
     requires { ⌜ FirstStands (now first) mine (now output) ⌝ }
     ensures { λ m. ⌜ SecondAnswered (now (first .entry)) (now (second .entry)) (tablesWith (now (symbols .entry)) (now (rows .entry)) (now (clauses .entry)) (now (bindings .entry))) (now (output .entry)) m (tablesWith (now (symbols .exit)) (now (rows .exit)) (now (clauses .exit)) (now (bindings .exit))) (now (output .exit)) ⌝ }
 {

@@ -1,17 +1,17 @@
 -- The answer to a merge is the one that its conditions ask for, and what is written is the merged file.
 use mathlib.Core.Path.{_≡_, refl, sym, ap, _∙_, subst}
-use mathlib.Core.Logic.{_⊎_, inl, inr}
+use mathlib.Core.Logic.{inl, inr}
 use mathlib.Core.Bool.{Bool, true, false}
 use mathlib.Core.Option.{Option, none, some}
-use mathlib.Core.List.{List, [], _∷_, _++_}
-use Prim.Native.Nat.{ℕ, suc, _+_, _-_, _*_, _≤_, _<_}
+use mathlib.Core.List.{List, [], _∷_}
+use Prim.Native.Nat.{ℕ, suc, _*_, _≤_, _<_}
 use native.Mathlib.Omega.{arith}
 use lib.Dec.{ltb, ltb→lt, lt→ltb}
-use lib.ListN.{length, getD, drop, length-append, length-drop, List·getD-append}
-use lib.Seq.{getD-append-add, getD-drop}
+use lib.ListN.{length, getD}
 use Rattle.record.specs.Record.{oldFile, records}
 use Rattle.record.specs.declared.Form.the-variants.{Old}
 use Rattle.record.proofs.Bytes.{file-length}
+use Rattle.record.specs.Sorts.{isStep}
 use Rattle.unification.proofs.Tests.{to-T, from-T}
 use Rattle.verdict.specs.Refusal.{Reason, reasonNumber}
 use Rattle.verdict.specs.State.{State}
@@ -20,30 +20,23 @@ use Rattle.verdict.specs.Verdict.{Verdict, accepted, open′, refusal, check, S
 use Rattle.demands.proofs.Demanded.{not-refused}
 use Rattle.demands.proofs.Inversions.{not-below}
 use Rattle.demands.proofs.RangeTests.{not-true}
-use Rattle.merging.specs.Answer.{Merge, written, refusedWith, firstWhere, symbolList, firstOther, roomFor, symbolsCompared, afterChecks, unlessRefused, mergeAnswer, tablesUnlessRefused, tablesLeft, outputLeft}
-use Rattle.merging.specs.Merging.{isStep, merged, mergedFile}
-use Rattle.merging.specs.Promised.{Condition, shortOutput, firstRefused, secondRefused, stepInFirst, stepInSecond, otherSymbols, tooManyRecords, WrittenAt, Merged, MergePromised}
+use Rattle.writing.specs.Writing.{Writing, written, refusedWith, unlessRefused, outputLeft, WrittenAt}
+use Rattle.writing.proofs.Written.{same-refused, written-not-refused, same-written, written-at, refused-kept}
+use Rattle.merging.specs.Answer.{firstWhere, symbolList, firstOther, roomFor, symbolsCompared, afterChecks, mergeAnswer, tablesUnlessRefused, tablesLeft}
+use Rattle.merging.specs.Merging.{merged, mergedFile}
+use Rattle.merging.specs.Promised.{Condition, shortOutput, firstRefused, secondRefused, stepInFirst, stepInSecond, otherSymbols, tooManyRecords, Merged, MergePromised}
 use Rattle.merging.proofs.MergedShown.{merged-shown}
 use Rattle.merging.proofs.Searches.{step-found, step-searched, other-there, other-searched, neither-begins, some-other}
 
-same-refused : {a b c x y z : ℕ} → refusedWith a b c ≡ refusedWith x y z → (a ≡ x) × (b ≡ y) × (c ≡ z)
-same-refused e = (cc, cc, cc)
-
-written-not-refused : {n a b c : ℕ} → written n ≡ refusedWith a b c → ⊥
-written-not-refused e = let z : _≡_ {A = ℕ} 0 1 = cc in omega arith
-
-same-written : {n m : ℕ} → written n ≡ written m → n ≡ m
-same-written e = cc
-
 module _ (first second : List ℕ) (tables : Tables) (room : ℕ) where
   -- The refusal that the condition at a place gives, or nothing of the kind.
-  abbrev nothing : Merge
+  abbrev nothing : Writing
   nothing = written 0
 
-  abbrev whereStep : ℕ → List ℕ → Merge
+  abbrev whereStep : ℕ → List ℕ → Writing
   whereStep file bytes = elim (firstWhere isStep 0 (records (oldFile bytes))) [ some k ↦ refusedWith 17 file k | none ↦ nothing ]
 
-  abbrev places : List Merge
+  abbrev places : List Writing
   places =
       (elim (ltb room 65536) [ true ↦ refusedWith 2 0 0 | false ↦ nothing ])
       ∷ unlessRefused 1 (check 0 (oldFile first) (lengthsOf tables) .verdict) nothing
@@ -54,7 +47,7 @@ module _ (first second : List ℕ) (tables : Tables) (room : ℕ) where
       ∷ (elim (ltb 4096 (length (merged (records (oldFile first)) (records (oldFile second))))) [ true ↦ refusedWith 19 0 0 | false ↦ nothing ])
       ∷ []
 
-  abbrev given : ℕ → Merge
+  abbrev given : ℕ → Writing
   given place = getD places place nothing
 
   gives : {place number file k : ℕ} → Condition first second tables room place number file k → given place ≡ refusedWith number file k
@@ -91,7 +84,7 @@ module _ (first second : List ℕ) (tables : Tables) (room : ℕ) where
           absurd (written-not-refused (sym e ∙ ap given (sym z) ∙ gives c))
 
   -- What the merge has come to: the first condition that holds, or none.
-  data Outcome : Merge → Type 0 where
+  data Outcome : Writing → Type 0 where
     refusedAt : {place number file k : ℕ} → Condition first second tables room place number file k → ((p n f j : ℕ) → Condition first second tables room p n f j → place ≤ p)
         → Outcome (refusedWith number file k)
     none-holds : ((p n f j : ℕ) → ¬ Condition first second tables room p n f j) → Outcome (written (16 * length (merged (records (oldFile first)) (records (oldFile second)))))
@@ -154,13 +147,13 @@ module _ (first second : List ℕ) (tables : Tables) (room : ℕ) where
       try false q = first-outcome (past 0 start (ap (λ (b : Bool). elim b [ true ↦ refusedWith 2 0 0 | false ↦ nothing ]) q))
 
   -- ── What is promised ──
-  refused-only : (number file k : ℕ) (m : Merge) → Outcome m → m ≡ refusedWith number file k → (place : ℕ) × Condition first second tables room place number file k × ((p n f j : ℕ) → Condition first second tables room p n f j → place ≤ p)
+  refused-only : (number file k : ℕ) (m : Writing) → Outcome m → m ≡ refusedWith number file k → (place : ℕ) × Condition first second tables room place number file k × ((p n f j : ℕ) → Condition first second tables room p n f j → place ≤ p)
   refused-only number file k m (refusedAt {place} {number = n} {file = f} {k = j} c least) e =
       let s = same-refused e in
       (place, subst (λ (x : ℕ). Condition first second tables room place x file k) (s .0) (subst (λ (x : ℕ). Condition first second tables room place n x k) (s .1) (subst (λ (x : ℕ). Condition first second tables room place n f x) (s .2) c)), least)
   refused-only number file k m (none-holds h) e = absurd (written-not-refused e)
 
-  refused-if : (place number file k : ℕ) (m : Merge) → Outcome m → Condition first second tables room place number file k → ((p n f j : ℕ) → Condition first second tables room p n f j → place ≤ p) → m ≡ refusedWith number file k
+  refused-if : (place number file k : ℕ) (m : Writing) → Outcome m → Condition first second tables room place number file k → ((p n f j : ℕ) → Condition first second tables room p n f j → place ≤ p) → m ≡ refusedWith number file k
   refused-if place number file k m (refusedAt {place = q} {number = n} {file = f} {k = j} c least) d h =
       let a = h q n f j c in
       let b = least place number file k d in
@@ -168,12 +161,12 @@ module _ (first second : List ℕ) (tables : Tables) (room : ℕ) where
       sym (gives c) ∙ ap given e ∙ gives d
   refused-if place number file k m (none-holds h) d l = absurd (h place number file k d)
 
-  written-only : (n : ℕ) (m : Merge) → Outcome m → m ≡ written n → (n ≡ length (mergedFile first second)) × ((p x f j : ℕ) → ¬ Condition first second tables room p x f j)
+  written-only : (n : ℕ) (m : Writing) → Outcome m → m ≡ written n → (n ≡ length (mergedFile first second)) × ((p x f j : ℕ) → ¬ Condition first second tables room p x f j)
   unfolding mergedFile
   written-only n m (refusedAt c least) e = absurd (written-not-refused (sym e))
   written-only n m (none-holds h) e = (sym (same-written e) ∙ sym (file-length Old (merged (records (oldFile first)) (records (oldFile second)))), h)
 
-  written-if : (m : Merge) → Outcome m → ((p n f j : ℕ) → ¬ Condition first second tables room p n f j) → m ≡ written (length (mergedFile first second))
+  written-if : (m : Writing) → Outcome m → ((p n f j : ℕ) → ¬ Condition first second tables room p n f j) → m ≡ written (length (mergedFile first second))
   unfolding mergedFile
   written-if m (refusedAt {place} {number} {file} {k} c least) h = absurd (h place number file k c)
   written-if m (none-holds g) h = ap written (sym (file-length Old (merged (records (oldFile first)) (records (oldFile second)))))
@@ -224,20 +217,7 @@ module _ (first second : List ℕ) (tables : Tables) (room : ℕ) where
       let f = file-length Old (merged (records (oldFile first)) (records (oldFile second))) in
       let h = has-room (w .1) in
       let r : ¬ (room < 65536) = λ s. w .1 0 2 0 0 (shortOutput s) in
-      let m = w .0 in
-      let q = length-drop n output in
-      let p = length-append (mergedFile first second) (drop n output) in
-      subst (λ (a : Merge). WrittenAt (mergedFile first second) output (outputLeft a (mergedFile first second) output)) (sym e) (record {
-        sameLength = omega (arith, p, q, m, f, h, r, l);
-        atStart = λ i x. List·getD-append (mergedFile first second) (drop n output) 0 i x;
-        restKept = λ i x.
-            let z : i ≡ length (mergedFile first second) + (i - n) = omega (arith, m) in
-            let y : n + (i - n) ≡ i = omega (arith, m) in
-            ap (λ (j : ℕ). getD (mergedFile first second ++ drop n output) j 0) z ∙ getD-append-add (mergedFile first second) (drop n output) (i - n) 0 ∙ getD-drop n output (i - n) 0 ∙ ap (λ (j : ℕ). getD output j 0) y;
-      })
-
-  kept-output : (number file k : ℕ) → mergeAnswer first second tables room ≡ refusedWith number file k → (output : List ℕ) → outputLeft (mergeAnswer first second tables room) (mergedFile first second) output ≡ output
-  kept-output number file k e output = ap (λ (a : Merge). outputLeft a (mergedFile first second) output) e
+      written-at (mergedFile first second) output (mergeAnswer first second tables room) n e (w .0) (omega (arith, f, h, r, l))
 
   tables-by : (b : Bool) → ltb room 65536 ≡ b
       → tablesLeft first second tables room ≡ elim b [ true ↦ tables | false ↦ tablesUnlessRefused (check 0 (oldFile first) (lengthsOf tables) .verdict) (tablesAfter (oldFile first) tables) (tablesAfter (oldFile second) (tablesAfter (oldFile first) tables)) ]
@@ -259,7 +239,7 @@ module _ (first second : List ℕ) (tables : Tables) (room : ℕ) where
     writtenOnly = λ n e. written-only n (mergeAnswer first second tables room) outcome e;
     writtenIf = λ h. written-if (mergeAnswer first second tables room) outcome h;
     outputWritten = written-output;
-    outputKept = kept-output;
+    outputKept = λ number file k e output. refused-kept (mergedFile first second) output (mergeAnswer first second tables room) number file k e;
     tablesKept = λ l. tables-by true (from-T (ltb room 65536) (lt→ltb room 65536 l));
     tablesOfFirst = λ h reason k e. tables-by false (not-short h) ∙ ap (λ (v : Verdict). tablesUnlessRefused v (tablesAfter (oldFile first) tables) (tablesAfter (oldFile second) (tablesAfter (oldFile first) tables))) e;
     tablesOfSecond = λ h n. tables-by false (not-short h) ∙ stands-tables (check 0 (oldFile first) (lengthsOf tables) .verdict) (tablesAfter (oldFile first) tables) (tablesAfter (oldFile second) (tablesAfter (oldFile first) tables)) n;

@@ -10,6 +10,7 @@ use lib.ListN.{length, getD, drop, length-map, drop-of-length-le}
 use lib.Seq.{drop-cons}
 use Rattle.record.specs.Record.{pick, Record, Kind, symbolKind}
 use Rattle.record.proofs.Records.{Shaped}
+use Rattle.record.specs.Sorts.{isSymbol, isStep, unless}
 use Rattle.unification.proofs.Tests.{to-T, both-true, true-not-false, some-not-none}
 use Rattle.verdict.specs.Refusal.{kindOfRecord}
 use Rattle.verdict.specs.State.{State, withSymbol, arities, rowsOf, derivations, arityOf}
@@ -18,7 +19,7 @@ use Rattle.demands.proofs.Inversions.{stands-same, step-stands, not-below}
 use Rattle.demands.proofs.RangeTests.{equal, kind-at}
 use Rattle.verdict.proofs.Endings.{ending-stands, stands-not-refused}
 use Rattle.merging.specs.Answer.{firstWhere, symbolList, firstOther}
-use Rattle.merging.specs.Merging.{isSymbol, isStep, shifted, symbolsAfter, unless, withoutSymbols}
+use Rattle.merging.specs.Merging.{shifted, symbolsAfter, withoutSymbols}
 use Rattle.merging.proofs.Beside.{Beside, Goes, symbol-dropped, record-goes}
 use Rattle.merging.proofs.Counting.{step-counted, Listed}
 

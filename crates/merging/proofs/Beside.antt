@@ -3,28 +3,24 @@ use mathlib.Core.Path.{_≡_, refl, sym, ap, ap₂, _∙_, subst}
 use mathlib.Core.Bool.{Bool, true, false, _&&_}
 use mathlib.Core.Option.{Option, none, some}
 use mathlib.Core.List.{List, [], _∷_, _++_, map}
-use Prim.Native.Nat.{ℕ, zero, suc, _+_, _≤_, _<_}
+use Prim.Native.Nat.{ℕ, suc, _+_, _≤_, _<_}
 use native.Mathlib.Nat.{suc-add}
 use native.Mathlib.Omega.{arith}
-use lib.Dec.{eqb, leb, ltb, ltb→lt, lt→ltb, eqb-refl}
-use lib.ListN.{length, getD, take, drop, length-map}
-use lib.Seq.{drop-cons}
-use Rattle.record.specs.Record.{pick, Record, otherKind, Kind, symbolKind, variableKind, applicationKind, inputKind, resolveKind, factorKind, severalKind, windowKind, fieldA, fieldB, fieldC}
-use Rattle.record.proofs.Records.{Shaped}
-use Rattle.unification.specs.Row.{variable, Row, application, rowAt}
+use lib.Dec.{eqb, leb, ltb, lt→ltb, eqb-refl}
+use lib.ListN.{length, getD, drop}
+use Rattle.record.specs.Record.{pick, Record, otherKind, Kind, symbolKind, variableKind, applicationKind, inputKind, resolveKind, factorKind, severalKind, windowKind, fieldA}
+use Rattle.record.specs.Sorts.{isSymbol, isStep}
+use Rattle.unification.specs.Row.{variable, Row}
 use Rattle.unification.proofs.Lists.{Each}
 use Rattle.unification.proofs.Rows.{Below}
-use Rattle.unification.proofs.Tests.{to-T, from-T, both-true, true-not-false, some-not-none, some-injective}
+use Rattle.unification.proofs.Tests.{from-T, both-true, true-not-false}
 use Rattle.derivation.specs.Derivation.{input, RowLiteral, inputLiterals, Derivation}
-use Rattle.verdict.specs.Refusal.{tests, outlineTests, kindOfRecord, zeros, zeroDays, inRange, argumentRows, hasArity, allBelow, isInput, isApplication, allApplications}
-use Rattle.verdict.specs.State.{State, Window, withSymbol, withRow, withClause, withWindow, windowsWith, withDaysBeside, entry, arities, rowsOf, derivations, arityOf, clauseOf, rowOf, recordOfRow, nextClause}
-use Rattle.verdict.specs.Step.{stands, refused, Result, requireAll, newApplication, newLiterals, windowIn, enter, step, read, Ending, allStand, refusedAt}
-use Rattle.demands.proofs.Inversions.{AllPass, all-passed, stands-same, step-stands, tests-passed, Passed, has-arity, all-below, rows-below, entry-below, entry-more, entry-new, entry-some, entry-each, not-below, never-both}
+use Rattle.verdict.specs.Refusal.{tests, outlineTests, kindOfRecord, zeros, zeroDays, argumentRows, hasArity, allBelow, isInput, isApplication, allApplications}
+use Rattle.verdict.specs.State.{State, Window, withSymbol, withRow, withClause, withWindow, windowsWith, withDaysBeside, arities, rowsOf, derivations, arityOf, clauseOf, rowOf, recordOfRow, nextClause}
+use Rattle.verdict.specs.Step.{stands, Result, requireAll, newApplication, newLiterals, windowIn, enter, step}
+use Rattle.demands.proofs.Inversions.{all-passed, stands-same, step-stands, tests-passed, Passed, has-arity, all-below, rows-below, entry-below, entry-more, entry-new, entry-some, entry-each}
 use Rattle.demands.proofs.RangeTests.{of-kind, equal, not-true}
-use Rattle.verdict.proofs.Endings.{ending-stands, stands-not-refused}
-use Rattle.merging.specs.Answer.{firstWhere, symbolList, firstOther}
-use Rattle.merging.specs.Merging.{isSymbol, isStep, shifted, symbolsAfter, unless, withoutSymbols}
-use Rattle.merging.proofs.Counting.{Listed}
+use Rattle.merging.specs.Merging.{shifted}
 use Rattle.merging.proofs.Shifts.{shifted-symbol, shifted-variable, shifted-arguments, shifted-after, shifted-head, raisedLiteral, shifted-literals, shifted-past, shifted-clause, shifted-day, shifted-unused}
 
 -- ── The two states ──

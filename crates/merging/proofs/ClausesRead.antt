@@ -9,6 +9,7 @@ use lib.Dec.{eqb, leb}
 use lib.ListN.{length}
 use Rattle.record.specs.Record.{pick, Record, records, otherKind, Kind, symbolKind, variableKind, applicationKind, inputKind, resolveKind, factorKind, severalKind, windowKind, fieldA}
 use Rattle.record.proofs.Records.{Shaped}
+use Rattle.record.specs.Sorts.{isStep}
 use Rattle.unification.specs.Row.{variable, Row, application}
 use Rattle.unification.specs.Term.{Term}
 use Rattle.unification.specs.Repeated.{IsEarliest}
@@ -28,7 +29,6 @@ use Rattle.verdict.proofs.Endings.{ending-stands, stands-not-refused}
 use Rattle.demands.proofs.Shared.{Shared}
 use Rattle.demands.proofs.WrittenRows.{earliest-term, ReadSame, read-same}
 use Rattle.merging.specs.Answer.{firstWhere}
-use Rattle.merging.specs.Merging.{isStep}
 use Rattle.merging.specs.Promised.{clausesWritten}
 use Rattle.merging.proofs.Behind.{none-here}
 

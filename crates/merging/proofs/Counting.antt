@@ -11,6 +11,7 @@ use lib.ListN.{length, getD, length-append, length-map, List·getD-append}
 use lib.Seq.{getD-append-add}
 use Rattle.record.specs.Record.{pick, File, Record, records}
 use Rattle.record.proofs.Records.{Shaped, records-shaped}
+use Rattle.record.specs.Sorts.{isSymbol, isRow, isClause, howMany}
 use Rattle.unification.proofs.Tests.{to-T, true-not-false}
 use Rattle.demands.specs.Conditions.{RightLiterals, ofOne, ofSome}
 use Rattle.demands.specs.Demands.{Adds, addsSymbol, addsVariable, addsApplication, addsInput, addsResolvent, addsFactor, addsWindow}
@@ -21,7 +22,6 @@ use Rattle.demands.proofs.Added.{step-adds}
 use Rattle.demands.proofs.Inversions.{entry-more, entry-new, not-below}
 use Rattle.verdict.proofs.Endings.{ending-stands, stands-not-refused}
 use Rattle.merging.specs.Answer.{symbolList}
-use Rattle.merging.specs.Merging.{isSymbol, isRow, isClause, howMany}
 
 -- ── One record ──
 

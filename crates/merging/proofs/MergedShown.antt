@@ -13,6 +13,7 @@ use borrow.Author.Tests.{le-leb, lt-leb, eq-eqb}
 use Rattle.record.specs.Record.{pick, File, oldFile, Record, records}
 use Rattle.record.proofs.Bytes.{file-length, file-records}
 use Rattle.record.proofs.Records.{Shaped, HaveDays, records-shaped, records-days}
+use Rattle.record.specs.Sorts.{isSymbol, isRow, isClause, isStep, howMany, unless}
 use Rattle.record.specs.declared.Form.the-variants.{Old}
 use Rattle.unification.specs.Row.{Row, application, noSymbol, rowAt}
 use Rattle.unification.specs.Term.{Term, app, nil}
@@ -41,7 +42,7 @@ use Rattle.demands.proofs.Shared.{Shared, shared-start}
 use Rattle.demands.proofs.Sources.{Sourced, step-sourced, number-of}
 use Rattle.demands.proofs.WrittenRows.{ReadSame, read-same, no-rows}
 use Rattle.merging.specs.Answer.{firstWhere, symbolList, firstOther}
-use Rattle.merging.specs.Merging.{isSymbol, isRow, isClause, isStep, howMany, shifted, symbolsAfter, unless, withoutSymbols, merged, mergedFile}
+use Rattle.merging.specs.Merging.{shifted, symbolsAfter, withoutSymbols, merged, mergedFile}
 use Rattle.merging.specs.Promised.{longer, clausesWritten, windowDays, daysIn, Merged}
 use Rattle.merging.proofs.Behind.{none-here, Behind, read-behind}
 use Rattle.merging.proofs.Beside.{Beside, raisedWindow}

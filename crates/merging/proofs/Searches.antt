@@ -11,12 +11,12 @@ use lib.Dec.{eqb, leb, ltb, eqb-refl, ltb→lt}
 use lib.ListN.{length, getD, take, drop}
 use borrow.Author.Tests.{le-leb}
 use Rattle.record.specs.Record.{pick, oldFile, Record, records}
+use Rattle.record.specs.Sorts.{isSymbol, isStep, howMany}
 use Rattle.unification.proofs.Tests.{to-T, from-T, both-true, true-not-false, some-not-none, some-injective}
 use Rattle.demands.specs.Conditions.{OneOf}
 use Rattle.demands.specs.Demands.{RecordAt}
 use Rattle.demands.proofs.RangeTests.{not-true, equal, unequal, at-most, not-under}
 use Rattle.merging.specs.Answer.{firstWhere, symbolList, firstOther}
-use Rattle.merging.specs.Merging.{isSymbol, isStep, howMany}
 use Rattle.merging.specs.Promised.{FirstStep, OtherSymbol, FirstOtherSymbol, Begins}
 
 nothing-there : {r : Record} {after : List Record} (j : ℕ) → drop {A = Record} j [] ≡ r ∷ after → ⊥

@@ -12,7 +12,6 @@ use Rattle.record.specs.Bytes.{Fits, AllFit, Bytes}
 use Rattle.record.specs.Record.{pick, oldFile, Record, records, otherKind, Kind, symbolKind, variableKind, applicationKind, inputKind, resolveKind, factorKind, severalKind, windowKind, fieldA}
 use Rattle.record.specs.declared.Form.the-variants.{Old}
 use Rattle.record.proofs.Bytes.{fits-shaped, records-fit}
-use Rattle.record.proofs.Records.{Shaped, records-shaped}
 use Rattle.unification.specs.Row.{Row}
 use Rattle.unification.proofs.Lists.{Each}
 use Rattle.unification.proofs.Rows.{Below}
@@ -25,7 +24,7 @@ use Rattle.verdict.specs.Verdict.{ending, Stands}
 use Rattle.demands.proofs.Inversions.{step-stands, tests-passed, Passed, all-below, rows-below, entry-below}
 use Rattle.demands.proofs.RangeTests.{of-kind, equal, at-most, fields-of}
 use Rattle.verdict.proofs.Endings.{stands-not-refused}
-use Rattle.merging.specs.Merging.{isRow, isClause, howMany, raisedBy, shifted}
+use Rattle.merging.specs.Merging.{raisedBy, shifted}
 use Rattle.merging.proofs.Counting.{read-counted}
 use Rattle.merging.proofs.Shifts.{raised-most, raisedOf, raised-by, shifted-seven}
 

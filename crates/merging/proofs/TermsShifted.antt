@@ -8,6 +8,7 @@ use lib.Dec.{eqb, ltb}
 use lib.ListN.{length, getD}
 use Rattle.record.specs.Record.{pick, Record, otherKind, Kind, symbolKind, variableKind, applicationKind, inputKind, resolveKind, factorKind, severalKind, windowKind, fieldA}
 use Rattle.record.proofs.Records.{Shaped}
+use Rattle.record.specs.Sorts.{isSymbol, unless}
 use Rattle.unification.specs.Row.{variable, Row, application, argumentTerms}
 use Rattle.unification.specs.Term.{Term, app, cons}
 use Rattle.unification.proofs.Tests.{both-true}
@@ -15,7 +16,7 @@ use Rattle.derivation.specs.Derivation.{RowLiteral, inputLiterals}
 use Rattle.verdict.specs.Refusal.{kindOfRecord, argumentRows}
 use Rattle.demands.specs.Repeats.{withWritten, writtenAfter, termByNumbers, numberTerm}
 use Rattle.demands.proofs.RangeTests.{of-kind, equal, kind-at}
-use Rattle.merging.specs.Merging.{isSymbol, shifted, symbolsAfter, unless, withoutSymbols}
+use Rattle.merging.specs.Merging.{shifted, symbolsAfter, withoutSymbols}
 use Rattle.merging.proofs.Beside.{eqb-raised}
 use Rattle.merging.proofs.ClausesRead.{literalsBy, inputClauses}
 use Rattle.merging.proofs.Shifts.{shifted-variable, shifted-arguments, shifted-head, raisedLiteral, shifted-literals}

@@ -1,25 +1,16 @@
--- Document 02, Q-8: the answer to a merge, and what it leaves in the tables and in the output.
+-- Document 02, Q-8: the answer to a merge, and what it leaves in the tables. What it leaves in the output goes by the answer (`outputLeft` of the crate writing).
 use mathlib.Core.Bool.{Bool, true, false}
 use mathlib.Core.Option.{Option, none, some}
-use mathlib.Core.List.{List, [], _∷_, _++_}
+use mathlib.Core.List.{List, [], _∷_}
 use Prim.Native.Nat.{ℕ, suc, _*_}
 use lib.Dec.{eqb, ltb}
-use lib.ListN.{length, drop}
+use lib.ListN.{length}
 use Rattle.record.specs.Record.{oldFile, Record, records}
-use Rattle.verdict.specs.Refusal.{reasonNumber}
+use Rattle.record.specs.Sorts.{isSymbol, isStep}
 use Rattle.verdict.specs.Tables.{Tables, lengthsOf, tablesAfter}
 use Rattle.verdict.specs.Verdict.{Verdict, accepted, open′, refusal, check}
-use Rattle.merging.specs.Merging.{isSymbol, isStep, merged}
-
--- Written, with the file's length; or refused, with a number, a file (0 neither, 1 the first, 2 the second) and a record.
-pub data Merge : Type 0 where
-  written : ℕ → Merge
-  refusedWith : ℕ → ℕ → ℕ → Merge
-
--- Its four numbers: 0 written or 2 refused; the length or the reason; the file; the record.
-abbrev pub mergeNumbers : Merge → List ℕ
-mergeNumbers (written n) = 0 ∷ n ∷ 0 ∷ 0 ∷ []
-mergeNumbers (refusedWith number file k) = 2 ∷ number ∷ file ∷ k ∷ []
+use Rattle.writing.specs.Writing.{Writing, written, refusedWith, unlessRefused}
+use Rattle.merging.specs.Merging.{merged}
 
 -- The first record of a sort, where the first of the list has the number k.
 abbrev pub firstWhere : (Record → Bool) → ℕ → List Record → Option ℕ
@@ -39,25 +30,19 @@ firstOther (a ∷ xs) k (r ∷ rs) =
     elim (isSymbol r) [ true ↦ elim (eqb a (r .count)) [ true ↦ firstOther xs (suc k) rs | false ↦ some k ] | false ↦ firstOther (a ∷ xs) (suc k) rs ]
 
 -- 17 for a step in the first file, then in the second; 18 for symbols that differ; 19 for over 4,096 records; and else the file is written.
-abbrev pub roomFor : List Record → Merge
+abbrev pub roomFor : List Record → Writing
 roomFor rs = elim (ltb 4096 (length rs)) [ true ↦ refusedWith 19 0 0 | false ↦ written (16 * length rs) ]
 
-abbrev pub symbolsCompared : List Record → List Record → Merge
+abbrev pub symbolsCompared : List Record → List Record → Writing
 symbolsCompared first second = elim (firstOther (symbolList first) 0 second) [ some k ↦ refusedWith 18 2 k | none ↦ roomFor (merged first second) ]
 
-abbrev pub afterChecks : List Record → List Record → Merge
+abbrev pub afterChecks : List Record → List Record → Writing
 afterChecks first second =
     elim (firstWhere isStep 0 first) [ some k ↦ refusedWith 17 1 k | none ↦ elim (firstWhere isStep 0 second) [ some k ↦ refusedWith 17 2 k | none ↦ symbolsCompared first second ] ]
 
--- A file that its check refuses ends the work, with that refusal and the file's number.
-abbrev pub unlessRefused : ℕ → Verdict → Merge → Merge
-unlessRefused file (refusal reason k) next = refusedWith (reasonNumber reason) file k
-unlessRefused file (accepted n) next = next
-unlessRefused file open′ next = next
-
 -- A short output comes before all else; then the check of the first file, and with the tables as it leaves them that of the second. Whether a file is
 -- refused does not depend on the day of its check.
-unfoldable pub mergeAnswer : List ℕ → List ℕ → Tables → ℕ → Merge
+unfoldable pub mergeAnswer : List ℕ → List ℕ → Tables → ℕ → Writing
 mergeAnswer first second tables room =
     elim (ltb room 65536) [
       | true ↦ refusedWith 2 0 0
@@ -73,8 +58,3 @@ tablesUnlessRefused open′ here next = next
 unfoldable pub tablesLeft : List ℕ → List ℕ → Tables → ℕ → Tables
 tablesLeft first second tables room =
     elim (ltb room 65536) [ true ↦ tables | false ↦ tablesUnlessRefused (check 0 (oldFile first) (lengthsOf tables) .verdict) (tablesAfter (oldFile first) tables) (tablesAfter (oldFile second) (tablesAfter (oldFile first) tables)) ]
-
--- The output: the file at its start and the rest as it was, or all as it was.
-abbrev pub outputLeft : Merge → List ℕ → List ℕ → List ℕ
-outputLeft (written n) file output = file ++ drop n output
-outputLeft (refusedWith number which k) file output = output

@@ -1,28 +1,11 @@
 -- Document 02, Q-8: two files merged into one, on their records. All three are of the old form (Q-11, and as Q-12 says it).
-use mathlib.Core.Bool.{Bool, true, false, _&&_}
+use mathlib.Core.Bool.{_&&_}
 use mathlib.Core.List.{List, [], _∷_, _++_, map}
 use Prim.Native.Nat.{ℕ, suc, _+_, _*_}
 use lib.Dec.{eqb, leb, ltb}
 use Rattle.record.specs.Bytes.{fileBytes}
 use Rattle.record.specs.Record.{pick, oldFile, Record, records}
-
--- Records by what they declare: a symbol; a row, which is a variable or an application; a clause, which is an input clause or a step's.
-abbrev pub isSymbol : Record → Bool
-isSymbol r = eqb (r .kind) 1
-
-abbrev pub isRow : Record → Bool
-isRow r = leb 2 (r .kind) && leb (r .kind) 3
-
-abbrev pub isClause : Record → Bool
-isClause r = leb 4 (r .kind) && leb (r .kind) 7
-
-abbrev pub isStep : Record → Bool
-isStep r = leb 5 (r .kind) && leb (r .kind) 7
-
--- How many records of a list are of a sort. Repeated rows count.
-abbrev pub howMany : (Record → Bool) → List Record → ℕ
-howMany sort [] = 0
-howMany sort (r ∷ rs) = pick (sort r) 1 0 + howMany sort rs
+use Rattle.record.specs.Sorts.{isSymbol, isRow, isClause, howMany, unless}
 
 -- By how much field number i of a record of the second file is raised, from 0 for field a: an argument row by the first's number of rows, a literal by
 -- twice that, the clause of a window by the first's number of clauses. Symbols, variables and days stay, and unused fields stay zero.
@@ -43,10 +26,6 @@ shifted rows clauses r = record { kind = r .kind; count = r .count; fields = rai
 -- The number that the next symbol has, after a record.
 abbrev pub symbolsAfter : ℕ → Record → ℕ
 symbolsAfter s r = pick (isSymbol r) (suc s) s
-
-abbrev pub unless : Bool → Record → List Record → List Record
-unless true r rs = rs
-unless false r rs = r ∷ rs
 
 -- Records without the symbol records numbered below n, where the next symbol has the number s.
 abbrev pub withoutSymbols : ℕ → ℕ → List Record → List Record

@@ -8,6 +8,7 @@ use Prim.Native.Nat.{ℕ, _+_, _≤_, _<_}
 use lib.Dec.{leb}
 use lib.ListN.{length, getD, take}
 use Rattle.record.specs.Record.{pick, oldFile, Record, records}
+use Rattle.record.specs.Sorts.{isSymbol, howMany}
 use Rattle.unification.specs.Term.{Term}
 use Rattle.derivation.specs.Derivation.{literals, input, RowLiteral}
 use Rattle.demands.specs.Conditions.{OneOf, TableShort}
@@ -18,8 +19,9 @@ use Rattle.demands.specs.Repeats.{termByNumbers}
 use Rattle.verdict.specs.State.{State, Window, rowsOf, derivations, clauseOf}
 use Rattle.verdict.specs.Tables.{Tables, lengthsOf, tablesAfter}
 use Rattle.verdict.specs.Verdict.{refusal, check, Stands}
-use Rattle.merging.specs.Answer.{Merge, written, refusedWith, symbolList, mergeAnswer, tablesLeft, outputLeft}
-use Rattle.merging.specs.Merging.{isSymbol, howMany, merged, mergedFile}
+use Rattle.writing.specs.Writing.{written, refusedWith, outputLeft, WrittenAt}
+use Rattle.merging.specs.Answer.{symbolList, mergeAnswer, tablesLeft}
+use Rattle.merging.specs.Merging.{merged, mergedFile}
 
 -- ── When a merge is refused ──
 
@@ -93,12 +95,6 @@ pub record Merged (first second : List ℕ) (S T M : State) : Type 0 where
   pub symbols : symbolList (records (oldFile (mergedFile first second))) ≡ longer (symbolList (records (oldFile first))) (symbolList (records (oldFile second)))
 
 -- ── What a merge leaves ──
-
--- A file at the start of an output, and the rest of the output as it was.
-pub record WrittenAt (file output left : List ℕ) : Type 0 where
-  pub sameLength : length left ≡ length output
-  pub atStart : (i : ℕ) → i < length file → getD left i 0 ≡ getD file i 0
-  pub restKept : (i : ℕ) → length file ≤ i → getD left i 0 ≡ getD output i 0
 
 pub record MergePromised (first second : List ℕ) (tables : Tables) (room : ℕ) : Type 0 where
   -- A merge is refused with a number, a file and a record exactly if the condition for them holds and none before it does,

@@ -8,8 +8,7 @@ use native.Mathlib.Omega.{arith}
 use lib.ListN.{drop}
 use Rattle.record.specs.Record.{Record, File, recordCount, recordPart, decodedIn, records}
 use Rattle.record.proofs.Records.{record-numbered}
-use Rattle.converting.specs.Promised.{howMany}
-use Rattle.placing.specs.Placing.{one}
+use Rattle.record.specs.Sorts.{howMany, one}
 use Rattle.placing.proofs.Placing.{none-left}
 
 pub at-most-one : (b : Bool) → one b ≤ 1

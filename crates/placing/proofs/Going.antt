@@ -1,5 +1,5 @@
--- A file written in the other form, record by record: each record becomes some, and what is left comes to the same as the whole.
-use mathlib.Core.Path.{_≡_, refl, sym, ap, ap₂, _∙_}
+-- A file written from another, record by record: each record becomes some, and what is left comes to the same as the whole.
+use mathlib.Core.Path.{_≡_, sym, ap, ap₂, _∙_}
 use mathlib.Core.Bool.{Bool, true, false}
 use mathlib.Core.List.{List, [], _∷_, _++_}
 use Prim.Native.Nat.{ℕ, suc, _+_, _≤_, _<_}
@@ -10,25 +10,21 @@ use Rattle.record.specs.Bytes.{bytesIn}
 use Rattle.record.specs.Record.{pick, Record, File, recordCount, recordPart, decodedIn, records}
 use Rattle.record.specs.declared.Form.{Form}
 use Rattle.record.proofs.Records.{record-numbered}
-use Rattle.converting.specs.Converting.{isClause, clausesAfter, unless}
+use Rattle.record.specs.Sorts.{isClause, clausesAfter}
 use Rattle.placing.specs.Placing.{Placed, Written}
 use Rattle.placing.proofs.Placing.{Reached, reached-first, reached-room, reached-more, reached-end, none-left}
-
-pub unless-joined : (b : Bool) (r : Record) (rs : List Record) → unless b r rs ≡ unless b r [] ++ rs
-unless-joined true r rs = refl
-unless-joined false r rs = refl
 
 few-clauses : (n : ℕ) (b : Bool) → pick b (suc n) n ≤ suc n
 few-clauses n true = omega arith
 few-clauses n false = omega arith
 
--- Before record k, with n clauses before it; `from n` are the converted records of records that clause n is the next in.
+-- Before record k, with n clauses before it; `from n` are the records that are written for records that clause n is the next in.
 pub record Going (file : File) (other : Form) (from : ℕ → List Record → List Record) (before output : List ℕ) (next n k : ℕ) : Type 0 where
   pub inside : k ≤ recordCount file
   pub few : n ≤ k
   pub reached : Reached other (from 0 (records file)) (from n (drop k (records file))) before output next
 
--- What a conversion is, record by record.
+-- What is written, record by record.
 pub record ByRecord (from : ℕ → List Record → List Record) (becomes : ℕ → Record → List Record) : Type 0 where
   pub onNone : (n : ℕ) → from n [] ≡ []
   pub onMore : (n : ℕ) (r : Record) (rs : List Record) → n < 4096 → from n (r ∷ rs) ≡ becomes n r ++ from (clausesAfter n r) rs

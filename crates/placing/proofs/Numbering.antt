@@ -1,23 +1,14 @@
--- The number of the next clause, by the kind of a record.
-use mathlib.Core.Path.{_≡_, sym, ap, ap₂, _∙_, subst}
-use mathlib.Core.Bool.{Bool, _&&_}
-use mathlib.Core.List.{List}
-use Prim.Native.Nat.{ℕ, suc, _+_, _≤_, _<_}
-use native.Mathlib.Numerals.{add-one}
-use lib.Dec.{leb}
-use borrow.Author.Tests.{le-leb, lt-leb}
-use Rattle.record.specs.Record.{pick, decoded, kindOf}
-use Rattle.converting.specs.Converting.{clausesAfter}
+-- The number of the next clause, by how many clauses a record makes.
+use mathlib.Core.Path.{_≡_, ap, _∙_}
+use mathlib.Core.Bool.{Bool, true, false}
+use Prim.Native.Nat.{ℕ, suc, _+_}
+use native.Mathlib.Omega.{arith}
+use Rattle.record.specs.Record.{pick, Record}
+use Rattle.record.specs.Sorts.{isClause, one, clausesAfter}
 
-module _ (n : ℕ) (part : List ℕ) {k : ℕ} (isKind : k ≡ kindOf part) where
-  picked : (b : Bool) → (leb 4 (kindOf part) && leb (kindOf part) 7) ≡ b → pick b (suc n) n ≡ clausesAfter n (decoded part)
-  picked b e = ap (λ (x : Bool). pick x (suc n) n) (sym e)
+one-after : (n : ℕ) (b : Bool) → n + one b ≡ pick b (suc n) n
+one-after n true = omega arith
+one-after n false = omega arith
 
-  pub kind-under : k < 4 → n ≡ clausesAfter n (decoded part)
-  kind-under l = picked _ (ap (λ (x : Bool). x && leb (kindOf part) 7) (lt-leb 4 (kindOf part) (subst (λ (x : ℕ). x < 4) isKind l)))
-
-  pub kind-clause : 4 ≤ k → k ≤ 7 → n + 1 ≡ clausesAfter n (decoded part)
-  kind-clause l m = add-one n ∙ picked _ (ap₂ _&&_ (le-leb 4 (kindOf part) (subst (λ (x : ℕ). 4 ≤ x) isKind l)) (le-leb (kindOf part) 7 (subst (λ (x : ℕ). x ≤ 7) isKind m)))
-
-  pub kind-over : 4 ≤ k → 7 < k → n ≡ clausesAfter n (decoded part)
-  kind-over l m = picked _ (ap₂ _&&_ (le-leb 4 (kindOf part) (subst (λ (x : ℕ). 4 ≤ x) isKind l)) (lt-leb (kindOf part) 7 (subst (λ (x : ℕ). 7 < x) isKind m)))
+pub next-clause : (n : ℕ) (r : Record) {m : ℕ} → m ≡ one (isClause r) → n + m ≡ clausesAfter n r
+next-clause n r e = ap (λ (x : ℕ). n + x) e ∙ one-after n (isClause r)

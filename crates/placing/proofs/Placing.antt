@@ -1,19 +1,18 @@
 -- Bytes placed in an output one after another: what is left to be written, placed behind what is, comes to the same as the whole.
 use mathlib.Core.Path.{_≡_, refl, sym, ap, ap₂, _∙_}
 use mathlib.Core.Bool.{Bool}
-use mathlib.Core.Option.{none}
 use mathlib.Core.List.{List, [], _∷_, _++_, append-assoc}
-use Prim.Native.Nat.{ℕ, zero, suc, _+_, _*_, _≤_, _<_}
+use Prim.Native.Nat.{ℕ, _+_, _*_, _≤_, _<_}
 use native.Mathlib.Numerals.{add-one}
 use native.Mathlib.Omega.{arith}
 use lib.ListN.{length, getD, take, drop, set, take-append-drop, length-append, length-drop, drop-of-length-le}
-use lib.Seq.{length-take-le, drop-drop, drop-cons, take-at, drop-at, take-add, getD-take, set-split}
+use lib.Seq.{length-take-le, drop-drop, drop-cons, take-at, drop-at, take-add, set-split}
 use borrow.Author.Tests.{lt-ltb}
 use Rattle.record.specs.Bytes.{recordBytes, bytesIn, Bytes}
 use Rattle.record.specs.Record.{pick, Record, File, inForm, recordLength, recordCount, recordPart, decoded, records}
 use Rattle.record.specs.declared.Form.{Form}
 use Rattle.record.specs.declared.Form.the-variants.{Old, New}
-use Rattle.record.proofs.Bytes.{part-written, file-joined}
+use Rattle.record.proofs.Bytes.{part-written, decoded-taken, taken-bytes, file-joined}
 use Rattle.record.proofs.Records.{records-length}
 use Rattle.placing.specs.Placing.{placedAt, Placed, Written}
 
@@ -132,27 +131,6 @@ part-length file k h = ap (λ (b : Bool). length (pick b (take (recordLength (fi
 -- From the last record on there is none.
 pub none-left : (file : File) (k : ℕ) → recordCount file ≤ k → drop k (records file) ≡ []
 none-left file k h = drop-of-length-le (records file) {i = k} (omega (arith, records-length file))
-
-taken-bytes : (n : ℕ) (bytes : List ℕ) → Bytes bytes → Bytes (take n bytes)
-taken-bytes zero bytes b i = omega arith
-taken-bytes (suc n) [] b i = omega arith
-taken-bytes (suc n) (x ∷ xs) b zero = b 0
-taken-bytes (suc n) (x ∷ xs) b (suc i) = taken-bytes n xs (λ k. b (suc k)) i
-
-decoded-taken : (l : List ℕ) → decoded (take 16 l) ≡ decoded l
-decoded-taken l =
-    let g : (i : ℕ) → i < 16 → getD (take 16 l) i 0 ≡ getD l i 0 = λ i h. getD-take 16 l i 0 h in
-    let f : (i j : ℕ) → i < 16 → j < 16 → getD (take 16 l) i 0 + 256 * getD (take 16 l) j 0 ≡ getD l i 0 + 256 * getD l j 0 = λ i j h k. ap₂ (λ (a b : ℕ). a + 256 * b) (g i h) (g j k) in
-    let kind = g 0 (omega arith) in
-    let count = g 1 (omega arith) in
-    let a = f 2 3 (omega arith) (omega arith) in
-    let b = f 4 5 (omega arith) (omega arith) in
-    let d = f 6 7 (omega arith) (omega arith) in
-    let e = f 8 9 (omega arith) (omega arith) in
-    let h = f 10 11 (omega arith) (omega arith) in
-    let m = f 12 13 (omega arith) (omega arith) in
-    let n = f 14 15 (omega arith) (omega arith) in
-    λ t. record { kind = kind t; count = count t; fields = a t ∷ b t ∷ d t ∷ e t ∷ h t ∷ m t ∷ n t ∷ []; days = none }
 
 -- Its first sixteen bytes are those of the record without days.
 pub first-sixteen : (part : List ℕ) → 16 ≤ length part → Bytes part → take 16 part ≡ recordBytes Old (decoded part)

@@ -1,19 +1,14 @@
 -- An output with bytes at a place, and what a program asks that writes them. No promise needs this file.
 use mathlib.Core.Path.{_≡_}
-use mathlib.Core.Bool.{Bool}
 use mathlib.Core.List.{List, _++_}
 use Prim.Native.Nat.{ℕ, _+_, _≤_}
 use lib.ListN.{length, take, drop}
 use Rattle.record.specs.Bytes.{bytesIn}
-use Rattle.record.specs.Record.{pick, Record}
+use Rattle.record.specs.Record.{Record}
 use Rattle.record.specs.declared.Form.{Form}
 
 abbrev pub placedAt : ℕ → List ℕ → List ℕ → List ℕ
 placedAt at bytes output = take at output ++ (bytes ++ drop (at + length bytes) output)
-
--- 1 for what holds, and 0 for what does not.
-abbrev pub one : Bool → ℕ
-one b = pick b 1 0
 
 -- A record's part has sixteen bytes, and the output has room for them.
 pub record PartPlaceable (part output : List ℕ) (at : ℕ) : Type 0 where

@@ -1,13 +1,13 @@
-// What both conversions write a record with: its sixteen bytes and two numbers at a place of an output, and the number of the next clause. In specs/, `Placing`
-// has an output with bytes at a place.
-use record::kind;
+// What files are written with, record by record: its sixteen bytes and two numbers at a place of an output, and the number of the next clause. In specs/,
+// `Placing` has an output with bytes at a place.
+use sorts::clauses_of;
 ghost use mathlib.Core.Path.{_≡_};
 ghost use mathlib.Core.List.{[]};
 ghost use Prim.Native.Nat.{_+_, _≤_, _<_};
 ghost use lib.ListN.{length, take};
 ghost use Rattle.record.specs.Bytes.{lowThenHigh};
 ghost use Rattle.record.specs.Record.{decoded};
-ghost use Rattle.converting.specs.Converting.{clausesAfter};
+ghost use Rattle.record.specs.Sorts.{clausesAfter};
 ghost use Rattle.placing.specs.Placing.{placedAt, PartPlaceable};
 
 // The first sixteen bytes of a record, at a place.
@@ -38,9 +38,5 @@ pub fn clauses_after(n: usize, part: &[u8]) -> usize
     requires { ⌜ n < 65536 ⌝ }
     ensures { λ m. ⌜ m ≡ clausesAfter n (decoded (now (part .entry))) ⌝ }
 {
-    let k = kind(part);
-    if k < 4 {
-        return n;
-    }
-    if k <= 7 { n + 1 } else { n }
+    n + clauses_of(part)
 }

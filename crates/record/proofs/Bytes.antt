@@ -5,9 +5,9 @@ use mathlib.Core.List.{List, [], _∷_, _++_, map, append-assoc}
 use Prim.Native.Nat.{ℕ, zero, suc, _+_, _*_, _%_, _/_, _≤_, _<_}
 use native.Mathlib.Omega.{arith}
 use lib.ListN.{length, getD, take, drop, take-append-drop, length-append, length-drop, drop-of-length-le}
-use lib.Seq.{length-take-le, drop-cons, getD-drop, take-at, drop-at}
+use lib.Seq.{length-take-le, drop-cons, getD-drop, getD-take, take-at, drop-at}
 use Rattle.record.specs.Bytes.{lowThenHigh, fieldBytes, dayBytes, recordBytes, bytesIn, DaysFit, Fits, AllFit, Bytes}
-use Rattle.record.specs.Record.{Record, File, inForm, recordLength, recordCount, kindOf, countOf, fieldsOf, decodedIn, parts, records}
+use Rattle.record.specs.Record.{Record, File, inForm, recordLength, recordCount, kindOf, countOf, fieldsOf, decoded, decodedIn, parts, records}
 use Rattle.record.proofs.Records.{HasDays, Shaped, HaveDays, decoded-parts}
 use Rattle.record.specs.declared.Form.{Form}
 use Rattle.record.specs.declared.Form.the-variants.{Old, New}
@@ -57,6 +57,22 @@ pub part-written : (form : Form) (part : List ℕ) → length part ≡ recordLen
 unfolding recordBytes elements
 part-written Old part e b = simp (low-byte, high-byte, b) (elements-all part 0 16 e)
 part-written New part e b = simp (low-byte, high-byte, b) (elements-all part 0 20 e)
+
+-- A record's bytes are the first sixteen of what begins with it.
+pub decoded-taken : (l : List ℕ) → decoded (take 16 l) ≡ decoded l
+decoded-taken l =
+    let g : (i : ℕ) → i < 16 → getD (take 16 l) i 0 ≡ getD l i 0 = λ i h. getD-take 16 l i 0 h in
+    let f : (i j : ℕ) → i < 16 → j < 16 → getD (take 16 l) i 0 + 256 * getD (take 16 l) j 0 ≡ getD l i 0 + 256 * getD l j 0 = λ i j h k. ap₂ (λ (a b : ℕ). a + 256 * b) (g i h) (g j k) in
+    let kind = g 0 (omega arith) in
+    let count = g 1 (omega arith) in
+    let a = f 2 3 (omega arith) (omega arith) in
+    let b = f 4 5 (omega arith) (omega arith) in
+    let d = f 6 7 (omega arith) (omega arith) in
+    let e = f 8 9 (omega arith) (omega arith) in
+    let h = f 10 11 (omega arith) (omega arith) in
+    let m = f 12 13 (omega arith) (omega arith) in
+    let n = f 14 15 (omega arith) (omega arith) in
+    λ t. record { kind = kind t; count = count t; fields = a t ∷ b t ∷ d t ∷ e t ∷ h t ∷ m t ∷ n t ∷ []; days = none }
 
 days-four : (days : Option (ℕ × ℕ)) → length (dayBytes days) ≡ 4
 days-four none = refl
@@ -167,7 +183,7 @@ file-bytes form [] f = no-elements 256 (omega arith) .at
 file-bytes form (r ∷ rs) f = both (recordBytes form r) (bytesIn form rs) (record-bytes form r (f .0)) (file-bytes form rs (f .1)) .at
 
 -- A part of bytes has bytes.
-taken-bytes : (n : ℕ) (bytes : List ℕ) → Bytes bytes → Bytes (take n bytes)
+pub taken-bytes : (n : ℕ) (bytes : List ℕ) → Bytes bytes → Bytes (take n bytes)
 taken-bytes zero bytes b i = no-elements 256 (omega arith) .at i
 taken-bytes (suc n) [] b i = no-elements 256 (omega arith) .at i
 taken-bytes (suc n) (x ∷ xs) b zero = b 0

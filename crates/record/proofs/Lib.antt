@@ -2,3 +2,4 @@
 pub mod CasesProved
 pub mod Records
 pub mod Bytes
+pub mod Sorts

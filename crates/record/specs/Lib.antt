@@ -1,3 +1,4 @@
 pub mod Record
 pub mod Bytes
+pub mod Sorts
 pub mod Cases

@@ -14,15 +14,16 @@ use Rattle.record.specs.declared.Form.the-variants.{Old, New}
 use Rattle.record.proofs.Bytes.{file-length}
 use Rattle.unification.proofs.Tests.{to-T, both-true}
 use Rattle.verdict.specs.Verdict.{fittingLength}
-use Rattle.converting.specs.Answer.{Conversion, written, refusedWith, conversionNumbers, roomFor, outputLeft}
+use Rattle.writing.specs.Writing.{Writing, written, refusedWith, writingNumbers, outputLeft}
+use Rattle.converting.specs.Answer.{roomFor}
 use Rattle.converting.specs.Converting.{otherForm, mostRecords, toNewRecords, toOldRecords, converted, convertedFile}
 use Rattle.placing.specs.Placing.{Written}
 use Rattle.day_table.specs.DayTable.{DaysTold}
 use Rattle.convert_new.specs.NewFile.{NewWritable}
 use Rattle.convert_old.specs.OldFile.{OldWritable}
-use Rattle.rewriting.specs.Given.{conversionGiven}
+use Rattle.writing_answer.specs.Given.{writingGiven}
 use Rattle.rewriting.specs.Rewritten.{Convertible, Rewritten}
-use Rattle.rewriting.specs.declared.ConversionOutcome.{ConversionOutcome}
+use Rattle.writing_answer.specs.declared.WritingOutcome.{WritingOutcome}
 
 -- A length that a form allows is at most 65,536.
 short-length : (form : Form) (bytes : List ℕ) → fittingLength form (length bytes) ≡ true → length bytes ≤ 65536
@@ -34,13 +35,13 @@ few-bytes Old n h = omega arith
 few-bytes New n h = omega arith
 
 module _ (file : File) (output : List ℕ) (asked : Convertible file output) {n : ℕ} (isCount : n ≡ length (converted file)) where
-  abbrev looked : Bool → Conversion
+  abbrev looked : Bool → Writing
   looked b = elim b [ true ↦ refusedWith 22 0 0 | false ↦ written (recordLength (otherForm (file .form)) * length (converted file)) ]
 
-  pub too-many : mostRecords (otherForm (file .form)) < n → {m : ConversionOutcome} → conversionGiven m ≡ 2 ∷ 22 ∷ 0 ∷ 0 ∷ [] → Rewritten file output m output
+  pub too-many : mostRecords (otherForm (file .form)) < n → {m : WritingOutcome} → writingGiven m ≡ 2 ∷ 22 ∷ 0 ∷ 0 ∷ [] → Rewritten file output m output
   too-many h g =
       let e : roomFor file ≡ refusedWith 22 0 0 = ap looked (lt-ltb (mostRecords (otherForm (file .form))) (length (converted file)) (subst (λ (x : ℕ). mostRecords (otherForm (file .form)) < x) isCount h)) in
-      record { answer = g ∙ ap conversionNumbers (sym e); bytes = ap (λ (x : Conversion). outputLeft x (convertedFile file .bytes) output) (sym e) }
+      record { answer = g ∙ ap writingNumbers (sym e); bytes = ap (λ (x : Writing). outputLeft x (convertedFile file .bytes) output) (sym e) }
 
   module _ (h : n ≤ mostRecords (otherForm (file .form))) where
     bytes-length : length (bytesIn (otherForm (file .form)) (converted file)) ≡ recordLength (otherForm (file .form)) * n
@@ -56,7 +57,7 @@ module _ (file : File) (output : List ℕ) (asked : Convertible file output) {n 
       pub short-end : end ≤ 65536
       short-end = omega (arith, W .ends, few)
 
-      pub rewritten : {m : ConversionOutcome} → conversionGiven m ≡ 0 ∷ end ∷ 0 ∷ 0 ∷ [] → Rewritten file output m left
+      pub rewritten : {m : WritingOutcome} → writingGiven m ≡ 0 ∷ end ∷ 0 ∷ 0 ∷ [] → Rewritten file output m left
       unfolding convertedFile
       rewritten g =
           let ends : end ≡ recordLength (otherForm (file .form)) * length (converted file) = W .ends ∙ file-length (otherForm (file .form)) (converted file) in
@@ -64,8 +65,8 @@ module _ (file : File) (output : List ℕ) (asked : Convertible file output) {n 
           ap looked (le-ltb (mostRecords (otherForm (file .form))) (length (converted file)) (subst (λ (x : ℕ). x ≤ mostRecords (otherForm (file .form))) isCount h))
           in
           record {
-            answer = g ∙ ap (λ (x : ℕ). 0 ∷ x ∷ 0 ∷ 0 ∷ []) ends ∙ ap conversionNumbers (sym e);
-            bytes = W .bytes ∙ ap (λ (x : ℕ). bytesIn (otherForm (file .form)) (converted file) ++ drop x output) ends ∙ ap (λ (x : Conversion). outputLeft x (bytesIn (otherForm (file .form)) (converted file)) output) (sym e);
+            answer = g ∙ ap (λ (x : ℕ). 0 ∷ x ∷ 0 ∷ 0 ∷ []) ends ∙ ap writingNumbers (sym e);
+            bytes = W .bytes ∙ ap (λ (x : ℕ). bytesIn (otherForm (file .form)) (converted file) ++ drop x output) ends ∙ ap (λ (x : Writing). outputLeft x (bytesIn (otherForm (file .form)) (converted file)) output) (sym e);
           }
 
 -- What the writing asks.
@@ -77,5 +78,5 @@ pub to-write-old : (file output : List ℕ) → Convertible (newFile file) outpu
 to-write-old file output asked e h = record { short = short-length New file (asked .fits); room = room-enough (newFile file) output asked e h }
 
 -- The form that the program was told.
-pub told-form : {form f : Form} (bytes output : List ℕ) {m : ConversionOutcome} {left : List ℕ} → form ≡ f → Rewritten (inForm f bytes) output m left → Rewritten (inForm form bytes) output m left
+pub told-form : {form f : Form} (bytes output : List ℕ) {m : WritingOutcome} {left : List ℕ} → form ≡ f → Rewritten (inForm f bytes) output m left → Rewritten (inForm form bytes) output m left
 told-form bytes output {m} {left} e R = subst (λ (x : Form). Rewritten (inForm x bytes) output m left) (sym e) R

@@ -11,7 +11,7 @@ use lib.ListN.{length, drop, drop-of-length-le}
 use borrow.Author.Tests.{eq-eqb, ne-eqb, le-leb, lt-leb}
 use Rattle.record.specs.Record.{oldFile, Record, recordCount, recordPart, decoded, records, kindOf, countOf}
 use Rattle.record.proofs.Records.{record-numbered, records-length}
-use Rattle.merging.specs.Merging.{isSymbol, isStep}
+use Rattle.record.specs.Sorts.{isSymbol, isStep}
 use Rattle.merging.specs.Answer.{firstWhere, symbolList, firstOther}
 use Rattle.searching.specs.Searching.{othersFrom, Moved}
 use Rattle.searching.specs.declared.Move.{Move}

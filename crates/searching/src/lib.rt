@@ -7,7 +7,7 @@ ghost use mathlib.Core.Path.{_≡_};
 ghost use Prim.Native.Nat.{_≤_, _<_};
 ghost use lib.ListN.{length};
 ghost use Rattle.record.specs.Record.{oldFile, decoded, records, recordCount};
-ghost use Rattle.merging.specs.Merging.{isStep};
+ghost use Rattle.record.specs.Sorts.{isStep};
 ghost use Rattle.merging.specs.Answer.{firstWhere, symbolList, firstOther};
 ghost use Rattle.searching.specs.Searching.{foundGiven, Moved};
 

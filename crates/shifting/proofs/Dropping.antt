@@ -7,7 +7,8 @@ use native.Mathlib.Numerals.{add-one}
 use lib.Dec.{ltb}
 use borrow.Author.Tests.{eq-eqb, ne-eqb}
 use Rattle.record.specs.Record.{pick, decoded, kindOf}
-use Rattle.merging.specs.Merging.{isSymbol, symbolsAfter}
+use Rattle.record.specs.Sorts.{isSymbol}
+use Rattle.merging.specs.Merging.{symbolsAfter}
 use Rattle.shifting.specs.Shifting.{isDropped}
 
 module _ (part : List ℕ) {k : ℕ} (isKind : k ≡ kindOf part) where

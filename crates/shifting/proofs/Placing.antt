@@ -2,55 +2,26 @@
 use mathlib.Core.Path.{_≡_, refl, sym, ap, ap₂, _∙_}
 use mathlib.Core.Bool.{Bool, true, false}
 use mathlib.Core.Option.{none}
-use mathlib.Core.List.{List, [], _∷_, _++_, map, map-append, append-assoc, append-nil}
+use mathlib.Core.List.{List, [], _∷_, _++_, map, map-append, append-nil}
 use Prim.Native.Nat.{ℕ, suc, _+_, _-_, _*_, _/_, _%_, _≤_, _<_}
 use native.Mathlib.Omega.{arith}
-use lib.ListN.{length, getD, take, drop, take-append-drop, length-append, length-drop, length-map, drop-of-length-le}
-use lib.Seq.{length-take-le, drop-drop, take-at, drop-at, getD-take}
+use lib.ListN.{length, take, drop, length-append, length-map, drop-of-length-le}
+use lib.Seq.{drop-drop}
 use borrow.Author.Tests.{lt-ltb}
 use borrow.Rule.Slice.PartMut.{midOf, putMid}
 use Rattle.record.specs.Bytes.{recordBytes, fileBytes, bytesIn}
 use Rattle.record.specs.Record.{pick, oldFile, Record, recordCount, recordPart, decoded, records}
 use Rattle.record.specs.declared.Form.the-variants.{Old}
 use Rattle.record.proofs.Records.{record-numbered, records-length}
-use Rattle.record.proofs.Bytes.{record-whole, file-length, file-joined}
-use Rattle.merging.specs.Merging.{isSymbol, shifted, symbolsAfter, unless, withoutSymbols}
+use Rattle.record.proofs.Bytes.{decoded-taken, record-whole, file-length, file-joined}
+use Rattle.record.proofs.Sorts.{unless-joined}
+use Rattle.record.specs.Sorts.{isSymbol, unless}
+use Rattle.merging.specs.Merging.{shifted, symbolsAfter, withoutSymbols}
 use Rattle.raising.specs.Wrapped.{wrapped}
-use Rattle.shifting.specs.Shifting.{isDropped, shiftedBytes, placedAt, nextRecord, NextWritable, NextWritten, SecondWritable, SecondWritten}
+use Rattle.shifting.specs.Shifting.{isDropped, shiftedBytes, nextRecord, NextWritable, NextWritten, SecondWritable, SecondWritten}
 use Rattle.raising.proofs.Raising.{tail-lent, tail-back}
-
--- ── Bytes placed in an output ──
-
-place-none : (at : ℕ) (output : List ℕ) → placedAt at [] output ≡ output
-place-none at output =
-    let e : at + 0 ≡ at = omega arith in
-    ap (λ (n : ℕ). take at output ++ drop n output) e ∙ take-append-drop at output
-
-module _ (at : ℕ) (xs output : List ℕ) (room : at + length xs ≤ length output) where
-  front-length : length (take at output ++ xs) ≡ at + length xs
-  front-length = length-append (take at output) xs ∙ ap (λ (n : ℕ). n + length xs) (length-take-le at output (omega arith))
-
-  placed-front : placedAt at xs output ≡ (take at output ++ xs) ++ drop (at + length xs) output
-  placed-front = sym (append-assoc (take at output) xs (drop (at + length xs) output))
-
-  place-length : length (placedAt at xs output) ≡ length output
-  place-length =
-      ap (λ (l : List ℕ). length l) placed-front ∙ length-append (take at output ++ xs) (drop (at + length xs) output)
-      ∙ omega (arith, front-length, length-drop (at + length xs) output)
-
-  place-two : (ys : List ℕ) → placedAt at (xs ++ ys) output ≡ placedAt (at + length xs) ys (placedAt at xs output)
-  place-two ys =
-      let n : ℕ = at + length xs in
-      let long : at + length (xs ++ ys) ≡ n + length ys = omega (arith, length-append xs ys) in
-      let front : take n (placedAt at xs output) ≡ take at output ++ xs = ap (take n) placed-front ∙ take-at (take at output ++ xs) (drop n output) n front-length in
-      let back : drop n (placedAt at xs output) ≡ drop n output = ap (drop n) placed-front ∙ drop-at (take at output ++ xs) (drop n output) n front-length in
-      let behind : drop (n + length ys) (placedAt at xs output) ≡ drop (n + length ys) output =
-      sym (drop-drop (length ys) n (placedAt at xs output)) ∙ ap (drop (length ys)) back ∙ drop-drop (length ys) n output
-      in
-      ap (λ (m : ℕ). take at output ++ ((xs ++ ys) ++ drop m output)) long
-      ∙ ap (λ (l : List ℕ). take at output ++ l) (append-assoc xs ys (drop (n + length ys) output))
-      ∙ sym (append-assoc (take at output) xs (ys ++ drop (n + length ys) output))
-      ∙ sym (ap₂ (λ (a b : List ℕ). a ++ (ys ++ b)) front behind)
+use Rattle.placing.specs.Placing.{placedAt}
+use Rattle.placing.proofs.Placing.{place-none, place-length, place-two}
 
 -- ── The bytes of records ──
 
@@ -102,30 +73,10 @@ module _ (rest : List ℕ) (s symbols rows clauses : ℕ) (output : List ℕ) (a
 
 -- ── All of them ──
 
--- A record's bytes are the first sixteen of what begins with it.
-decoded-taken : (l : List ℕ) → decoded (take 16 l) ≡ decoded l
-decoded-taken l =
-    let g : (i : ℕ) → i < 16 → getD (take 16 l) i 0 ≡ getD l i 0 = λ i h. getD-take 16 l i 0 h in
-    let f : (i j : ℕ) → i < 16 → j < 16 → getD (take 16 l) i 0 + 256 * getD (take 16 l) j 0 ≡ getD l i 0 + 256 * getD l j 0 = λ i j h k. ap₂ (λ (a b : ℕ). a + 256 * b) (g i h) (g j k) in
-    let kind = g 0 (omega arith) in
-    let count = g 1 (omega arith) in
-    let a = f 2 3 (omega arith) (omega arith) in
-    let b = f 4 5 (omega arith) (omega arith) in
-    let d = f 6 7 (omega arith) (omega arith) in
-    let e = f 8 9 (omega arith) (omega arith) in
-    let h = f 10 11 (omega arith) (omega arith) in
-    let m = f 12 13 (omega arith) (omega arith) in
-    let n = f 14 15 (omega arith) (omega arith) in
-    λ t. record { kind = kind t; count = count t; fields = a t ∷ b t ∷ d t ∷ e t ∷ h t ∷ m t ∷ n t ∷ []; days = none }
-
 part-decoded : (file : List ℕ) (k : ℕ) → k < recordCount (oldFile file) → decoded (recordPart (oldFile file) k) ≡ decoded (drop (16 * k) file)
 unfolding recordPart
 part-decoded file k h =
     ap (λ (b : Bool). decoded (pick b (take 16 (drop (16 * k) file)) [])) (lt-ltb k (recordCount (oldFile file)) h) ∙ decoded-taken (drop (16 * k) file)
-
-unless-joined : (b : Bool) (r : Record) (rs : List Record) → unless b r rs ≡ unless b r [] ++ rs
-unless-joined true r rs = refl
-unless-joined false r rs = refl
 
 symbols-few : (s : ℕ) (b : Bool) → pick b (suc s) s ≤ suc s
 symbols-few s true = omega arith
@@ -190,7 +141,7 @@ module _ (second : List ℕ) (symbols rows clauses : ℕ) (before : List ℕ) (a
             few = omega (arith, reached .few, symbols-few s (isSymbol (decoded rest)));
             size = ap (λ (l : List ℕ). length l) (w .bytes) ∙ place-length next N output room ∙ reached .size;
             ends = omega (arith, split-length q, reached .ends, w .ends);
-            bytes = ap₂ (λ (n : ℕ) (l : List ℕ). placedAt n L l) e (w .bytes) ∙ sym (place-two next N output room L) ∙ sym (ap (λ (l : List ℕ). placedAt next l output) joined) ∙ reached .bytes;
+            bytes = ap₂ (λ (n : ℕ) (l : List ℕ). placedAt n L l) e (w .bytes) ∙ place-two next N output room L ∙ sym (ap (λ (l : List ℕ). placedAt next l output) joined) ∙ reached .bytes;
           }
 
     pub reached-end : length second ≤ from → SecondWritten second symbols rows clauses before at output next

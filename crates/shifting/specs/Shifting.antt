@@ -2,14 +2,16 @@
 -- crate merging.
 use mathlib.Core.Path.{_≡_}
 use mathlib.Core.Bool.{Bool, _&&_}
-use mathlib.Core.List.{List, [], _++_, map}
+use mathlib.Core.List.{List, [], map}
 use Prim.Native.Nat.{ℕ, _+_, _*_, _%_, _≤_}
 use lib.Dec.{ltb}
-use lib.ListN.{length, take, drop}
+use lib.ListN.{length}
 use Rattle.record.specs.Bytes.{fileBytes}
 use Rattle.record.specs.Record.{oldFile, Record, decoded, records}
-use Rattle.merging.specs.Merging.{isSymbol, unless, shifted, withoutSymbols}
+use Rattle.record.specs.Sorts.{isSymbol, unless}
+use Rattle.merging.specs.Merging.{shifted, withoutSymbols}
 use Rattle.raising.specs.Wrapped.{wrapped}
+use Rattle.placing.specs.Placing.{placedAt}
 
 -- A symbol record that is left out: there are s symbols before it, and the first file has `symbols`.
 abbrev pub isDropped : ℕ → ℕ → Record → Bool
@@ -18,10 +20,6 @@ isDropped symbols s r = isSymbol r && ltb s symbols
 -- The bytes of records, without the symbol records that are left out.
 abbrev pub shiftedBytes : ℕ → ℕ → List Record → List ℕ
 shiftedBytes rows clauses rs = fileBytes (map (λ r. wrapped (shifted rows clauses r)) rs)
-
--- An output with bytes at a place.
-abbrev pub placedAt : ℕ → List ℕ → List ℕ → List ℕ
-placedAt at bytes output = take at output ++ (bytes ++ drop (at + length bytes) output)
 
 -- One record, if it is not left out.
 abbrev pub nextRecord : List ℕ → ℕ → ℕ → List Record

@@ -8,7 +8,7 @@ use Rattle.convert.proofs.convert_with.Reads as reads
 use Rattle.convert.proofs.convert_with.Lts as lts
 use Rattle.answer.proofs.stands.Reads as stands-reads
 use Rattle.checker.proofs.check_with.Reads as check-with-reads
-use Rattle.convert.proofs.refusal.Reads as refusal-reads
+use Rattle.writing_answer.proofs.refusal.Reads as refusal-reads
 use Rattle.rewriting.proofs.rewrite.Reads as rewrite-reads
 
 check-with-requires : tie.Need-check-with-requires

@@ -5,7 +5,6 @@ use native.Mathlib.Omega.{arith}
 use Rattle.record.specs.Record.{newFile, decodedIn, records}
 use Rattle.record.specs.declared.Form.the-variants.{New}
 use Rattle.converting.specs.Converting.{isDated}
-use Rattle.converting.specs.Promised.{howMany}
 use Rattle.placing.proofs.Counting.{at-most-one, Counted, one-counted, all-counted}
 use Rattle.convert_old.proofs.DatedRecords.{all-dated}
 use borrow.Author.Needs.{needs}
@@ -16,6 +15,7 @@ use Rattle.convert_old.proofs.old_count.Lts as lts
 use Rattle.convert_old.proofs.dated.Reads as dated-reads
 use Rattle.record.proofs.record_count.Reads as record-count-reads
 use Rattle.record.proofs.record_part.Reads as record-part-reads
+use Rattle.record.specs.Sorts.{howMany}
 
 abbrev Inv-loop : tie.InvT-loop
 Inv-loop file count n₀ k₀ n k =

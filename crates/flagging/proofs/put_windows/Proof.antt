@@ -11,7 +11,7 @@ use Rattle.flagging.proofs.put_windows.Statement.{statement}
 use Rattle.flagging.proofs.put_windows.Tie as tie
 use Rattle.flagging.proofs.put_windows.Reads as reads
 use Rattle.flagging.proofs.put_windows.Lts as lts
-use Rattle.flagging.proofs.clauses_of.Reads as clauses-of-reads
+use Rattle.sorts.proofs.clauses_of.Reads as clauses-of-reads
 use Rattle.flagging.proofs.put_days.Reads as put-days-reads
 use Rattle.record.proofs.record_count.Reads as record-count-reads
 use Rattle.record.proofs.record_part.Reads as record-part-reads

@@ -8,7 +8,7 @@ use Rattle.merge.proofs.merge_with.Reads as reads
 use Rattle.merge.proofs.merge_with.Lts as lts
 use Rattle.answer.proofs.stands.Reads as stands-reads
 use Rattle.checker.proofs.check_with.Reads as check-with-reads
-use Rattle.merge_second.proofs.answers.refusal.Reads as refusal-reads
+use Rattle.writing_answer.proofs.refusal.Reads as refusal-reads
 use Rattle.merge_second.proofs.merge_second.Reads as merge-second-reads
 
 check-with-requires : tie.Need-check-with-requires

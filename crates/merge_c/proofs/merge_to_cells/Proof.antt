@@ -4,7 +4,7 @@ use Rattle.merge_c.proofs.merge_to_cells.Statement.{statement}
 use Rattle.merge_c.proofs.merge_to_cells.Tie as tie
 use Rattle.merge_c.proofs.merge_to_cells.Reads as reads
 use Rattle.merge_c.proofs.merge_to_cells.Lts as lts
-use Rattle.exported_merge.proofs.put_merge.Reads as put-merge-reads
+use Rattle.exported_writing.proofs.put_writing.Reads as put-writing-reads
 use Rattle.merge.proofs.merge.Reads as merge-reads
 
 returns : tie.Need-returns
@@ -14,8 +14,8 @@ returns c =
 merge-requires : tie.Need-merge-requires
 merge-requires c κs = search needs
 
-put-merge-requires : tie.Need-put-merge-requires
-put-merge-requires c κs = search needs
+put-writing-requires : tie.Need-put-writing-requires
+put-writing-requires c κs = search needs
 
 same-length : tie.Need-same-length
 same-length c = search needs
@@ -37,7 +37,7 @@ same-length-6 c = search needs
 
 returns-2 : tie.Need-returns-2
 returns-2 c =
-    merge-exported _ _ _ _ _ _ _ _ _ (c .before .before .before .before .before .before .before .before .before .before .before .before .before .before .before .before .before .before .before .before .if1 .left) (c .before .before .before .before .before .before .before .before .before .before .before .before .before .before .merge .ensures) (c .before .before .put-merge .ensures)
+    merge-exported _ _ _ _ _ _ _ _ _ (c .before .before .before .before .before .before .before .before .before .before .before .before .before .before .before .before .before .before .before .before .if1 .left) (c .before .before .before .before .before .before .before .before .before .before .before .before .before .before .merge .ensures) (c .before .before .put-writing .ensures)
 
 pub merge-to-cells-spec : {M : Type 1} → statement M
 merge-to-cells-spec =
@@ -45,7 +45,7 @@ merge-to-cells-spec =
     (tie.spec
     returns
     merge-requires
-    put-merge-requires
+    put-writing-requires
     same-length
     same-length-2
     same-length-3
