@@ -1,6 +1,6 @@
 #!/usr/bin/env bash
-# The proved check, which clause covers which, the merge, conversions, calls of boards and the programs proofread and proofread_canonical against the
-# second implementation in one run, the second readout against the first, and the deepest files under a stack of 4 MiB, of 4.5 for the second readout.
+# The proved check, which clause covers which, the merge, conversions, trims, calls of boards and the programs proofread and proofread_canonical against the
+# second implementation in one run, the second readout against the first, and the deepest files under a stack of 4.5 MiB; the program of the first readout under 4.
 set -eu
 cd "$(dirname "$0")/.."
 rt staticlib checker_c
@@ -9,7 +9,7 @@ rt check proofread_canonical
 cargo build --quiet --offline --profile measured --manifest-path rust/Cargo.toml -p yestrwyn-second -p yestrwyn-comparison --bins
 built=rust/target/measured
 "$built/performance"
-(ulimit -s 4096 && "$built/deepest")
+(ulimit -s 4608 && "$built/deepest")
 (ulimit -s 4608 && "$built/deepest" canonical)
 folder=$(mktemp -d)
 trap 'rm -rf "$folder"' EXIT

@@ -1,14 +1,16 @@
 /* The check of a resolution-proof file, the same for services and for either form
  * of a file, the two readouts, which input clause covers which, two files merged
- * into one, a file converted to the other form, and the board of a file, on which
- * input clauses are withdrawn and returned.
+ * into one, a file converted to the other form, a file trimmed to what its accepted
+ * clause uses, and the board of a file, on which input clauses are withdrawn and
+ * returned.
  *
  * Link with libchecker_c.a. All functions are proved to meet their contracts,
  * for every day, every file and whatever else they are lent (Exported.antt,
  * ExportedForm.antt, ExportedWith.antt, ExportedReadout.antt,
- * ExportedCovers.antt, ExportedMerge.antt and, of checker_to_new and
- * checker_to_old, ExportedConversion.antt in specs/ of the crates exported,
- * exported_readout, exported_covers, exported_merge and exported_conversion).
+ * ExportedCovers.antt, ExportedMerge.antt, ExportedTrim.antt and, of
+ * checker_to_new and checker_to_old, ExportedConversion.antt in specs/ of the
+ * crates exported, exported_readout, exported_covers, exported_merge,
+ * exported_trim and exported_conversion).
  * They never fail, never block, ask for no memory and keep nothing between calls.
  * The contracts of the board are ExportedOpening, of checker_board_open, and
  * ExportedCall, of the other two, in ExportedBoard.antt in specs/ of the crate
@@ -41,6 +43,7 @@ extern "C" {
 #define CHECKER_COVERING 10
 #define CHECKER_MERGED 4
 #define CHECKER_CONVERTED 4
+#define CHECKER_TRIMMED 4
 #define CHECKER_BOARD_ANSWER 3
 
 /* The least length of a board, in cells: one for each clause that a file can
@@ -84,7 +87,8 @@ enum { CHECKER_COMPLETE = 0, CHECKER_MORE = 1, CHECKER_TOO_SHORT = 2 };
 /* Why something is refused. The format may get further numbers: treat an unknown
  * one as a refusal too. 6 is never given. 15 is given by checker_covers alone, 17
  * to 19 by checker_merge alone, 20 and 21 by checker_board_withdraw and
- * checker_board_return alone, 22 by checker_to_new and checker_to_old alone. */
+ * checker_board_return alone, 22 by checker_to_new and checker_to_old alone, 23 by
+ * checker_trim alone. */
 enum {
     CHECKER_REASON_LENGTH = 1,           /* too long, or not whole records */
     CHECKER_REASON_TABLE = 2,            /* a table, board or output too short */
@@ -106,7 +110,8 @@ enum {
     CHECKER_REASON_MERGED_LENGTH = 19,   /* over 4,096 records when merged */
     CHECKER_REASON_NOT_AN_INPUT = 20,    /* no input clause of that number */
     CHECKER_REASON_ALREADY = 21,         /* in that condition already */
-    CHECKER_REASON_CONVERTED_LENGTH = 22 /* too many records when converted */
+    CHECKER_REASON_CONVERTED_LENGTH = 22, /* too many records when converted */
+    CHECKER_REASON_NOT_ACCEPTED = 23     /* not accepted on the day */
 };
 
 /* Checks a proof file on a day, writes the answer and fills four tables.
@@ -423,6 +428,56 @@ void checker_to_old(const uint8_t *file, size_t file_len,
                     uint16_t *bindings, size_t bindings_len,
                     uint8_t *output, size_t output_len,
                     uint32_t *answer, size_t answer_len);
+
+/* Trims a file of the old form that is accepted on a day: of its records only
+ * those are written that the accepted clause uses. These are the records of its
+ * derivation, input clauses and steps; the rows that the literals of these
+ * input clauses reach, where a row that repeats an earlier one is replaced by
+ * the earliest; the symbols of these rows; and of each of these input clauses
+ * the last record of kind 8, if it has any. Records stay in their order, and
+ * the numbers of symbols, rows and clauses close up in every field; those of
+ * literals and variables and the days stay. The trimmed file is accepted on the
+ * same day with its last clause. Each of its clauses has the maximum index that
+ * it had, and the line of the readout, up to its own number and those of
+ * symbols. Trimming it again gives the same bytes.
+ *
+ *   day       as for checker_check
+ *   file      the bytes of the file
+ *   symbols, rows, clauses, bindings
+ *             as for checker_check: the file is checked on the day, and the
+ *             tables are left as that leaves them
+ *   output    at least CHECKER_FILE bytes
+ *   answer    four numbers; at least 4 cells
+ *
+ * What is said there of lengths and pointers holds here too, and none of the
+ * seven parts may overlap another.
+ *
+ * The numbers of the answer:
+ *   answer[0]  0 written, 2 refused
+ *   answer[1]  written: the length of the trimmed file, in bytes; refused: the
+ *              reason
+ *   answer[2]  refused: 1 if it is about the file, or 0 if about the output;
+ *              otherwise 0
+ *   answer[3]  refused: the record of the file; otherwise 0
+ *
+ * The reasons, in this order:
+ *   2          the output is shorter than CHECKER_FILE bytes; file 0, record 0.
+ *              No table is touched
+ *   1 to 16    the check's own, with its record, file 1; tables that are too
+ *              short are its reason 2
+ *   23         the file stands but is not accepted on that day; file 1, record 0
+ *
+ * The output is written only if nothing is refused, and not past the trimmed
+ * file's end. If answer has fewer than 4 cells, nothing at all is touched. Cells
+ * of answer past the fourth are left alone. */
+void checker_trim(uint16_t day,
+                  const uint8_t *file, size_t file_len,
+                  uint16_t *symbols, size_t symbols_len,
+                  uint16_t *rows, size_t rows_len,
+                  uint16_t *clauses, size_t clauses_len,
+                  uint16_t *bindings, size_t bindings_len,
+                  uint8_t *output, size_t output_len,
+                  uint32_t *answer, size_t answer_len);
 
 /* The board of a file: each input clause is present or withdrawn. A derived
  * clause stands if all input clauses of its derivation are present, an input

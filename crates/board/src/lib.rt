@@ -1,37 +1,23 @@
 // The board of a checked file, for the broker service: which input clauses are present, and the lowest standing empty clause whose input clauses are in force.
 // The definitions, and what is shown of every sequence of calls, are in the crate boards; `Contract` in specs/ has what is promised. A board is 4,097 cells: one for
 // each clause and one for the day.
-use answer::Verdict;
 use answer::stands;
 use board_calls::call;
 use board_cells::lowest::BoardAnswer;
 use board_opening::open_cells;
+use board_verdict::opening_answer;
 use checker::check_with;
 use following::nodes::Nodes;
 use following::nodes::Origins;
 use following::values::ValueCells;
 use record::Form;
-ghost use mathlib.Core.Path.{_≡_};
 ghost use mathlib.Core.Bool.{true, false};
 ghost use Prim.Native.Nat.{_≤_};
 ghost use lib.ListN.{length};
 ghost use Rattle.record.specs.Record.{oldFile};
-ghost use Rattle.answer.specs.Given.{verdictCoded};
 ghost use Rattle.entry.specs.Progress.{tablesWith};
-ghost use Rattle.board_cells.specs.Given.{boardGiven};
 ghost use Rattle.board_calls.specs.Called.{BoardCalled};
 ghost use Rattle.board.specs.Contract.{BoardOpened};
-
-// The answer of an opening, by the verdict of the check: all input clauses are present.
-fn opening_answer(verdict: Verdict) -> BoardAnswer
-    ensures { λ a. ⌜ boardGiven a ≡ verdictCoded verdict ⌝ }
-{
-    match verdict {
-        Verdict::Open => BoardAnswer::None,
-        Verdict::Accepted(n) => BoardAnswer::Clause(n),
-        Verdict::Refused(number, k) => BoardAnswer::Refused(number, k),
-    }
-}
 
 // The opening with a workspace for the check.
 fn open_with(

@@ -1,10 +1,8 @@
 // The board of a checked file with its answers in cells, as C has them. In specs/, `ExportedBoard` has what is promised.
-mod answers;
-
-use answers::put_board;
 use board::open_board;
 use board::return_clause;
 use board::withdraw_clause;
+use board_answers::put_board;
 ghost use mathlib.Core.Bool.{true, false};
 ghost use Rattle.record.specs.Record.{oldFile};
 ghost use Rattle.entry.specs.Progress.{tablesWith};

@@ -1,7 +1,7 @@
 // Lines on standard output.
 use answer::numbers::verdict_numbers;
+use digests::Digest;
 use libc::STDOUT_FILENO;
-use outcomes::digest::Digest;
 use outcomes::outcome::Hashes;
 use outcomes::outcome::Outcome;
 

@@ -1,11 +1,10 @@
-// The check of a proof file with its answer in cells, as C has it. `Exported` and `ExportedForm` in specs/ of the crate exported say what it promises.
+// The check of a proof file with its answer in cells, as C has it. `Exported` in specs/ of the crate exported says what it promises.
 use checker::check;
 use exported::cells::put;
 use record::Form;
 ghost use Rattle.record.specs.Record.{inForm};
 ghost use Rattle.entry.specs.Progress.{tablesWith};
 ghost use Rattle.exported.specs.Exported.{Exported};
-ghost use Rattle.exported.specs.ExportedForm.{ExportedForm};
 
 // The check of a file of a form on a day, with the answer in seven cells. Where `answer` has fewer, nothing is touched.
 pub fn check_to_cells(
@@ -25,42 +24,4 @@ pub fn check_to_cells(
     }
     let a = check(form, day, file, symbols, rows, clauses, bindings);
     put(a, answer);
-}
-
-// The same, told the form by the length of its records, 16 or 20. With another number nothing is touched.
-pub fn check_form_to_cells(
-    number: u16,
-    day: u16,
-    file: &[u8],
-    symbols: &mut [u16],
-    rows: &mut [u16],
-    clauses: &mut [u16],
-    bindings: &mut [u16],
-    answer: &mut [u16],
-)
-    ensures { λ _. ⌜ ExportedForm number day (now (file .entry)) (tablesWith (now (symbols .entry)) (now (rows .entry)) (now (clauses .entry)) (now (bindings .entry))) (now (answer .entry)) (tablesWith (now (symbols .exit)) (now (rows .exit)) (now (clauses .exit)) (now (bindings .exit))) (now (answer .exit)) ⌝ }
-{
-    match number {
-        16 => check_to_cells(
-            Form::Old,
-            day,
-            file,
-            symbols,
-            rows,
-            clauses,
-            bindings,
-            answer,
-        ),
-        20 => check_to_cells(
-            Form::New,
-            day,
-            file,
-            symbols,
-            rows,
-            clauses,
-            bindings,
-            answer,
-        ),
-        _ => {}
-    }
 }

@@ -1,13 +1,14 @@
-// The check of a proof file, its two readouts, which clause covers which, the merge of two files, the conversions between the forms and the board of a file, for C. In the crate exported, `Exported`
+// The check of a proof file, its two readouts, which clause covers which, the merge of two files, the conversions between the forms, the trim of a file and the board of a file, for C. In the crate exported, `Exported`
 // says what `checker_check` promises, `ExportedForm` what `checker_check_form` does and `ExportedWith` what `checker_check_with` does; in exported_readout, exported_covers and exported_merge,
 // `ExportedReadout`, `ExportedCanonical`, `ExportedCovers` and `ExportedMerge` say it of `checker_readout`, `checker_canonical_readout`, `checker_covers` and `checker_merge`; in exported_conversion,
-// `ExportedConversion` of `checker_to_new` and `checker_to_old`; and in board_c, `ExportedBoard` of the three
+// `ExportedConversion` of `checker_to_new` and `checker_to_old`; in exported_trim, `ExportedTrim` of `checker_trim`; and in board_c, `ExportedBoard` of the three
 // functions of the board. checker.h has their declarations.
 use board_c::open_to_cells;
 use board_c::return_to_cells;
 use board_c::withdraw_to_cells;
-use check_c::check_form_to_cells;
+use canonical_c::canonical_to_cells;
 use check_c::check_to_cells;
+use check_form_c::check_form_to_cells;
 use check_with_c::check_with_to_cells;
 use convert_c::new_to_cells;
 use convert_c::old_to_cells;
@@ -16,9 +17,9 @@ use following::nodes::Nodes;
 use following::nodes::Origins;
 use following::values::ValueCells;
 use merge_c::merge_to_cells;
-use readout_c::canonical_to_cells;
 use readout_c::readout_to_cells;
 use record::Form;
+use trim_c::trim_to_cells;
 ghost use mathlib.Core.Bool.{true, false};
 ghost use Rattle.record.specs.Record.{oldFile, newFile};
 ghost use Rattle.entry.specs.Progress.{tablesWith};
@@ -31,6 +32,7 @@ ghost use Rattle.exported_readout.specs.ExportedReadout.{ExportedReadout, Expor
 ghost use Rattle.exported_covers.specs.ExportedCovers.{ExportedCovers};
 ghost use Rattle.exported_merge.specs.ExportedMerge.{ExportedMerge};
 ghost use Rattle.exported_conversion.specs.ExportedConversion.{ExportedConversion};
+ghost use Rattle.exported_trim.specs.ExportedTrim.{ExportedTrim};
 ghost use Rattle.board_c.specs.ExportedBoard.{ExportedOpening, ExportedCall};
 
 // The check of a file on a day, with the answer in seven cells. Where `answer` has fewer, nothing is touched.
@@ -234,6 +236,23 @@ pub extern "C" fn checker_to_old(
     ensures { λ _. ⌜ ExportedConversion (newFile (now (file .entry))) (tablesWith (now (symbols .entry)) (now (rows .entry)) (now (clauses .entry)) (now (bindings .entry))) (now (output .entry)) (now (answer .entry)) (tablesWith (now (symbols .exit)) (now (rows .exit)) (now (clauses .exit)) (now (bindings .exit))) (now (output .exit)) (now (answer .exit)) ⌝ }
 {
     old_to_cells(file, symbols, rows, clauses, bindings, output, answer);
+}
+
+// A file trimmed on a day to what its accepted clause uses, with the answer in four cells. Where `answer` has fewer, nothing is touched.
+#[no_mangle]
+pub extern "C" fn checker_trim(
+    day: u16,
+    file: &[u8],
+    symbols: &mut [u16],
+    rows: &mut [u16],
+    clauses: &mut [u16],
+    bindings: &mut [u16],
+    output: &mut [u8],
+    answer: &mut [u32],
+)
+    ensures { λ _. ⌜ ExportedTrim day (now (file .entry)) (tablesWith (now (symbols .entry)) (now (rows .entry)) (now (clauses .entry)) (now (bindings .entry))) (now (output .entry)) (now (answer .entry)) (tablesWith (now (symbols .exit)) (now (rows .exit)) (now (clauses .exit)) (now (bindings .exit))) (now (output .exit)) (now (answer .exit)) ⌝ }
+{
+    trim_to_cells(day, file, symbols, rows, clauses, bindings, output, answer);
 }
 
 // The board of a file opened on a day, with the answer in three cells. Where `answer` has fewer, nothing is touched.

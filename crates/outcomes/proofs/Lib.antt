@@ -1,2 +1,1 @@
-pub mod DigestLaws
 pub mod OutcomeLaws

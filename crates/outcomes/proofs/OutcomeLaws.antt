@@ -11,9 +11,9 @@ use Rattle.units.specs.Units.{AfterCheck}
 use Rattle.units.proofs.UnitWriting.{after-again}
 use Rattle.answer.specs.declared.Answer.{Answer}
 use Rattle.hash.specs.Hash.{start, hashCells}
-use Rattle.outcomes.specs.Digest.{DigestAfter}
+use Rattle.digests.specs.Digest.{DigestAfter}
 use Rattle.outcomes.specs.Outcome.{OutcomeOf}
-use Rattle.outcomes.specs.declared.digest.Digest.{Digest}
+use Rattle.digests.specs.declared.Digest.{Digest}
 
 -- The array does not matter, only its length.
 pub outcome-given : (day : ℕ) (file : File) (before : Tables) (w : Workspace) (a : Answer) (S R C B N O A A₁ A₂ : List ℕ) (s r c b : ℕ) (d e : Digest) → CheckedWith day file before w a (tablesWith S R C B) (workspaceWith N O A) → s ≡ hashCells start S → r ≡ hashCells start R → c ≡ hashCells start C → b ≡ hashCells start B → DigestAfter ByIndex C B N O A A₁ a d → DigestAfter ByAppearance C B N O A₁ A₂ a e

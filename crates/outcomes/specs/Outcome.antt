@@ -9,7 +9,7 @@ use Rattle.verdict.specs.Tables.{Tables, lengthsOf, tablesAfter}
 use Rattle.verdict.specs.Verdict.{check, answerNumbers, leastLengths}
 use Rattle.verdict.specs.Readout.{clauseLine}
 use Rattle.appearance.specs.Appearance.{canonicalLine}
-use Rattle.outcomes.specs.Digest.{DigestOf}
+use Rattle.digests.specs.Digest.{DigestOf}
 use Rattle.hash.specs.Hash.{start, hashCells}
 use Rattle.outcomes.specs.declared.outcome.Outcome.{Outcome}
 

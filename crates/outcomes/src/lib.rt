@@ -1,3 +1,2 @@
 // What the check and the readouts give for one file, in few numbers.
-pub mod digest;
 pub mod outcome;

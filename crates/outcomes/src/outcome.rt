@@ -1,8 +1,8 @@
 // What the check and the readouts give for one file: the answer in numbers, a hash of each table, and each readout's length and hash.
-use super::digest::Digest;
-use super::digest::digest_of;
 use answer::Answer;
 use checker::check_with;
+use digests::Digest;
+use digests::digest_of;
 use following::nodes::Nodes;
 use following::nodes::Origins;
 use following::values::ValueCells;

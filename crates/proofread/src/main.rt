@@ -1,6 +1,6 @@
 // Prints the readout of a proof file: see the crate printing. It takes no arguments.
+use line_printing::report::usage;
 use numbering::Naming;
-use printing::report::usage;
 use printing::run;
 
 fn main() {

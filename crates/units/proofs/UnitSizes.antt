@@ -24,7 +24,7 @@ use Rattle.verdict.specs.Text.{decimal}
 use Rattle.units.specs.Units.{unitAt, AfterCheck, UnitReady, UnitWritten}
 use Rattle.text.proofs.Decimals.{decimal-length}
 use Rattle.text.proofs.Positions.{wrote-position, wrote-bytes}
-use Rattle.lines.proofs.LineTexts.{line-short}
+use Rattle.line_texts.proofs.LineTexts.{line-short}
 use Rattle.units.proofs.PieceLaws.{AllWithin, pieces-hold}
 use Rattle.answer.proofs.GivenNumbers.{stateLeft, clauses-given}
 use Rattle.units.proofs.UnitLaws.{lines-left, unit-count}

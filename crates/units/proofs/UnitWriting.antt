@@ -16,7 +16,7 @@ use Rattle.verdict.specs.Verdict.{check, longEnough, fitting, ending}
 use Rattle.entry.specs.Progress.{ReadTo, tablesWith}
 use Rattle.checker.specs.Contract.{workspaceWith}
 use Rattle.answer.specs.declared.Answer.{Answer}
-use Rattle.lines.specs.Lines.{LineReady, LineWritten}
+use Rattle.line_texts.specs.Lines.{LineReady, LineWritten}
 use Rattle.heading.specs.Heading.{VerdictWritten}
 use Rattle.units.specs.Pieces.{unitsWithin}
 use Rattle.verdict.specs.Readout.{verdictLine}
@@ -25,7 +25,7 @@ use Rattle.numbering.specs.declared.Naming.{Naming}
 use Rattle.units.specs.Units.{unitAt, AfterCheck, UnitReady}
 use Rattle.text.specs.Buffer.{Wrote}
 use Rattle.terms.specs.Writing.{Sized}
-use Rattle.lines.proofs.LineTexts.{ClauseThere, clause-there, read-again}
+use Rattle.line_texts.proofs.LineTexts.{ClauseThere, clause-there, read-again}
 use Rattle.text.proofs.Positions.{wrote-then}
 use Rattle.heading.proofs.VerdictTexts.{verdict-line}
 use Rattle.answer.proofs.GivenNumbers.{stateLeft, verdict-given, clauses-given}

@@ -7,6 +7,8 @@ use yestrwyn_second::board::Afresh;
 use yestrwyn_types::record::{kind, read};
 use yestrwyn_types::BoardAnswer;
 
+#[path = "../examples/trips/archive.rs"]
+mod archive;
 #[path = "../examples/trips/covers.rs"]
 mod covers;
 #[path = "../examples/trips/curfew.rs"]
@@ -98,6 +100,57 @@ fn the_page_says_what_merging_gives() {
 }
 
 #[test]
+fn the_page_says_what_trimming_gives() {
+    let (page, files) = (text("examples/README.md"), files());
+    let mut told = 0;
+    for (what, numbers) in cells(section(&page, "archive")).filter(|row| row.1.starts_with('`')) {
+        let Some((name, day)) = what.split_once(" on day ") else { continue };
+        let day = day.parse().expect("a day");
+        let file = &files.iter().find(|(other, _)| *other == name).expect(name).1;
+        let mut output = vec![0; 65_536];
+        let mut cells = yestrwyn_types::Cells::new();
+        let answer = yestrwyn_second::trim_into(day, file, &mut cells.lend(), &mut output);
+        let right = answer.numbers().map(|number| number.to_string()).join(" ");
+        assert_eq!(numbers, format!("`{right}`"), "{what}");
+        told += 1;
+    }
+    assert_eq!(told, 6);
+    // The archive is of 31 records, and the declined file of 35.
+    assert_eq!(
+        ["archive", "declined"].map(|name| stored(&format!("examples/{name}.proof")).len()),
+        [31 * 16, 35 * 16]
+    );
+    assert!(text("examples/archive-21000.txt").starts_with("accepted 9\n"));
+}
+
+#[test]
+fn the_page_shows_what_closes_up() {
+    let page = text("examples/README.md");
+    let [declined, archive] =
+        ["declined", "archive"].map(|name| hexadecimal(&stored(&format!("examples/{name}.proof"))));
+    let rows = rows_of_three(section(&page, "archive"));
+    // Their records in the declined file, and in the archive where they are written there.
+    let places = [
+        (4, None),
+        (16, None),
+        (19, None),
+        (20, Some(16)),
+        (22, Some(18)),
+        (24, Some(20)),
+        (25, Some(21)),
+        (34, Some(30)),
+    ];
+    assert_eq!(rows.len(), places.len());
+    for (row, (record, moved)) in rows.iter().zip(places) {
+        assert_eq!(row[1], declined[record]);
+        match moved {
+            Some(moved) => assert_eq!(row[2], archive[moved as usize]),
+            None => assert!(row[2].starts_with("left out: ")),
+        }
+    }
+}
+
+#[test]
 fn the_page_says_what_the_board_answers() {
     let (page, file) = (text("examples/README.md"), declined::file().expect("it is built"));
     let mut board = Afresh::open(21_000, &file).expect("it stands");
@@ -122,18 +175,22 @@ fn the_page_says_what_the_board_answers() {
     assert_eq!(other_day.answer(), None);
 }
 
+/// The rows of a section's tables that have three cells, of which the second is a record.
+fn rows_of_three(page: &str) -> Vec<Vec<&str>> {
+    page.lines()
+        .map(|line| line.trim_matches('|').split(" | ").map(str::trim).collect::<Vec<_>>())
+        .filter(|row| {
+            row.len() == 3 && row[1].starts_with("`0") && row[1].len() == hexadecimal(&[0; 16])[0].len()
+        })
+        .collect()
+}
+
 #[test]
 fn the_page_shows_what_is_raised() {
     let page = text("examples/README.md");
     let [trip, merged] =
         ["trip", "merged"].map(|name| hexadecimal(&stored(&format!("examples/{name}.proof"))));
-    let rows: Vec<Vec<&str>> = section(&page, "merged")
-        .lines()
-        .map(|line| line.trim_matches('|').split(" | ").map(str::trim).collect::<Vec<_>>())
-        .filter(|row| {
-            row.len() == 3 && row[1].starts_with("`0") && row[1].len() == hexadecimal(&[0; 16])[0].len()
-        })
-        .collect();
+    let rows = rows_of_three(section(&page, "merged"));
     // Their records in the trip, and in the merged file where they are written there.
     let places = [(4, None), (5, Some(17)), (7, Some(19)), (11, Some(23)), (12, Some(24)), (13, Some(25))];
     assert_eq!(rows.len(), places.len());
@@ -159,6 +216,7 @@ fn verdicts() {
             "accepted 15",
             "accepted 9",
             "accepted 3",
+            "open",
             "open",
             "open",
             "open",

@@ -1,5 +1,5 @@
 //! Files that are measured beside the heavy ones: of some thousand records, ordinary ones of some dozens, pairs that are merged,
-//! files that are converted, and files whose boards are called.
+//! files that are converted, files that are trimmed, and files whose boards are called.
 
 use std::fs;
 use std::path::Path;
@@ -7,7 +7,7 @@ use std::path::Path;
 use yestrwyn_types::Form;
 use yestrwyn_vectors::examples::forms::{self, Formed};
 use yestrwyn_vectors::examples::merges::{self, Merge};
-use yestrwyn_vectors::examples::{cases, deep, edges, repeats, Example};
+use yestrwyn_vectors::examples::{cases, deep, edges, repeats, trims, Example};
 use yestrwyn_vectors::random::SplitMix64;
 use yestrwyn_vectors::sketch::{app, neg, pos, var, Sketch};
 use yestrwyn_vectors::widened;
@@ -102,6 +102,38 @@ pub fn converted() -> Vec<Formed> {
         Formed { name: said.to_string(), ..found.unwrap_or_else(|| panic!("no file {name}")) }
     }));
     files
+}
+
+/// Files that are trimmed: a stored example, thousands of unused records of several kinds, files of which everything is kept, rows
+/// that repeat, and a file that is not accepted on the day.
+pub fn trimmed() -> Vec<Example> {
+    let named = [
+        ("thousands-of-unused-rules", "800 rules with days, eight of them used"),
+        ("thousands-of-unused-symbols", "4,090 unused symbols"),
+        ("thousands-of-superseded-days", "4,091 records of days for two clauses"),
+        ("all-of-4096-records", "a count of 4,091 steps, all of them used"),
+        ("one-rule-used-many-times", "a rule used forty times"),
+        ("23-no-step", "four clauses, refused with 23"),
+    ];
+    let found = |(name, said): (&str, &str)| {
+        let found = trims::examples().into_iter().find(|file| file.name == name);
+        Example { name: said.to_string(), ..found.unwrap_or_else(|| panic!("no file {name}")) }
+    };
+    let declined = Example { day: 21_000, ..Example::new("`declined.proof`", stored("declined.proof")) };
+    let mut files = vec![declined];
+    files.extend(named.map(found));
+    files.push(Example::new("one row written 4,090 times and refuted", repeated_row()));
+    files
+}
+
+/// One row again and again, of which the clauses name the last.
+fn repeated_row() -> Vec<u8> {
+    let mut file = Sketch::new();
+    let q = file.symbol(0);
+    let row = (0..4090).fold(0, |_, _| file.fields(3, 0, &[q]));
+    let [yes, no] = [true, false].map(|sign| file.clause_of_rows(&[(sign, row)]));
+    file.resolve(yes, 1, no, 1);
+    file.finish()
 }
 
 /// A file of some 4,000 clauses whose board is called, and the input clauses that are withdrawn and returned, by what they are.

@@ -1,5 +1,5 @@
 //! The proved check, plain, for services and of either form, the two proved readouts, which clause covers which, the proved merge,
-//! conversions and boards, compared with the second implementation: every answer, every cell and every byte; and the time that they take.
+//! conversions, trims and boards, compared with the second implementation: every answer, every cell and every byte; and the time that they take.
 
 pub mod boards;
 pub mod clock;
@@ -13,5 +13,6 @@ pub mod pieces;
 pub mod questions;
 pub mod rounds;
 pub mod services;
+pub mod trims;
 
 pub use compare::{compare, Difference, Lengths};

@@ -1,4 +1,4 @@
-//! What functions are lent that write a file, a merged or a converted one: tables, an output, and an answer of four numbers.
+//! What functions are lent that write a file, a merged, a converted or a trimmed one: tables, an output, and an answer of four numbers.
 
 use yestrwyn_types::limits::FILE_BYTES;
 use yestrwyn_types::{Tables, LENGTHS, MERGED_CELLS};

@@ -6,7 +6,7 @@ use yestrwyn::exported::{board_open_numbers, board_return_numbers, board_withdra
 use yestrwyn::exported::{
     check_form_numbers, check_numbers, check_numbers_with, Arrays, Nodes, Origins, Values,
 };
-use yestrwyn::exported::{covers_numbers, merge_numbers, PROGRESS_CELLS};
+use yestrwyn::exported::{covers_numbers, merge_numbers, trim_numbers, PROGRESS_CELLS};
 use yestrwyn::{Tables, LENGTHS};
 use yestrwyn_comparison::boards::script_of;
 use yestrwyn_comparison::compare::day_and_file_of;
@@ -14,15 +14,18 @@ use yestrwyn_comparison::covers::Clauses;
 use yestrwyn_comparison::forms::{convert_numbers, form_of};
 use yestrwyn_comparison::merges::pair_of;
 use yestrwyn_comparison::pieces::{Readout, READOUTS};
+use yestrwyn_comparison::trims::trim_of;
 use yestrwyn_types::limits::{BOARD_CELLS, FILE_BYTES};
 use yestrwyn_types::{
-    Cells, ANSWER_CELLS, BOARD_ANSWER_CELLS, CONVERTED_CELLS, COVERING_CELLS, MERGED_CELLS,
+    Cells, ANSWER_CELLS, BOARD_ANSWER_CELLS, CONVERTED_CELLS, COVERING_CELLS, MERGED_CELLS, TRIMMED_CELLS,
 };
 use yestrwyn_vectors::boards::Lent;
 use yestrwyn_vectors::examples::boards::{self, Call, Script};
 use yestrwyn_vectors::examples::forms::{self, Formed};
 use yestrwyn_vectors::examples::merges::Merge;
-use yestrwyn_vectors::examples::{canonical, cases, days, edges, merges, published, refusals};
+use yestrwyn_vectors::examples::{
+    canonical, cases, days, edges, merges, published, refusals, trims, Example,
+};
 use yestrwyn_vectors::forms::convert_into;
 use yestrwyn_vectors::random::SplitMix64;
 
@@ -289,6 +292,36 @@ fn form_in_the_middle(Formed { name, form, day, file }: &Formed) {
 fn both_forms_stay_inside_what_they_were_lent() {
     let run = || {
         forms::examples().into_iter().chain((0..300).map(form_of)).for_each(|file| form_in_the_middle(&file))
+    };
+    yestrwyn::with_stack(run).expect("a thread");
+}
+
+/// Trims a file with everything lent from the middle of larger buffers.
+fn trim_in_the_middle(Example { name, day, file }: &Example) {
+    let lent = in_the_middle(file);
+    let middle = &lent[64..64 + file.len()];
+    let mut buffer = buffer();
+    let [symbols, rows, clauses, bindings, _] = parts(&mut buffer);
+    let mut tables = Tables { symbols, rows, clauses, bindings };
+    let (mut output, mut answer) = (vec![0xa5; 32 + FILE_BYTES + 32], [7; TRIMMED_CELLS + 4]);
+    let numbers = &mut answer[2..2 + TRIMMED_CELLS];
+    trim_numbers(*day, middle, &mut tables, &mut output[32..32 + FILE_BYTES], numbers);
+    let mut theirs = vec![0xa5; FILE_BYTES];
+    let mut cells = Cells::new();
+    let right = yestrwyn_second::trim_into(*day, file, &mut before(&mut cells).lend(), &mut theirs).numbers();
+    assert_eq!(numbers, right, "{name}");
+    assert_eq!((&answer[..2], &answer[2 + TRIMMED_CELLS..]), (&[7; 2][..], &[7; 2][..]));
+    let (output, after) = output.split_at(32 + FILE_BYTES);
+    assert!(margins_hold(&buffer) && output[32..] == theirs, "{name}");
+    assert!(output[..32].iter().chain(after).all(|&byte| byte == 0xa5), "{name}");
+    // The file is only read.
+    assert!(lent == in_the_middle(file), "{name}");
+}
+
+#[test]
+fn trim_stays_inside_what_it_was_lent() {
+    let run = || {
+        trims::examples().into_iter().chain((0..300).map(trim_of)).for_each(|file| trim_in_the_middle(&file))
     };
     yestrwyn::with_stack(run).expect("a thread");
 }

@@ -9,8 +9,8 @@ use yestrwyn::exported::PROGRESS_CELLS;
 use yestrwyn::exported::{board_open_numbers, board_return_numbers, board_withdraw_numbers};
 use yestrwyn::exported::{check_numbers_with, Arrays, Nodes, Origins, Values};
 use yestrwyn::{
-    check_form_here, check_here, covers_here, merge_here, to_new_here, to_old_here, Cells, Form, Tables,
-    ENOUGH, LENGTHS,
+    check_form_here, check_here, covers_here, merge_here, to_new_here, to_old_here, trim_here, Cells, Form,
+    Tables, ENOUGH, LENGTHS,
 };
 use yestrwyn_comparison::pieces::{self, READOUTS};
 use yestrwyn_types::limits::{BOARD_CELLS, FILE_BYTES};
@@ -19,9 +19,10 @@ use yestrwyn_vectors::boards::Lent;
 use yestrwyn_vectors::examples::boards::{self, Call, Script};
 use yestrwyn_vectors::examples::forms::{self, Formed};
 use yestrwyn_vectors::examples::merges::{self, Merge};
-use yestrwyn_vectors::examples::{canonical, cases, days, deep, edges, published, Example};
+use yestrwyn_vectors::examples::{canonical, cases, days, deep, edges, published, trims, Example};
 use yestrwyn_vectors::forms::{convert_into, damaged_form, random_form};
 use yestrwyn_vectors::merges::{damaged_pair, random_pair};
+use yestrwyn_vectors::trims::{damaged_trim, random_trim};
 use yestrwyn_vectors::{board_script, covering_file, dated_file, random_file};
 
 const PAGE: usize = 4096;
@@ -227,6 +228,31 @@ fn both_forms_beside_unreadable_pages() {
         for file in forms::examples().into_iter().chain(random) {
             same_form(&file, Place::Last);
             same_form(&file, Place::First);
+        }
+    };
+    yestrwyn::with_stack(compare).expect("a thread");
+}
+
+/// Trims a file that lies against an unreadable page, with tables and an output that fill their pages.
+fn same_trim(Example { name, day, file }: &Example, place: Place) {
+    let mut pages = Guarded::new(file.len());
+    let lent = put(&mut pages, file, place);
+    let mut guarded = LENGTHS.map(|cells| Guarded::new(2 * cells));
+    let [symbols, rows, clauses, bindings] = guarded.each_mut().map(|table| table.cells());
+    let mut tables = Tables { symbols, rows, clauses, bindings };
+    let (mut output, mut theirs) = (Guarded::new(FILE_BYTES), vec![0; FILE_BYTES]);
+    let right = yestrwyn_second::trim_into(*day, file, &mut Cells::new().lend(), &mut theirs);
+    assert_eq!(trim_here(*day, lent, &mut tables, output.bytes()), right, "{name} {place:?}");
+    assert!(output.bytes() == theirs, "{name} {place:?}");
+}
+
+#[test]
+fn trims_beside_unreadable_pages() {
+    let compare = || {
+        let random = (0..150).flat_map(|seed| [random_trim(seed), damaged_trim(seed)]);
+        for file in trims::examples().into_iter().chain(random) {
+            same_trim(&file, Place::Last);
+            same_trim(&file, Place::First);
         }
     };
     yestrwyn::with_stack(compare).expect("a thread");

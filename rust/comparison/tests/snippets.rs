@@ -1,6 +1,6 @@
 //! The programs that the guide to the format quotes compile, and print what the stored readouts say; so do the programs
 //! in C that print the second readout, that ask which clause covers which, that merge two files, that check and convert files of
-//! either form, and that open a board.
+//! either form, that trim a file, and that open a board.
 
 use std::fs;
 use std::path::{Path, PathBuf};
@@ -30,8 +30,13 @@ mod merge;
 #[path = "../../yestrwyn/examples/service.rs"]
 mod service;
 
+#[allow(dead_code)]
+#[path = "../../yestrwyn/examples/trim.rs"]
+mod trim;
+
 /// The stored examples.
-const EXAMPLES: [&str; 12] = [
+const EXAMPLES: [&str; 13] = [
+    "archive",
     "covers",
     "curfew",
     "declined",
@@ -104,6 +109,12 @@ fn merge_program() -> &'static Path {
 fn form_programs() -> &'static [PathBuf; 2] {
     static PROGRAMS: OnceLock<[PathBuf; 2]> = OnceLock::new();
     PROGRAMS.get_or_init(|| ["form", "convert"].map(compiled))
+}
+
+/// The program `trim`, compiled once.
+fn trim_program() -> &'static Path {
+    static PROGRAM: OnceLock<PathBuf> = OnceLock::new();
+    PROGRAM.get_or_init(|| compiled("trim"))
 }
 
 /// The program `board`, compiled once.
@@ -319,7 +330,7 @@ fn both_forms_from_c_and_rust() {
             }
         }
     }
-    assert_eq!((written, refused), (11, 1));
+    assert_eq!((written, refused), (12, 1));
 }
 
 /// A missing file, a folder, other words, and a full device.
@@ -356,6 +367,67 @@ fn failed_reads_and_writes_of_a_conversion() {
         assert!(!written.status.success());
         assert!(String::from_utf8_lossy(&written.stderr).starts_with("standard output: "));
     }
+}
+
+/// What the program `trim` makes of a file on a day.
+fn trimmed(day: u16, name: &Path) -> Output {
+    Command::new(trim_program()).arg(day.to_string()).arg(name).output().expect("it runs")
+}
+
+#[test]
+fn trims_from_c_and_rust() {
+    let (mut written, mut refused) = (0, 0);
+    for (example, day) in EXAMPLES.iter().flat_map(|example| [(example, 0), (example, 21_000)]) {
+        let name = path(&format!("examples/{example}.proof"));
+        let file = fs::read(&name).expect("a stored example");
+        let output = trimmed(day, &name);
+        match yestrwyn_second::trim(day, &file) {
+            Ok(right) => {
+                assert!(output.status.success() && output.stdout == right, "{example} on {day}");
+                assert_eq!(trim::trimmed(day, &file).expect("a trimmed file"), right, "{example} on {day}");
+                written += 1;
+            }
+            Err(refusal) => {
+                assert!(!output.status.success() && output.stdout.is_empty(), "{example} on {day}");
+                assert_eq!(
+                    String::from_utf8_lossy(&output.stderr),
+                    format!("{refusal}\n"),
+                    "{example} on {day}"
+                );
+                let error = trim::trimmed(day, &file).expect_err("a refusal");
+                assert_eq!(error.to_string(), refusal.to_string(), "{example} on {day}");
+                refused += 1;
+            }
+        }
+    }
+    // Five are accepted on every day, and three on the day of the trip.
+    assert_eq!((written, refused), (13, 13));
+    // The stored example is what the program writes.
+    let stored = fs::read(path("examples/archive.proof")).expect("a stored example");
+    assert!(trimmed(21_000, &path("examples/declined.proof")).stdout == stored);
+}
+
+/// A missing file, a folder, other words, and a full device.
+#[test]
+fn failed_reads_and_writes_of_a_trim() {
+    for name in ["examples/missing.proof", "examples"] {
+        let output = trimmed(0, &path(name));
+        assert!(!output.status.success() && output.stdout.is_empty() && !output.stderr.is_empty(), "{name}");
+    }
+    let good = path("examples/curfew.proof");
+    for words in ["", "0", "F", "x F", "-1 F", "65536 F", "0 F F"] {
+        let words: Vec<String> =
+            words.split_whitespace().map(|word| word.replace('F', &good.to_string_lossy())).collect();
+        let output = Command::new(trim_program()).args(&words).output().expect("it runs");
+        assert!(!output.status.success() && output.stdout.is_empty(), "{words:?}");
+        assert!(String::from_utf8_lossy(&output.stderr).starts_with("usage: "), "{words:?}");
+    }
+    let full = fs::File::options().write(true).open("/dev/full").expect("a full device");
+    let mut program = Command::new(trim_program());
+    program.arg(DAY).arg(good).stdout(Stdio::from(full)).stderr(Stdio::piped());
+    let written = program.spawn().and_then(|child| child.wait_with_output()).expect("it runs");
+    assert!(!written.status.success());
+    assert!(String::from_utf8_lossy(&written.stderr).starts_with("standard output: "));
 }
 
 /// The calls of the examples' page, as the programs read them: the curfew is lifted and restored, and so is the request; then calls
@@ -530,6 +602,8 @@ fn the_guide_quotes_the_programs() {
         ("rust", "yestrwyn/examples/merge.rs"),
         ("c", "comparison/snippets/convert.c"),
         ("rust", "yestrwyn/examples/convert.rs"),
+        ("c", "comparison/snippets/trim.c"),
+        ("rust", "yestrwyn/examples/trim.rs"),
         ("c", "comparison/snippets/board.c"),
         ("rust", "yestrwyn/examples/board.rs"),
     ];

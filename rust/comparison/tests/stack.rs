@@ -8,10 +8,12 @@ use yestrwyn::{
     canonical_readout, canonical_readout_piece, write_canonical_readout, write_canonical_readout_here,
 };
 use yestrwyn::{check, check_into, covers, covers_into, merge, merge_into, readout, readout_piece};
-use yestrwyn::{check_form, check_form_into, to_new, to_new_into, to_old, to_old_into, Form};
+use yestrwyn::{
+    check_form, check_form_into, to_new, to_new_into, to_old, to_old_into, trim, trim_into, Form,
+};
 use yestrwyn::{write_readout, write_readout_here, Board, Cells, Rest, Tables, Workspace, ENOUGH};
 use yestrwyn_second::board::Afresh;
-use yestrwyn_vectors::examples::deep;
+use yestrwyn_vectors::examples::{deep, trims, Example};
 use yestrwyn_vectors::widened;
 
 /// Runs something on a thread of 128 KiB. A test's own thread has 2 MiB, and the check alone takes more
@@ -82,6 +84,20 @@ fn both_forms_of_the_deepest_files_on_a_small_thread() {
             assert_eq!(length, there.as_ref().ok().map(Vec::len));
             let length = to_old_into(new, &mut cells.lend(), &mut output).expect("an answer").length();
             assert_eq!(length, back.as_ref().ok().map(Vec::len));
+        });
+    }
+}
+
+/// The same of the trim, also of files that are accepted.
+#[test]
+fn trims_of_the_deepest_files_on_a_small_thread() {
+    for Example { name, day, file } in deep::examples().into_iter().chain(trims::examples()) {
+        let (mut cells, right) = (Cells::new(), yestrwyn_second::trim(day, &file));
+        on_a_small_thread(|| {
+            assert_eq!(trim(day, &file).expect("an answer"), right, "{name}");
+            let mut output = vec![0; FILE_BYTES];
+            let length = trim_into(day, &file, &mut cells.lend(), &mut output).expect("an answer").length();
+            assert_eq!(length, right.as_ref().ok().map(Vec::len), "{name}");
         });
     }
 }

@@ -1,10 +1,12 @@
 //! What the check promises of derived and empty clauses, against the textbook: resolvents and
 //! factors under a most general unifier, refusals only without one, and instances without a model.
 
+mod instances;
 mod reference;
 mod textbook;
 
-use reference::{Clause as Shared, Expr, From, Reference, Row};
+use instances::{instances, value};
+use reference::{From, Reference};
 use textbook::{canonical, factor, resolvent, size, unsatisfiable, Clause, Term};
 use yestrwyn_vectors::examples::{cases, days, published};
 use yestrwyn_vectors::outcome::outcome_on;
@@ -13,20 +15,6 @@ use yestrwyn_vectors::{clashing_file, clashing_several_file, dated_file, random_
 
 /// Terms larger than this are not written out.
 const LARGEST: usize = 3000;
-
-/// The value of an expression in a clause, written out; a variable is 4,097 × row + index.
-fn value(state: &Reference, clause: &Shared, at: Expr, room: &mut usize) -> Option<Term> {
-    *room = room.checked_sub(1)?;
-    let (row, index) = state.follow(clause, at);
-    match &state.taken(row) {
-        Row::Variable(_) => Some(Term::Variable(usize::from(row) * 4097 + usize::from(index))),
-        Row::Application(symbol, arguments) => {
-            let inner: Option<Vec<Term>> =
-                arguments.iter().map(|&argument| value(state, clause, (argument, index), room)).collect();
-            Some(Term::Apply(*symbol, inner?))
-        }
-    }
-}
 
 /// The literals of a clause by shared structure, written out.
 fn shared(state: &Reference, clause: usize) -> Option<Clause> {
@@ -87,16 +75,7 @@ fn instances_have_no_model(day: u16, name: &str, state: &Reference, maximum: u16
     let uses = state.uses(empty);
     assert_eq!(uses.len(), usize::from(maximum), "uses of {name}");
     assert!(uses.iter().all(|&used| state.in_force(used, day)), "uses of {name} on day {day}");
-    let mut room = 20 * LARGEST;
-    let mut instances = Vec::new();
-    for (&used, k) in uses.iter().zip(1u16..) {
-        let mut instance = Vec::new();
-        for (sign, (row, _)) in state.literals(used) {
-            let Some(atom) = value(state, &state.clauses[empty], (row, k), &mut room) else { return false };
-            instance.push((sign, textbook::replace(&atom, &|_| Term::Constant)));
-        }
-        instances.push(instance);
-    }
+    let Some(instances) = instances(state, empty, 20 * LARGEST) else { return false };
     assert!(unsatisfiable(&instances), "instances of {name}");
     true
 }

@@ -1,5 +1,5 @@
 //! What a check of a proof file answers, the tables that it fills, the answers to whether one clause covers another, to a
-//! merge of two files, to a conversion and of a board, the two forms of a file, and the numbers of the format.
+//! merge of two files, to a conversion, to a trim and of a board, the two forms of a file, and the numbers of the format.
 //!
 //! The package `yestrwyn` (the proved check) gives all of these on, and `yestrwyn-builder` the limits, records and reasons;
 //! there is no need to name this package beside them.
@@ -19,6 +19,7 @@ mod inputs;
 mod merge;
 mod reason;
 mod tables;
+mod trim;
 
 pub use answer::{Answer, Verdict, ANSWER_CELLS};
 pub use board::{BoardAnswer, BoardRefusal, ClauseState, BOARD_ANSWER_CELLS};
@@ -29,3 +30,4 @@ pub use inputs::{input_clauses, input_clauses_form, InputClause};
 pub use merge::{MergeRefusal, Merged, MERGED_CELLS};
 pub use reason::Reason;
 pub use tables::{Cells, Tables, LENGTHS};
+pub use trim::{TrimRefusal, Trimmed, TRIMMED_CELLS};

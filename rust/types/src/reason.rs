@@ -1,9 +1,9 @@
-//! Why a file, a question about it, a merge of two files, a conversion or a call of a board is refused.
+//! Why a file, a question about it, a merge of two files, a conversion, a trim or a call of a board is refused.
 
 use std::error::Error;
 use std::fmt;
 
-/// Why a file, a question about it, a merge of two files, a conversion or a call of a board is refused. The format may get further
+/// Why a file, a question about it, a merge of two files, a conversion, a trim or a call of a board is refused. The format may get further
 /// numbers, so a match needs a last arm; treat what it catches as a refusal too.
 #[non_exhaustive]
 #[derive(Clone, Copy, PartialEq, Eq, Hash, Debug)]
@@ -59,12 +59,15 @@ pub enum Reason {
     /// A file is to be converted to the other form and would have too many records there: over 3,276 in the new form, over 4,096
     /// in the old. No check gives this, only a conversion.
     ConvertedLength,
+    /// A file is to be trimmed to what its accepted clause uses, and stands, but is not accepted on that day. No check gives this, only
+    /// a trim.
+    NotAccepted,
     /// A number that this version does not know: a refusal all the same.
     Other(u16),
 }
 
 /// The reasons that have a name, from number 1 on.
-const NAMED: [Reason; 22] = [
+const NAMED: [Reason; 23] = [
     Reason::Length,
     Reason::Table,
     Reason::Kind,
@@ -87,6 +90,7 @@ const NAMED: [Reason; 22] = [
     Reason::NotAnInput,
     Reason::Already,
     Reason::ConvertedLength,
+    Reason::NotAccepted,
 ];
 
 impl Reason {
@@ -115,6 +119,7 @@ impl Reason {
             Reason::NotAnInput => 20,
             Reason::Already => 21,
             Reason::ConvertedLength => 22,
+            Reason::NotAccepted => 23,
             Reason::Other(number) => number,
         }
     }
@@ -158,6 +163,7 @@ impl fmt::Display for Reason {
             Reason::NotAnInput => "there is no input clause of that number",
             Reason::Already => "the clause is in that condition already",
             Reason::ConvertedLength => "the converted file would have too many records for its form",
+            Reason::NotAccepted => "the file stands but is not accepted on that day",
             Reason::Other(number) => return write!(out, "reason {number}"),
         })
     }

@@ -4,7 +4,7 @@ use std::error::Error;
 
 use yestrwyn_types::{
     Answer, BoardAnswer, BoardRefusal, Cells, ClauseState, ConversionRefusal, Converted, Covering,
-    MergeRefusal, Merged, Outcome, Reason, Tables, Verdict, LENGTHS,
+    MergeRefusal, Merged, Outcome, Reason, Tables, TrimRefusal, Trimmed, Verdict, LENGTHS,
 };
 
 #[test]
@@ -12,7 +12,7 @@ fn reasons_are_their_numbers() {
     for number in 0..100 {
         let reason = Reason::from_number(number);
         assert_eq!(reason.number(), number);
-        assert_eq!(matches!(reason, Reason::Other(_)), !(1..=22).contains(&number), "{reason:?}");
+        assert_eq!(matches!(reason, Reason::Other(_)), !(1..=23).contains(&number), "{reason:?}");
     }
     assert_eq!(Reason::Clash.to_string(), "two different symbols meet");
     assert_eq!(Reason::Order.to_string(), "the right literals of the step do not strictly rise");
@@ -29,7 +29,9 @@ fn reasons_are_their_numbers() {
     assert_eq!(Reason::ConvertedLength.number(), 22);
     let too_many = "the converted file would have too many records for its form";
     assert_eq!(Reason::ConvertedLength.to_string(), too_many);
-    assert_eq!(Reason::Other(23).to_string(), "reason 23");
+    assert_eq!(Reason::NotAccepted.number(), 23);
+    assert_eq!(Reason::NotAccepted.to_string(), "the file stands but is not accepted on that day");
+    assert_eq!(Reason::Other(24).to_string(), "reason 24");
 }
 
 #[test]
@@ -102,6 +104,32 @@ fn conversions_are_their_numbers() {
     assert_eq!(Converted::from_numbers([1, 65_536 + 22, 65_537, 65_536]), Converted::Refused(odd));
     assert_eq!([own, many].map(|refusal| refusal.to_string()), ["refused 16 at 3275", "refused 22"]);
     assert_eq!(many.source().map(ToString::to_string), Some(Reason::ConvertedLength.to_string()));
+}
+
+#[test]
+fn trims_are_their_numbers() {
+    let own = TrimRefusal::of_the_file(Reason::Clash, 4095);
+    let [open, short] = [TrimRefusal::not_accepted(), TrimRefusal::of_the_output()];
+    let trims = [
+        (Trimmed::Written { length: 65_536 }, [0, 65_536, 0, 0]),
+        (Trimmed::Written { length: 16 }, [0, 16, 0, 0]),
+        (Trimmed::Refused(own), [2, 10, 1, 4095]),
+        (Trimmed::Refused(open), [2, 23, 1, 0]),
+        (Trimmed::Refused(short), [2, 2, 0, 0]),
+    ];
+    for (trimmed, numbers) in trims {
+        assert_eq!((trimmed.numbers(), Trimmed::from_numbers(numbers)), (numbers, trimmed));
+    }
+    assert_eq!(
+        [Trimmed::Written { length: 48 }, Trimmed::Refused(own)].map(Trimmed::length),
+        [Some(48), None]
+    );
+    // Nothing that is not said to be written is taken for it, and no number is cut to another.
+    let odd = TrimRefusal { reason: Reason::Other(65_535), file: 65_535, record: 65_535 };
+    assert_eq!(Trimmed::from_numbers([1, 65_536 + 23, 65_537, 65_536]), Trimmed::Refused(odd));
+    let texts = [own, open, short].map(|refusal| refusal.to_string());
+    assert_eq!(texts, ["refused 10 at 4095", "refused 23 at 0", "refused 2"]);
+    assert_eq!(open.source().map(ToString::to_string), Some(Reason::NotAccepted.to_string()));
 }
 
 #[test]

@@ -75,18 +75,18 @@ fn the_vectors_are_small() {
 
 #[test]
 fn every_reason_that_a_file_can_give_has_vectors() {
-    // Reason 2 depends on the caller's tables, not on the file; 6 is never given, and 15 and 17 to 22 by no check.
+    // Reason 2 depends on the caller's tables, not on the file; 6 is never given, and 15 and 17 to 23 by no check.
     let text: String = groups().iter().map(expected).collect();
     let answers: Vec<Vec<&str>> = text
         .lines()
         .filter(|line| line.starts_with("answer"))
         .map(|line| line.split(' ').collect())
         .collect();
-    for reason in 1..=22 {
+    for reason in 1..=23 {
         let number = reason.to_string();
         let count = answers.iter().filter(|answer| answer[1] == "2" && answer[2] == number).count();
         let right =
-            if [2, 6, 15, 17, 18, 19, 20, 21, 22].contains(&reason) { count == 0 } else { count >= 3 };
+            if [2, 6, 15, 17, 18, 19, 20, 21, 22, 23].contains(&reason) { count == 0 } else { count >= 3 };
         assert!(right, "{count} vectors are refused with {reason}");
     }
     assert!(answers.iter().filter(|answer| answer[1] == "1").count() > 200);

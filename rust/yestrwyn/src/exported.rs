@@ -10,6 +10,7 @@ mod form;
 mod merge;
 mod readout;
 mod services;
+mod trim;
 
 pub use board::{board_open_numbers, board_return_numbers, board_withdraw_numbers};
 pub use check::check_numbers;
@@ -19,3 +20,4 @@ pub use form::check_form_numbers;
 pub use merge::merge_numbers;
 pub use readout::{canonical_readout_numbers, readout_numbers, ReadoutNumbers, PROGRESS_CELLS};
 pub use services::{check_numbers_with, Arrays, Nodes, Origins, Values};
+pub use trim::trim_numbers;

@@ -1,5 +1,6 @@
 //! The proved check and readouts of resolution proof files, which of their clauses covers which, two files merged into one, files
-//! converted between their two forms, and boards, on which input clauses are withdrawn and returned.
+//! converted between their two forms, files trimmed to what their accepted clause uses, and boards, on which input clauses are
+//! withdrawn and returned.
 //!
 //! ```no_run
 //! let file = std::fs::read("trip.proof")?;
@@ -23,7 +24,9 @@
 //! A file has one of two forms ([`Form`]): in the new one the days of a rule stand beside it. [`check_form()`] checks a file of
 //! either, [`to_new()`] and [`to_old()`] convert one, and everything else takes the old form.
 //!
-//! [`check()`], the readouts, [`covers()`], [`merge()`] and the conversions take care of the stack themselves. Functions that end in
+//! [`trim()`] writes of a file that is accepted on a day what the accepted clause uses: what an archive keeps of a declined quote.
+//!
+//! [`check()`], the readouts, [`covers()`], [`merge()`], the conversions and [`trim()`] take care of the stack themselves. Functions that end in
 //! `_here` run on the caller's, and say how much of it they need. A service that checks many files keeps a
 //! [`Workspace`]; one that follows which rules are lifted and restored keeps a [`Board`].
 
@@ -39,6 +42,7 @@ mod form;
 mod merge;
 mod readout;
 mod stack;
+mod trim;
 mod workspace;
 
 pub use board::Board;
@@ -55,12 +59,13 @@ pub use readout::{
     readout, readout_piece, readout_piece_here, write_readout, write_readout_here, Piece, Rest, ENOUGH,
 };
 pub use stack::{with_stack, STACK};
+pub use trim::{trim, trim_here, trim_into};
 pub use workspace::Workspace;
 pub use yestrwyn_types::{input_clauses, input_clauses_form, limits, record};
 pub use yestrwyn_types::{
     Answer, BoardAnswer, BoardRefusal, Cells, ClauseState, ConversionRefusal, Converted, Covering, Dated,
-    Form, InputClause, MergeRefusal, Merged, Outcome, Reason, Tables, Verdict,
+    Form, InputClause, MergeRefusal, Merged, Outcome, Reason, Tables, TrimRefusal, Trimmed, Verdict,
 };
 pub use yestrwyn_types::{
-    ANSWER_CELLS, BOARD_ANSWER_CELLS, CONVERTED_CELLS, COVERING_CELLS, LENGTHS, MERGED_CELLS,
+    ANSWER_CELLS, BOARD_ANSWER_CELLS, CONVERTED_CELLS, COVERING_CELLS, LENGTHS, MERGED_CELLS, TRIMMED_CELLS,
 };

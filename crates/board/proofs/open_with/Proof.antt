@@ -7,7 +7,7 @@ use Rattle.board.proofs.open_with.Tie as tie
 use Rattle.board.proofs.open_with.Reads as reads
 use Rattle.board.proofs.open_with.Lts as lts
 use Rattle.answer.proofs.stands.Reads as stands-reads
-use Rattle.board.proofs.opening_answer.Reads as opening-answer-reads
+use Rattle.board_verdict.proofs.opening_answer.Reads as opening-answer-reads
 use Rattle.board_opening.proofs.open_cells.Reads as open-cells-reads
 use Rattle.checker.proofs.check_with.Reads as check-with-reads
 

@@ -5,7 +5,7 @@ use Rattle.board_c.proofs.open_to_cells.Tie as tie
 use Rattle.board_c.proofs.open_to_cells.Reads as reads
 use Rattle.board_c.proofs.open_to_cells.Lts as lts
 use Rattle.board.proofs.open_board.Reads as open-board-reads
-use Rattle.board_c.proofs.answers.put_board.Reads as put-board-reads
+use Rattle.board_answers.proofs.put_board.Reads as put-board-reads
 
 returns : tie.Need-returns
 returns c =

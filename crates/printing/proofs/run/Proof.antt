@@ -7,8 +7,8 @@ use Rattle.printing.proofs.run.Tie as tie
 use Rattle.printing.proofs.run.Reads as reads
 use Rattle.printing.proofs.run.Lts as lts
 use Rattle.printing.proofs.input.read_input.Reads as read-input-reads
-use Rattle.printing.proofs.print_readout.Reads as print-readout-reads
-use Rattle.printing.proofs.report.unread.Reads as unread-reads
+use Rattle.readout_printing.proofs.print_readout.Reads as print-readout-reads
+use Rattle.line_printing.proofs.report.unread.Reads as unread-reads
 
 slice-aggregate-read-input : tie.Need-slice-aggregate-read-input
 slice-aggregate-read-input c = search needs

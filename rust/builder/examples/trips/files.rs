@@ -2,10 +2,11 @@
 
 use std::error::Error;
 
-use super::{covers, curfew, declined, duty, permit, rulebook, season, sheets, trip, two_steps};
+use super::{archive, covers, curfew, declined, duty, permit, rulebook, season, sheets, trip, two_steps};
 
 /// Files whose readout is stored for another day too, beside that of day 0.
-pub const OTHER_DAYS: [(&str, u16); 2] = [("season", 21_000), ("declined", 21_000)];
+pub const OTHER_DAYS: [(&str, u16); 3] =
+    [("season", 21_000), ("declined", 21_000), ("archive", archive::DAY)];
 
 /// A file with its name.
 pub type Named = (&'static str, Vec<u8>);
@@ -22,6 +23,7 @@ pub fn files() -> Result<Vec<Named>, Box<dyn Error>> {
         ("trip", trip::file()?),
         ("merged", declined::merged()?),
         ("declined", declined::file()?),
+        ("archive", archive::file()?),
         ("covers", covers::file()?),
         ("refused", duty::refused_file()?),
         ("two_steps", two_steps::file()?),

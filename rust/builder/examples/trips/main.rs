@@ -9,6 +9,7 @@ use std::error::Error;
 use std::fs;
 use std::path::Path;
 
+mod archive;
 mod covers;
 mod curfew;
 mod declined;

@@ -1,5 +1,5 @@
 //! Compares the proved check, plain, for services and of either form, the two proved readouts, which clause covers which, the proved
-//! merge, conversions and boards with the second implementation on files from a seed on, each on a day of its own:
+//! merge, conversions, trims and boards with the second implementation on files from a seed on, each on a day of its own:
 //!
 //! ```text
 //! differential SEED COUNT
@@ -7,7 +7,7 @@
 //!
 //! All files are checked for services with one workspace. Of each readout it takes two pieces: the first with
 //! room for every line, and one from any clause with any room. Of the clauses of each file it compares two pairs. With each
-//! file goes a pair of files that it merges, a file of either form that it checks and converts, a board with a sequence of calls, and
+//! file goes a pair of files that it merges, a file of either form that it checks and converts, a file that it trims, a board with a sequence of calls, and
 //! a call on any contents of a board. Prints one line; at the first difference it prints the file, or what differs, in hexadecimal and ends with 1.
 
 use std::process::ExitCode;
@@ -20,16 +20,18 @@ use yestrwyn_comparison::forms::{form_of, Forms};
 use yestrwyn_comparison::merges::{pair_of, Merges};
 use yestrwyn_comparison::outputs::OutputLengths;
 use yestrwyn_comparison::pieces::{Second, READOUTS};
+use yestrwyn_comparison::trims::{trim_of, Trims};
 use yestrwyn_comparison::Difference;
 use yestrwyn_vectors::examples::boards::Script;
 use yestrwyn_vectors::examples::forms::Formed;
+use yestrwyn_vectors::examples::Example;
 use yestrwyn_vectors::random::SplitMix64;
 
 /// Pairs of clauses that are compared of each file.
 const PAIRS: usize = 2;
 
 /// How many files gave each kind of answer, and how many had no room for one; and the same of the pairs of clauses, of the merges, of
-/// the files of either form and of their conversions.
+/// the files of either form, of their conversions and of the trims.
 #[derive(Default)]
 struct Tally {
     kinds: [u64; 3],
@@ -42,6 +44,8 @@ struct Tally {
     forms_untouched: u64,
     conversions: [u64; 3],
     conversions_untouched: u64,
+    trims: [u64; 3],
+    trims_untouched: u64,
     bytes: u64,
 }
 
@@ -69,6 +73,7 @@ fn run(seed: u64, count: u64) -> ExitCode {
             return ExitCode::FAILURE;
         }
         let others = both.merge(own, &mut tally).and_then(|()| both.form(own, &mut tally));
+        let others = others.and_then(|()| both.trim(own, &mut tally));
         if let Err(difference) = others.and_then(|()| both.board(own)) {
             println!("seed {own}: {difference}");
             return ExitCode::FAILURE;
@@ -78,6 +83,7 @@ fn run(seed: u64, count: u64) -> ExitCode {
     let Tally { coverings: [no, yes, nothing], coverings_untouched, .. } = tally;
     let Tally { merges: [written, _, not_written], merges_untouched, .. } = tally;
     let Tally { forms, forms_untouched, conversions: [converted, _, not_converted], .. } = tally;
+    let Tally { trims: [trimmed, _, not_trimmed], trims_untouched, .. } = tally;
     let boards = both.boards.met;
     println!(
         "{count} files, {bytes} bytes, no difference: {open} open, {accepted} accepted, {refused} refused, \
@@ -85,6 +91,7 @@ fn run(seed: u64, count: u64) -> ExitCode {
          {coverings_untouched} with too short an answer; merges: {written} written, {not_written} refused, \
          {merges_untouched} with too short an answer; of either form: {} open, {} accepted, {} refused, {forms_untouched} with \
          too short an answer; conversions: {converted} written, {not_converted} refused, {} with too short an answer; \
+         trims: {trimmed} written, {not_trimmed} refused, {trims_untouched} with too short an answer; \
          openings and calls of boards: {} with a clause, {} with none, \
          {} refused, {} with too short an answer",
         forms[0],
@@ -106,6 +113,7 @@ struct Both {
     coverings: Coverings,
     merges: Merges,
     forms: Forms,
+    trims: Trims,
     boards: Boards,
 }
 
@@ -151,6 +159,16 @@ impl Both {
         count(kind, &mut tally.forms, &mut tally.forms_untouched);
         let kind = self.forms.convert(file.form, &file.file, outputs, own as u16).map_err(said)?;
         count(kind, &mut tally.conversions, &mut tally.conversions_untouched);
+        Ok(())
+    }
+
+    /// Counts the answer for a file that is trimmed if it does not differ; otherwise says where, with the file.
+    fn trim(&mut self, own: u64, tally: &mut Tally) -> Result<(), String> {
+        let (Example { day, file, .. }, lengths) = (trim_of(own), OutputLengths::of(own.rotate_left(1)));
+        let kind = self.trims.compare((day, &file), lengths, own as u16);
+        let kind =
+            kind.map_err(|difference| format!("{difference}; {lengths:?}; day {day}; file {}", hex(&file)))?;
+        count(kind, &mut tally.trims, &mut tally.trims_untouched);
         Ok(())
     }
 

@@ -1,9 +1,9 @@
-//! The proved check, plain and for services, which clause covers which, the proved merge, conversions and calls of boards, beside the
+//! The proved check, plain and for services, which clause covers which, the proved merge, conversions, trims and calls of boards, beside the
 //! second implementation on the same files in one run: tables in Markdown with the times and their ratio. Arguments name tables;
 //! without any, all are made:
 //!
 //! ```text
-//! performance [check] [services] [calls] [covers] [merge] [convert] [board]
+//! performance [check] [services] [calls] [covers] [merge] [convert] [trim] [board]
 //! ```
 
 use std::env;
@@ -14,7 +14,7 @@ use std::time::{Duration, Instant};
 
 use yestrwyn::{Board, BoardRefusal, Workspace};
 use yestrwyn_comparison::clock::own_time;
-use yestrwyn_comparison::files::{called, converted, measured, merged, ordinary, Called};
+use yestrwyn_comparison::files::{called, converted, measured, merged, ordinary, trimmed, Called};
 use yestrwyn_comparison::questions::{questions, Question};
 use yestrwyn_comparison::rounds::Rounds;
 use yestrwyn_types::limits::{FILE_BYTES, RECORD_BYTES};
@@ -34,13 +34,14 @@ const LONG_ENOUGH: Duration = Duration::from_millis(5);
 type Table = fn() -> io::Result<()>;
 
 /// The tables by name.
-const TABLES: [(&str, Table); 7] = [
+const TABLES: [(&str, Table); 8] = [
     ("check", check_table),
     ("services", services_table),
     ("calls", calls_table),
     ("covers", covers_table),
     ("merge", merge_table),
     ("convert", convert_table),
+    ("trim", trim_table),
     ("board", board_table),
 ];
 
@@ -48,7 +49,7 @@ fn main() -> io::Result<()> {
     let asked: Vec<String> = env::args().skip(1).collect();
     if asked.iter().any(|name| TABLES.iter().all(|(table, _)| table != name)) {
         return Err(io::Error::other(
-            "the tables are check, services, calls, covers, merge, convert and board",
+            "the tables are check, services, calls, covers, merge, convert, trim and board",
         ));
     }
     let tables =
@@ -113,6 +114,15 @@ fn convert_table() -> io::Result<()> {
     );
     println!("|---|---|---|---|---|---|---|---|");
     yestrwyn::with_stack(|| converted().iter().for_each(convert_line))
+}
+
+/// Files trimmed: bytes before and after, the whole call, and the middle of what it takes more than a check of the file.
+fn trim_table() -> io::Result<()> {
+    println!(
+        "| file that is trimmed | bytes | trimmed | proved | second | ratio | over ten rounds | proved, less the check | second, less the check | ratio |"
+    );
+    println!("|---|---|---|---|---|---|---|---|---|---|");
+    yestrwyn::with_stack(|| trimmed().iter().for_each(trim_line))
 }
 
 /// Calls of boards: the check of the file anew, for services, beside a call; and a call by the second implementation.
@@ -225,6 +235,21 @@ fn convert_line(Formed { name, form, file, .. }: &Formed) {
         || and_less_the_checks(&[file], &mut other, second),
     );
     println!("| {name} | {whole} | {} |", less.middles());
+}
+
+/// A line of the table of trims, both with tables and an output that are lent to them again and again.
+fn trim_line(Example { name, day, file }: &Example) {
+    let mut outputs = [(); 2].map(|()| vec![0; FILE_BYTES]);
+    let length = yestrwyn_second::trim(*day, file).map(|trimmed| trimmed.len().to_string());
+    let [ours, theirs] = &mut outputs;
+    let mut proved = |cells: &mut Cells| yestrwyn::trim_here(*day, file, &mut cells.lend(), ours);
+    let mut other = |cells: &mut Cells| yestrwyn_second::trim_into(*day, file, &mut cells.lend(), theirs);
+    let [whole, less] = Rounds::take_parts(
+        || and_less_the_checks(&[file], &mut proved, plain),
+        || and_less_the_checks(&[file], &mut other, second),
+    );
+    let length = length.unwrap_or_else(|_| "none".to_string());
+    println!("| {name} | {} | {length} | {whole} | {} |", file.len(), less.middles());
 }
 
 /// The lines of the last table for a file: each call is a withdrawal or a return, half of them either.

@@ -4,7 +4,7 @@ use std::io::Write;
 use std::{fs, io};
 
 use yestrwyn_vectors::stored::{expected, groups, listing, listing_path, pack_path, results_path};
-use yestrwyn_vectors::{boards, canonical, examples, forms, merges};
+use yestrwyn_vectors::{boards, canonical, examples, forms, merges, trims};
 
 fn main() -> io::Result<()> {
     let mut out = io::stdout().lock();
@@ -28,6 +28,7 @@ fn main() -> io::Result<()> {
     total += write_boards(&mut out)?;
     total += write_canonical(&mut out)?;
     total += write_forms(&mut out)?;
+    total += write_trims(&mut out)?;
     let text = listing(&groups);
     writeln!(out, "printed by cases: {} bytes", text.len())?;
     total += text.len();
@@ -69,5 +70,14 @@ fn write_forms(out: &mut impl Write) -> io::Result<usize> {
     let text = forms::expected(&files);
     writeln!(out, "{}: {} files, {} bytes", forms::GROUP, files.len(), text.len())?;
     fs::write(results_path(forms::GROUP), &text)?;
+    Ok(text.len())
+}
+
+/// The files that are trimmed, and how many bytes they are.
+fn write_trims(out: &mut impl Write) -> io::Result<usize> {
+    let files = trims::files();
+    let text = trims::expected(&files);
+    writeln!(out, "{}: {} files, {} bytes", trims::GROUP, files.len(), text.len())?;
+    fs::write(results_path(trims::GROUP), &text)?;
     Ok(text.len())
 }

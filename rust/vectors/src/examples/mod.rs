@@ -19,6 +19,7 @@ pub mod repeats;
 pub mod resolution_rules;
 pub mod several;
 pub mod structure_sharing;
+pub mod trims;
 
 /// A file, its name, and the day that it is checked on.
 #[derive(Clone, Debug)]

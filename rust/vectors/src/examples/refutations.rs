@@ -1,4 +1,4 @@
-//! Small files that refute their clauses, for the vectors with days and for those of boards.
+//! Small files that refute their clauses, for the vectors with days, for those of boards and for those of trims.
 
 use crate::sketch::{app, neg, pos, var, Sketch};
 

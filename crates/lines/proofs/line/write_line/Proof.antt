@@ -1,6 +1,6 @@
 use mathlib.Core.Path.{_∙_}
 use native.Mathlib.Omega.{arith}
-use Rattle.lines.proofs.LineTexts.{line-clear, line-load, line-literals, line-written}
+use Rattle.line_texts.proofs.LineTexts.{line-clear, line-load, line-literals, line-written}
 use borrow.Author.Needs.{needs}
 use Rattle.lines.proofs.line.write_line.Statement.{statement}
 use Rattle.lines.proofs.line.write_line.Tie as tie

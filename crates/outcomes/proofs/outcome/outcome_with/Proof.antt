@@ -9,7 +9,7 @@ use Rattle.outcomes.proofs.outcome.outcome_with.Reads as reads
 use Rattle.outcomes.proofs.outcome.outcome_with.Lts as lts
 use Rattle.checker.proofs.check_with.Reads as check-with-reads
 use Rattle.hash.proofs.hash_of.Reads as hash-of-reads
-use Rattle.outcomes.proofs.digest.digest_of.Reads as digest-of-reads
+use Rattle.digests.proofs.digest_of.Reads as digest-of-reads
 
 check-with-requires : tie.Need-check-with-requires
 check-with-requires c κs = search needs

@@ -1,0 +1,28 @@
+// A piece of the second readout with its progress in cells, as C has it. `ExportedCanonical` in specs/ of the crate exported_readout says what it promises.
+use exported_readout::put_progress;
+use readout::canonical_piece;
+ghost use Rattle.record.specs.Record.{oldFile};
+ghost use Rattle.entry.specs.Progress.{tablesWith};
+ghost use Rattle.exported_readout.specs.ExportedReadout.{ExportedCanonical};
+
+// A piece of the second readout, whose variables are numbered in each line by their first printed appearance. Where `progress` has fewer than three cells,
+// nothing is touched.
+pub fn canonical_to_cells(
+    day: u16,
+    file: &[u8],
+    symbols: &mut [u16],
+    rows: &mut [u16],
+    clauses: &mut [u16],
+    bindings: &mut [u16],
+    clause: u16,
+    output: &mut [u8],
+    progress: &mut [u64],
+)
+    ensures { λ _. ⌜ ExportedCanonical day (oldFile (now (file .entry))) (tablesWith (now (symbols .entry)) (now (rows .entry)) (now (clauses .entry)) (now (bindings .entry))) clause (now (output .entry)) (now (progress .entry)) (tablesWith (now (symbols .exit)) (now (rows .exit)) (now (clauses .exit)) (now (bindings .exit))) (now (output .exit)) (now (progress .exit)) ⌝ }
+{
+    if progress.len() < 3 {
+        return;
+    }
+    let p = canonical_piece(day, file, symbols, rows, clauses, bindings, clause, output);
+    put_progress(p, progress);
+}

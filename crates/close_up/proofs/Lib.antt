@@ -1,0 +1,2 @@
+pub mod ClosedFields
+pub mod SixteenPlaced

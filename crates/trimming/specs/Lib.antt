@@ -1,0 +1,6 @@
+pub mod Kept
+pub mod Trimming
+pub mod Cases
+pub mod Answer
+pub mod Used
+pub mod Promised
