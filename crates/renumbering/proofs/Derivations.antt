@@ -5,11 +5,12 @@ use mathlib.Core.List.{List, [], _∷_, _++_, map}
 use Prim.Native.Nat.{ℕ, zero, suc, _+_}
 use lib.ListN.{length, length-map}
 use Rattle.unification.specs.Row.{Expression}
-use Rattle.unification.proofs.Lists.{each-append, each-map, map-append, map-map}
+use Rattle.unification.proofs.Lists.{Each, each-append, each-map, map-append, map-map}
 use Rattle.derivation.specs.Derivation.{literals, input, Literal, RowLiteral, Derivation, resolve, factor, clauseNumber, numbered, without, numberedAll, withoutAll, raise, raiseLiteral, pairsWith, maximumIndex, ownBindings, uses, Use}
 use Rattle.derivation.proofs.Literals.{map-without, map-without-all, each-numbered, each-without, each-numbered-all, each-without-all}
-use Rattle.renumbering.specs.Inside.{All, InsideExpression, InsidePair, InsideBinding, InsideLiteral, InsideDerivation}
-use Rattle.renumbering.specs.Renumbering.{Renumbering, renumberedExpression, renumberedPair, renumberedBinding, renumberedRowLiteral, renumberedLiteral, renumberedDerivation}
+use Rattle.renumbering.proofs.Inside.{InsideExpression, InsidePair, InsideBinding, InsideLiteral, InsideDerivation}
+use Rattle.renumbering.specs.Renumbering.{Renumbering, renumberedRowLiteral}
+use Rattle.renumbering.proofs.Renumbered.{renumberedExpression, renumberedPair, renumberedBinding, renumberedLiteral, renumberedDerivation}
 
 -- The literals of numbers in a list that a function was applied to. What is left without them is in the crate derivation: `map-without`, `map-without-all`.
 module _ {A B : Type 0} (f : A → B) where
@@ -88,15 +89,15 @@ module _ (N : Renumbering) where
   pub pairs-renumbered : (m : ℕ) (e : Expression) (ds : List Expression) → pairsWith m (renumberedExpression N e) (map (renumberedExpression N) ds) ≡ map (renumberedPair N) (pairsWith m e ds)
   pairs-renumbered m e ds = map-map (λ (d : Expression). (renumberedExpression N e, raise m d)) (renumberedExpression N) ds ∙ sym (map-map (renumberedPair N) (λ (d : Expression). (e, raise m d)) ds)
 
--- What is inside. (`All` is `Each` of the crate unification, whose laws serve here.)
+-- What is inside. (`Each` is `Each` of the crate unification, whose laws serve here.)
 module _ (I : ℕ → Type 0) where
   abbrev pub AtomInside : Literal → Type 0
   AtomInside l = I (l .1 .0)
 
   abbrev pub UseInside : Use → Type 0
-  UseInside u = All (InsideLiteral I) (u .1)
+  UseInside u = Each (InsideLiteral I) (u .1)
 
-  pub literals-inside : (d : Derivation) → InsideDerivation I d → All AtomInside (literals d)
+  pub literals-inside : (d : Derivation) → InsideDerivation I d → Each AtomInside (literals d)
   literals-inside (input number ls) h = each-map (InsideLiteral I) AtomInside (λ (l : RowLiteral). (l .0, (l .1, 1))) (λ l k. k) ls h
   literals-inside (resolve number l a r ns bs) h =
       each-append AtomInside (without (literals l) a) (map (raiseLiteral (maximumIndex l)) (withoutAll (literals r) ns))
@@ -107,18 +108,18 @@ module _ (I : ℕ → Type 0) where
   pub literal-inside : (d : Derivation) → InsideDerivation I d → (n : ℕ) (l : Literal) → numbered (literals d) n ≡ some l → I (l .1 .0)
   literal-inside d h n l q = each-numbered AtomInside (literals d) n l q (literals-inside d h)
 
-  pub named-literals-inside : (d : Derivation) → InsideDerivation I d → (ns : List ℕ) (ls : List Literal) → numberedAll (literals d) ns ≡ some ls → All AtomInside ls
+  pub named-literals-inside : (d : Derivation) → InsideDerivation I d → (ns : List ℕ) (ls : List Literal) → numberedAll (literals d) ns ≡ some ls → Each AtomInside ls
   named-literals-inside d h ns ls q = each-numbered-all AtomInside (literals d) ns ls q (literals-inside d h)
 
-  pub pairs-inside : (m : ℕ) (e : Expression) (ds : List Expression) → I (e .0) → All (InsideExpression I) ds → All (InsidePair I) (pairsWith m e ds)
+  pub pairs-inside : (m : ℕ) (e : Expression) (ds : List Expression) → I (e .0) → Each (InsideExpression I) ds → Each (InsidePair I) (pairsWith m e ds)
   pairs-inside m e ds h k = each-map (InsideExpression I) (InsidePair I) (λ (d : Expression). (e, raise m d)) (λ d q. (h, q)) ds k
 
-  pub own-bindings-inside : (d : Derivation) → InsideDerivation I d → All (InsideBinding I) (ownBindings d)
+  pub own-bindings-inside : (d : Derivation) → InsideDerivation I d → Each (InsideBinding I) (ownBindings d)
   own-bindings-inside (input number ls) h = tt
   own-bindings-inside (resolve number l a r ns bs) h = h .2
   own-bindings-inside (factor number c a b bs) h = h .1
 
-  pub uses-inside : (d : Derivation) → InsideDerivation I d → All UseInside (uses d)
+  pub uses-inside : (d : Derivation) → InsideDerivation I d → Each UseInside (uses d)
   uses-inside (input number ls) h = (h, tt)
   uses-inside (resolve number l a r ns bs) h = each-append UseInside (uses l) (uses r) (uses-inside l (h .0)) (uses-inside r (h .1))
   uses-inside (factor number c a b bs) h = uses-inside c (h .0)

@@ -6,7 +6,8 @@ use lib.Dec.{eqb, eqb→eq, eqb-refl}
 use Rattle.unification.specs.Row.{Expression, same}
 use Rattle.unification.proofs.Outlines.{numbers-differ}
 use Rattle.unification.proofs.Tests.{to-T, from-T, true-not-false}
-use Rattle.renumbering.specs.Renumbering.{Renumbering, renumberedExpression}
+use Rattle.renumbering.specs.Renumbering.{Renumbering}
+use Rattle.renumbering.proofs.Renumbered.{renumberedExpression}
 
 pub numbers-renumbered : (f : ℕ → ℕ) (a b : ℕ) → (f a ≡ f b → a ≡ b) → eqb (f a) (f b) ≡ eqb a b
 numbers-renumbered f a b one = try (eqb a b) refl

@@ -8,8 +8,10 @@ use Rattle.record.specs.Record.{pick}
 use Rattle.unification.specs.Environment.{follow, Binding, Environment, extend, unbound, link, View, applied, viewVariable, viewRow, onward}
 use Rattle.unification.specs.Row.{variable, Row, application, Expression, Variable, same}
 use Rattle.unification.proofs.Tests.{some-injective}
-use Rattle.renumbering.specs.Inside.{All, Renumbers, InsideBinding, renumberedAnswer, RenumbersEnvironment}
-use Rattle.renumbering.specs.Renumbering.{Renumbering, renumberedRow, renumberedExpression, renumberedBinding}
+use Rattle.unification.proofs.Lists.{Each}
+use Rattle.renumbering.proofs.Inside.{Renumbers, InsideBinding, renumberedAnswer, RenumbersEnvironment}
+use Rattle.renumbering.specs.Renumbering.{Renumbering}
+use Rattle.renumbering.proofs.Renumbered.{renumberedRow, renumberedExpression, renumberedBinding}
 use Rattle.renumbering.proofs.EqualNumbers.{same-renumbered}
 
 abbrev pub renumberedView : Renumbering → View → View
@@ -20,13 +22,13 @@ renumberedView N (link e) = link (renumberedExpression N e)
 -- The view's expression is inside, and an application's argument rows and symbol are.
 abbrev pub InsideView : (ℕ → Type 0) → (ℕ → Type 0) → View → Type 0
 InsideView rowInside symbolInside (unbound v e) = rowInside (e .0)
-InsideView rowInside symbolInside (applied s xs e) = rowInside (e .0) × All rowInside xs × symbolInside s
+InsideView rowInside symbolInside (applied s xs e) = rowInside (e .0) × Each rowInside xs × symbolInside s
 InsideView rowInside symbolInside (link e) = rowInside (e .0)
 
 -- A row's argument rows and symbol are inside.
 abbrev pub InsideRow : (ℕ → Type 0) → (ℕ → Type 0) → Row → Type 0
 InsideRow rowInside symbolInside (variable v) = Unit {0}
-InsideRow rowInside symbolInside (application s xs) = All rowInside xs × symbolInside s
+InsideRow rowInside symbolInside (application s xs) = Each rowInside xs × symbolInside s
 
 pub row-inside : {N : Renumbering} {I P : ℕ → Type 0} {row row′ : ℕ → Row} → Renumbers N I P row row′ → (r : ℕ) → I r → InsideRow I P (row r)
 row-inside {I = I} {P = P} {row = row} R r i = try (row r) refl
@@ -80,7 +82,7 @@ module _ {N : Renumbering} {I P : ℕ → Type 0} {row row′ : ℕ → Row} (R 
 
 -- ── More bindings ──
 module _ {N : Renumbering} {I : ℕ → Type 0} (one : (r q : ℕ) → I r → I q → N .row r ≡ N .row q → r ≡ q) {ρ ρ′ : Environment} (E : RenumbersEnvironment N I ρ ρ′) where
-  extend-answers : (bs : List Binding) → All (InsideBinding I) bs → (x : Variable) → I (x .0) → extend ρ′ (map (renumberedBinding N) bs) (renumberedExpression N x) ≡ renumberedAnswer N (extend ρ bs x)
+  extend-answers : (bs : List Binding) → Each (InsideBinding I) bs → (x : Variable) → I (x .0) → extend ρ′ (map (renumberedBinding N) bs) (renumberedExpression N x) ≡ renumberedAnswer N (extend ρ bs x)
   extend-answers [] h x i = E .answers x i
   extend-answers (b ∷ bs) h x i =
       ap (λ (c : Bool). pick c (some (renumberedExpression N (b .1))) (extend ρ′ (map (renumberedBinding N) bs) (renumberedExpression N x))) (same-renumbered N x (b .0) (one (x .0) (b .0 .0) i (h .0 .0)))
@@ -91,7 +93,7 @@ module _ {N : Renumbering} {I : ℕ → Type 0} (one : (r q : ℕ) → I r → I
       try true ih = refl
       try false ih = ih
 
-  extend-stays : (bs : List Binding) → All (InsideBinding I) bs → (x : Variable) (e : Expression) → I (x .0) → extend ρ bs x ≡ some e → I (e .0)
+  extend-stays : (bs : List Binding) → Each (InsideBinding I) bs → (x : Variable) (e : Expression) → I (x .0) → extend ρ bs x ≡ some e → I (e .0)
   extend-stays [] h x e i q = E .stays x e i q
   extend-stays (b ∷ bs) h x e i q = try (same x (b .0)) (λ p. extend-stays bs (h .1) x e i p) q
     where
@@ -99,5 +101,5 @@ module _ {N : Renumbering} {I : ℕ → Type 0} (one : (r q : ℕ) → I r → I
       try true ih p = subst (λ (d : Expression). I (d .0)) (some-injective p) (h .0 .1)
       try false ih p = ih p
 
-  pub extend-renumbered : (bs : List Binding) → All (InsideBinding I) bs → RenumbersEnvironment N I (extend ρ bs) (extend ρ′ (map (renumberedBinding N) bs))
+  pub extend-renumbered : (bs : List Binding) → Each (InsideBinding I) bs → RenumbersEnvironment N I (extend ρ bs) (extend ρ′ (map (renumberedBinding N) bs))
   extend-renumbered bs h = record { answers = λ x i. extend-answers bs h x i; stays = λ x e i q. extend-stays bs h x e i q }

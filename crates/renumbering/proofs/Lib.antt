@@ -1,3 +1,5 @@
+pub mod Renumbered
+pub mod Inside
 pub mod EqualNumbers
 pub mod Following
 pub mod Machine

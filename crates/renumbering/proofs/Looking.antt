@@ -9,8 +9,9 @@ use Rattle.unification.specs.Environment.{Environment}
 use Rattle.unification.specs.Row.{Expression, Variable}
 use Rattle.unification.proofs.Tests.{some-not-none, some-injective}
 use Rattle.derivation.specs.Derivation.{input, Derivation, resolve, factor, maximumIndex, raiseAnswer, joined, lookup}
-use Rattle.renumbering.specs.Inside.{InsideDerivation, renumberedAnswer, RenumbersEnvironment}
-use Rattle.renumbering.specs.Renumbering.{Renumbering, renumberedExpression, renumberedDerivation}
+use Rattle.renumbering.proofs.Inside.{InsideDerivation, renumberedAnswer, RenumbersEnvironment}
+use Rattle.renumbering.specs.Renumbering.{Renumbering}
+use Rattle.renumbering.proofs.Renumbered.{renumberedExpression, renumberedDerivation}
 use Rattle.renumbering.proofs.Derivations.{maximum-index-renumbered}
 use Rattle.renumbering.proofs.Following.{extend-renumbered}
 

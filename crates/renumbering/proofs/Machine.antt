@@ -11,8 +11,10 @@ use Rattle.unification.specs.Environment.{follow, Binding, Environment, extend,
 use Rattle.unification.specs.Row.{Row, Expression, Variable, same}
 use Rattle.unification.specs.Unification.{turn, unify, mostWork, mostBindings, mostLinks, clash, occurs, full, Outcome, unified, failed, Pair, Task, unifying, testing, Turn, finished, goOn, stop, arguments, argumentPairs, meet, noRoom, testRest, testOne, withoutWork, withWork, run}
 use Rattle.unification.proofs.Tests.{to-T}
-use Rattle.renumbering.specs.Inside.{All, Renumbers, InsideExpression, InsidePair, InsideBinding, RenumbersEnvironment}
-use Rattle.renumbering.specs.Renumbering.{Renumbering, renumberedExpression, renumberedPair, renumberedBinding}
+use Rattle.unification.proofs.Lists.{Each}
+use Rattle.renumbering.proofs.Inside.{Renumbers, InsideExpression, InsidePair, InsideBinding, RenumbersEnvironment}
+use Rattle.renumbering.specs.Renumbering.{Renumbering}
+use Rattle.renumbering.proofs.Renumbered.{renumberedExpression, renumberedPair, renumberedBinding}
 use Rattle.renumbering.proofs.EqualNumbers.{numbers-renumbered, same-renumbered}
 use Rattle.renumbering.proofs.Following.{renumberedView, InsideView, follow-inside, follow-renumbered, extend-renumbered}
 
@@ -28,12 +30,12 @@ module _ (N : Renumbering) where
   arguments-renumbered (x ∷ xs) i os = ap (λ (ds : List Expression). (N .row x, i) ∷ ds) (arguments-renumbered xs i os)
 
 module _ (I : ℕ → Type 0) where
-  pairs-inside : (xs : List ℕ) (i : ℕ) (ys : List ℕ) (j : ℕ) (ps : List Pair) → All I xs → All I ys → All (InsidePair I) ps → All (InsidePair I) (argumentPairs xs i ys j ps)
+  pairs-inside : (xs : List ℕ) (i : ℕ) (ys : List ℕ) (j : ℕ) (ps : List Pair) → Each I xs → Each I ys → Each (InsidePair I) ps → Each (InsidePair I) (argumentPairs xs i ys j ps)
   pairs-inside [] i ys j ps h k l = l
   pairs-inside (x ∷ xs) i [] j ps h k l = l
   pairs-inside (x ∷ xs) i (y ∷ ys) j ps h k l = ((h .0, k .0), pairs-inside xs i ys j ps (h .1) (k .1) l)
 
-  arguments-inside : (xs : List ℕ) (i : ℕ) (os : List Expression) → All I xs → All (InsideExpression I) os → All (InsideExpression I) (arguments xs i os)
+  arguments-inside : (xs : List ℕ) (i : ℕ) (os : List Expression) → Each I xs → Each (InsideExpression I) os → Each (InsideExpression I) (arguments xs i os)
   arguments-inside [] i os h k = k
   arguments-inside (x ∷ xs) i os h k = (h .0, arguments-inside xs i os (h .1) k)
 
@@ -44,18 +46,18 @@ renumberedTask N (testing bs x e o os ps) =
     testing (map (renumberedBinding N) bs) (renumberedExpression N x) (renumberedExpression N e) (renumberedExpression N o) (map (renumberedExpression N) os) (map (renumberedPair N) ps)
 
 abbrev InsideTask : (ℕ → Type 0) → Task → Type 0
-InsideTask I (unifying bs ps) = All (InsideBinding I) bs × All (InsidePair I) ps
-InsideTask I (testing bs x e o os ps) = All (InsideBinding I) bs × I (x .0) × I (e .0) × I (o .0) × All (InsideExpression I) os × All (InsidePair I) ps
+InsideTask I (unifying bs ps) = Each (InsideBinding I) bs × Each (InsidePair I) ps
+InsideTask I (testing bs x e o os ps) = Each (InsideBinding I) bs × I (x .0) × I (e .0) × I (o .0) × Each (InsideExpression I) os × Each (InsidePair I) ps
 
 -- The second machine does what the first one does, unless the first one fails.
 module _ (N : Renumbering) (I : ℕ → Type 0) where
   abbrev TurnAlike : Turn → Turn → Type 0
-  TurnAlike (finished bs) u = (u ≡ finished (map (renumberedBinding N) bs)) × All (InsideBinding I) bs
+  TurnAlike (finished bs) u = (u ≡ finished (map (renumberedBinding N) bs)) × Each (InsideBinding I) bs
   TurnAlike (goOn s) u = (u ≡ goOn (renumberedTask N s)) × InsideTask I s
   TurnAlike (stop r) u = Unit {0}
 
   abbrev OutcomeAlike : Outcome → Outcome → Type 0
-  OutcomeAlike (unified bs n) o = (o ≡ unified (map (renumberedBinding N) bs) n) × All (InsideBinding I) bs
+  OutcomeAlike (unified bs n) o = (o ≡ unified (map (renumberedBinding N) bs) n) × Each (InsideBinding I) bs
   OutcomeAlike (failed r) o = Unit {0}
 
   without-work-alike : (t u : Turn) → TurnAlike t u → OutcomeAlike (withoutWork t) (withoutWork u)
@@ -70,7 +72,7 @@ module _ (N : Renumbering) (I : ℕ → Type 0) where
 
 -- ── One turn, then all ──
 module _ (N : Renumbering) (I P : ℕ → Type 0) (oneRow : (r q : ℕ) → I r → I q → N .row r ≡ N .row q → r ≡ q) (oneSymbol : (s t : ℕ) → P s → P t → N .symbol s ≡ N .symbol t → s ≡ t)
-    (bs : List Binding) (b : All (InsideBinding I) bs) (ps : List Pair) (p : All (InsidePair I) ps) where
+    (bs : List Binding) (b : Each (InsideBinding I) bs) (ps : List Pair) (p : Each (InsidePair I) ps) where
   meet-alike : (v w : View) → InsideView I P v → InsideView I P w → TurnAlike N I (meet v w bs ps) (meet (renumberedView N v) (renumberedView N w) (map (renumberedBinding N) bs) (map (renumberedPair N) ps))
   meet-alike (unbound v e) (unbound w d) h k = rw (same-renumbered N e d (oneRow (e .0) (d .0) h k)) (try (same e d))
     where
@@ -92,7 +94,7 @@ module _ (N : Renumbering) (I P : ℕ → Type 0) (oneRow : (r q : ℕ) → I r 
   meet-alike (link e) w h k = tt
 
   module _ (isFull isFull′ : List Binding → Bool) (room : isFull bs ≡ false → isFull′ (map (renumberedBinding N) bs) ≡ false) (x : Variable) (e : Expression) (i : I (x .0)) (j : I (e .0)) where
-    rest-alike : (os : List Expression) → All (InsideExpression I) os
+    rest-alike : (os : List Expression) → Each (InsideExpression I) os
         → TurnAlike N I (testRest isFull bs x e os ps) (testRest isFull′ (map (renumberedBinding N) bs) (renumberedExpression N x) (renumberedExpression N e) (map (renumberedExpression N) os) (map (renumberedPair N) ps))
     rest-alike [] h = try (isFull bs) refl
       where
@@ -102,7 +104,7 @@ module _ (N : Renumbering) (I P : ℕ → Type 0) (oneRow : (r q : ℕ) → I r 
         try false q = (ap (λ (c : Bool). pick c (stop full) (goOn (renumberedTask N (unifying ((x, e) ∷ bs) ps)))) (room q), (((i, j), b), p))
     rest-alike (o ∷ os) h = (refl, (b, i, j, h .0, h .1, p))
 
-    test-alike : (w : View) → InsideView I P w → (os : List Expression) → All (InsideExpression I) os
+    test-alike : (w : View) → InsideView I P w → (os : List Expression) → Each (InsideExpression I) os
         → TurnAlike N I (testOne isFull w bs x e os ps) (testOne isFull′ (renumberedView N w) (map (renumberedBinding N) bs) (renumberedExpression N x) (renumberedExpression N e) (map (renumberedExpression N) os) (map (renumberedPair N) ps))
     test-alike (unbound v d) k os h = rw (same-renumbered N d x (oneRow (d .0) (x .0) k i)) (try (same d x))
       where
@@ -115,10 +117,10 @@ module _ (N : Renumbering) (I P : ℕ → Type 0) (oneRow : (r q : ℕ) → I r 
 
 module _ {N : Renumbering} {I P : ℕ → Type 0} {row row′ : ℕ → Row} (R : Renumbers N I P row row′) {ρ ρ′ : Environment} (E : RenumbersEnvironment N I ρ ρ′) (links : ℕ)
     (isFull isFull′ : List Binding → Bool) (room : (bs : List Binding) → isFull bs ≡ false → isFull′ (map (renumberedBinding N) bs) ≡ false) where
-  seen : (bs : List Binding) → All (InsideBinding I) bs → (e : Expression) → I (e .0) → follow row′ links (extend ρ′ (map (renumberedBinding N) bs)) (renumberedExpression N e) ≡ renumberedView N (follow row links (extend ρ bs) e)
+  seen : (bs : List Binding) → Each (InsideBinding I) bs → (e : Expression) → I (e .0) → follow row′ links (extend ρ′ (map (renumberedBinding N) bs)) (renumberedExpression N e) ≡ renumberedView N (follow row links (extend ρ bs) e)
   seen bs b e i = follow-renumbered R (extend-renumbered (R .oneRow) E bs b) links e i
 
-  seen-inside : (bs : List Binding) → All (InsideBinding I) bs → (e : Expression) → I (e .0) → InsideView I P (follow row links (extend ρ bs) e)
+  seen-inside : (bs : List Binding) → Each (InsideBinding I) bs → (e : Expression) → I (e .0) → InsideView I P (follow row links (extend ρ bs) e)
   seen-inside bs b e i = follow-inside R (extend-renumbered (R .oneRow) E bs b) links e i
 
   turn-alike : (s : Task) → InsideTask I s → TurnAlike N I (turn row links isFull ρ s) (turn row′ links isFull′ ρ′ (renumberedTask N s))
@@ -147,7 +149,7 @@ room-kept N held held′ l bs q = try (noRoom held′ (map (renumberedBinding N)
         absurd (omega arith)
     try false e = refl
 
-pub unify-renumbered : {N : Renumbering} {I P : ℕ → Type 0} {row row′ : ℕ → Row} → Renumbers N I P row row′ → {ρ ρ′ : Environment} → RenumbersEnvironment N I ρ ρ′ → (held held′ : ℕ) → held′ ≤ held → (ps : List Pair) → All (InsidePair I) ps
-    → (bs : List Binding) (n : ℕ) → unify row held ρ ps ≡ unified bs n → (unify row′ held′ ρ′ (map (renumberedPair N) ps) ≡ unified (map (renumberedBinding N) bs) n) × All (InsideBinding I) bs
+pub unify-renumbered : {N : Renumbering} {I P : ℕ → Type 0} {row row′ : ℕ → Row} → Renumbers N I P row row′ → {ρ ρ′ : Environment} → RenumbersEnvironment N I ρ ρ′ → (held held′ : ℕ) → held′ ≤ held → (ps : List Pair) → Each (InsidePair I) ps
+    → (bs : List Binding) (n : ℕ) → unify row held ρ ps ≡ unified bs n → (unify row′ held′ ρ′ (map (renumberedPair N) ps) ≡ unified (map (renumberedBinding N) bs) n) × Each (InsideBinding I) bs
 unify-renumbered {N} R E held held′ l ps p bs n q =
     rw q at (run-alike R E mostLinks (noRoom held) (noRoom held′) (room-kept N held held′ l) mostWork (unifying [] ps) (tt, p))

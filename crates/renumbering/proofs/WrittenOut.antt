@@ -9,12 +9,13 @@ use Rattle.unification.specs.Environment.{Binding}
 use Rattle.unification.specs.Row.{Row, Expression, Variable, same, writtenOut}
 use Rattle.unification.specs.Substitution.{single, composed}
 use Rattle.unification.specs.Term.{Term, Terms, var, app, nil, cons, apply, applyAll, Variables, AllVariables}
-use Rattle.unification.proofs.Lists.{each-map, map-each, map-map}
+use Rattle.unification.proofs.Lists.{Each, each-map, map-each, map-map}
 use Rattle.unification.proofs.Terms.{variables-more, variables-apply}
 use Rattle.derivation.specs.Derivation.{literals, input, Literal, Derivation, resolve, factor, maximumIndex}
 use Rattle.derivation.specs.Written.{renamed, joinedSubstitution, substitution, writtenLiteral, written}
-use Rattle.renumbering.specs.Inside.{All, InsideBinding, InsideDerivation, Renumbers, RenumbersTerms}
-use Rattle.renumbering.specs.Renumbering.{Renumbering, renumberedRow, renumberedExpression, renumberedBinding, renumberedLiteral, renumberedDerivation, renamedTerm, renamedTerms, withSymbols, literalWithSymbols}
+use Rattle.renumbering.proofs.Inside.{InsideBinding, InsideDerivation, Renumbers, RenumbersTerms}
+use Rattle.renumbering.specs.Renumbering.{Renumbering, renamedTerm, renamedTerms, withSymbols, literalWithSymbols}
+use Rattle.renumbering.proofs.Renumbered.{renumberedRow, renumberedExpression, renumberedBinding, renumberedLiteral, renumberedDerivation}
 use Rattle.renumbering.proofs.Derivations.{maximum-index-renumbered, literals-renumbered, AtomInside, literals-inside}
 use Rattle.renumbering.proofs.EqualNumbers.{same-renumbered}
 use Rattle.renumbering.proofs.Looking.{OneRow}
@@ -126,7 +127,7 @@ module _ (N : Renumbering) (I : ℕ → Type 0) where
         stays = λ x h. variables-apply (λ (y : Variable). I (y .0)) τ (σ x) (variables-more (λ (y : Variable). I (y .0)) (λ (y : Variable). TermInside (τ y)) (T .stays) (σ x) (S .stays x h));
       }
 
-      pub composed-renumbers : (σ σ′ : Variable → Term Variable) → RenumbersSubstitution σ σ′ → (bs : List Binding) → All (InsideBinding I) bs → RenumbersSubstitution (composed term σ bs) (composed term′ σ′ (map (renumberedBinding N) bs))
+      pub composed-renumbers : (σ σ′ : Variable → Term Variable) → RenumbersSubstitution σ σ′ → (bs : List Binding) → Each (InsideBinding I) bs → RenumbersSubstitution (composed term σ bs) (composed term′ σ′ (map (renumberedBinding N) bs))
       composed-renumbers σ σ′ S [] h = record { values = S .values; stays = S .stays }
       composed-renumbers σ σ′ S (b ∷ bs) h = more (composed-renumbers σ σ′ S bs (h .1))
         where
@@ -165,7 +166,7 @@ module _ (N : Renumbering) (I : ℕ → Type 0) where
             (λ l k. ap (λ (t : Term Variable). (l .0, t)) (written-out-renamed (renumberedExpression N) (substitution term d) (substitution term′ (renumberedDerivation N d)) substitution-renumbered (l .1) k)) (literals d) (literals-inside I d inside)
             ∙ sym (map-map (λ (l : Bool × Term Variable). (l .0, renumberedTerm (l .1))) (writtenLiteral term (substitution term d)) (literals d))
 
-        pub written-inside : All (λ (l : Bool × Term Variable). TermInside (l .1)) (written term d)
+        pub written-inside : Each (λ (l : Bool × Term Variable). TermInside (l .1)) (written term d)
         written-inside = each-map (AtomInside I) (λ (l : Bool × Term Variable). TermInside (l .1)) (writtenLiteral term (substitution term d))
             (λ l k. written-out-inside (substitution term d) substitution-inside (l .1) k) (literals d) (literals-inside I d inside)
 

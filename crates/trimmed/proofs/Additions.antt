@@ -12,8 +12,9 @@ use Rattle.unification.specs.Row.{Row}
 use Rattle.unification.proofs.Lists.{each-more}
 use Rattle.unification.proofs.Tests.{true-not-false, some-injective}
 use Rattle.derivation.specs.Derivation.{input, Derivation, resolve, factor, ownBindings}
-use Rattle.renumbering.specs.Inside.{InsideDerivation, InsideBinding, InsideLiteral}
-use Rattle.renumbering.specs.Renumbering.{Renumbering, renumberedRow, renumberedBinding, renumberedDerivation}
+use Rattle.renumbering.proofs.Inside.{InsideDerivation, InsideBinding, InsideLiteral}
+use Rattle.renumbering.specs.Renumbering.{Renumbering}
+use Rattle.renumbering.proofs.Renumbered.{renumberedRow, renumberedBinding, renumberedDerivation}
 use Rattle.renumbering.proofs.Derivations.{own-bindings-renumbered}
 use Rattle.verdict.specs.Force.{windowOf}
 use Rattle.verdict.specs.State.{State, withSymbol, withRow, withClause, entry, arities, rowsOf, derivations, clauseOf}

@@ -71,14 +71,6 @@ module _ (kept : ℕ → Bool) where
       try true k j ih = here (eqb q (keptBelow kept n)) refl k j ih
       try false k j ih = older (ih (omega arith))
 
-  pub below-most : (n : ℕ) → keptBelow kept n ≤ n
-  below-most zero = omega arith
-  below-most (suc n) = try (kept n) (below-most n)
-    where
-      try : (b : Bool) → keptBelow kept n ≤ n → pick b 1 0 + keptBelow kept n ≤ suc n
-      try true h = omega arith
-      try false h = omega arith
-
   -- ── Lists ──
   module _ {A B : Type 0} (f : A → B) where
     pub keeping-length : (xs : List A) → length (keeping kept f xs) ≡ keptBelow kept (length xs)

@@ -13,8 +13,9 @@ use Rattle.unification.proofs.Repeats.{earliest-equal}
 use Rattle.unification.proofs.Rows.{Below}
 use Rattle.unification.proofs.Tests.{to-T, from-T, both-true}
 use Rattle.derivation.specs.Derivation.{input, RowLiteral, inputLiterals}
-use Rattle.renumbering.specs.Inside.{InsideLiteral}
-use Rattle.renumbering.specs.Renumbering.{Renumbering, renumberedRow, renumberedRowLiteral, renumberedDerivation}
+use Rattle.renumbering.proofs.Inside.{InsideLiteral}
+use Rattle.renumbering.specs.Renumbering.{Renumbering, renumberedRowLiteral}
+use Rattle.renumbering.proofs.Renumbered.{renumberedRow, renumberedDerivation}
 use Rattle.verdict.specs.Refusal.{tests, outlineTests, zeros, isApplication, allApplications, hasArity, allBelow, argumentRows}
 use Rattle.verdict.specs.State.{State, withSymbol, withRow, withClause, withDaysBeside, entry, arities, arityOf, rowsOf, rowOf, clauseOf, nextClause, earliestOf, recordOfRow}
 use Rattle.verdict.specs.Step.{stands, Result, requireAll, newApplication, newLiterals, enter}

@@ -9,9 +9,11 @@ use Rattle.record.specs.Record.{Record, Kind, factorKind, fieldA, fieldB, field
 use Rattle.unification.specs.Environment.{Binding}
 use Rattle.unification.specs.Row.{Expression}
 use Rattle.unification.specs.Unification.{unify, unified}
+use Rattle.unification.proofs.Lists.{Each}
 use Rattle.derivation.specs.Derivation.{literals, Literal, Derivation, resolve, factor, numbered, numberedAll, pairsWith, maximumIndex, joined, lookup}
-use Rattle.renumbering.specs.Inside.{All, Renumbers, InsideDerivation, InsideBinding, RenumbersEnvironment}
-use Rattle.renumbering.specs.Renumbering.{Renumbering, renumberedExpression, renumberedPair, renumberedLiteral, renumberedBinding, renumberedDerivation}
+use Rattle.renumbering.proofs.Inside.{Renumbers, InsideDerivation, InsideBinding, RenumbersEnvironment}
+use Rattle.renumbering.specs.Renumbering.{Renumbering}
+use Rattle.renumbering.proofs.Renumbered.{renumberedExpression, renumberedPair, renumberedLiteral, renumberedBinding, renumberedDerivation}
 use Rattle.renumbering.proofs.Derivations.{maximum-index-renumbered, literal-count-renumbered, literal-renumbered, named-literals-renumbered, pairs-renumbered, pairs-inside, literal-inside, named-literals-inside, AtomInside}
 use Rattle.renumbering.proofs.Looking.{joined-renumbers, lookup-renumbers}
 use Rattle.renumbering.proofs.Machine.{unify-renumbered}
@@ -67,7 +69,7 @@ module _ {S : State} {K : Kept} (C : KeptClosed S K) {A B : State} {r : Record} 
   fits-same : (c : Derivation) → resultFits (renumberedDerivation N c) ≡ resultFits c
   fits-same c = ap₂ (λ (m n : ℕ). leb m mostLiterals && leb n mostIndex) (literal-count-renumbered N c) (maximum-index-renumbered N c)
 
-  outlines-same : (l : Literal) (ls : List Literal) → Inside (l .1 .0) → All (AtomInside Inside) ls → outlinesAgree (rowOf B) (renumberedLiteral N l) (map (renumberedLiteral N) ls) ≡ outlinesAgree (rowOf A) l ls
+  outlines-same : (l : Literal) (ls : List Literal) → Inside (l .1 .0) → Each (AtomInside Inside) ls → outlinesAgree (rowOf B) (renumberedLiteral N l) (map (renumberedLiteral N) ls) ≡ outlinesAgree (rowOf A) l ls
   outlines-same l [] i h = refl
   outlines-same l (m ∷ ms) i h = ap₂ (λ (b c : Bool). not b && c) (outlines-renumbered rows (l .1 .0) (m .1 .0) i (h .0)) (outlines-same l ms i (h .1))
 
@@ -75,7 +77,7 @@ module _ {S : State} {K : Kept} (C : KeptClosed S K) {A B : State} {r : Record} 
   atoms-renumbered [] = refl
   atoms-renumbered (l ∷ ls) = ap (λ (es : List Expression). renumberedExpression N (l .1) ∷ es) (atoms-renumbered ls)
 
-  atoms-inside : (ls : List Literal) → All (AtomInside Inside) ls → All (λ (e : Expression). Inside (e .0)) (atoms ls)
+  atoms-inside : (ls : List Literal) → Each (AtomInside Inside) ls → Each (λ (e : Expression). Inside (e .0)) (atoms ls)
   atoms-inside [] h = tt
   atoms-inside (l ∷ ls) h = (h .0, atoms-inside ls (h .1))
 
@@ -132,7 +134,7 @@ module _ {S : State} {K : Kept} (C : KeptClosed S K) {A B : State} {r : Record} 
       atom-inside : Inside (x .1 .1 .0)
       atom-inside = literal-inside Inside (x .0) left-inside (fieldB r) (x .1) leftNamed
 
-      all-inside : All (AtomInside Inside) (y .1)
+      all-inside : Each (AtomInside Inside) (y .1)
       all-inside = named-literals-inside Inside (y .0) right-inside (rightNumbers kind r) (y .1) rightNamed
 
       -- A test of both sides, on what each names.
@@ -175,7 +177,7 @@ module _ {S : State} {K : Kept} (C : KeptClosed S K) {A B : State} {r : Record} 
           joined-renumbers N Inside (maximumIndex (x .0)) (lookup (x .0)) (lookup (x′ .0)) (lookup (y .0)) (lookup (y′ .0)) (lookup-renumbers N Inside (rows .oneRow) (x .0) left-inside) (lookup-renumbers N Inside (rows .oneRow) (y .0) right-inside)
 
       module _ (u : unifyResolve A x y ≡ unified bs n) where
-        unifies : (unify (rowOf B) (B .total) (joined (maximumIndex (x .0)) (lookup (x′ .0)) (lookup (y′ .0))) (map (renumberedPair N) (pairsWith (maximumIndex (x .0)) (x .1 .1) (atoms (y .1)))) ≡ unified (map (renumberedBinding N) bs) n) × All (InsideBinding Inside) bs
+        unifies : (unify (rowOf B) (B .total) (joined (maximumIndex (x .0)) (lookup (x′ .0)) (lookup (y′ .0))) (map (renumberedPair N) (pairsWith (maximumIndex (x .0)) (x .1 .1) (atoms (y .1)))) ≡ unified (map (renumberedBinding N) bs) n) × Each (InsideBinding Inside) bs
         unifies = unify-renumbered rows environment (A .total) (B .total) (R .total) (pairsWith (maximumIndex (x .0)) (x .1 .1) (atoms (y .1))) (pairs-inside Inside (maximumIndex (x .0)) (x .1 .1) (atoms (y .1)) atom-inside (atoms-inside (y .1) all-inside)) bs n u
 
         unified-there : unifyResolve B x′ y′ ≡ unified (map (renumberedBinding N) bs) n
@@ -284,7 +286,7 @@ module _ {S : State} {K : Kept} (C : KeptClosed S K) {A B : State} {r : Record} 
       )
 
       module _ (u : unifyFactor A x y ≡ unified bs n) where
-        factor-unifies : (unifyFactor B fx fy ≡ unified (map (renumberedBinding N) bs) n) × All (InsideBinding Inside) bs
+        factor-unifies : (unifyFactor B fx fy ≡ unified (map (renumberedBinding N) bs) n) × Each (InsideBinding Inside) bs
         factor-unifies = unify-renumbered rows (lookup-renumbers N Inside (rows .oneRow) (x .0) parent-inside) (A .total) (B .total) (R .total) ((x .1 .1, y .1 .1) ∷ []) ((kept-inside, deleted-inside), tt) bs n u
 
         abbrev factored-clause : Derivation

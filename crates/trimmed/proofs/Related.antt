@@ -12,8 +12,9 @@ use Rattle.unification.specs.Row.{variable, Row, application, rowAt}
 use Rattle.unification.proofs.Lists.{Each}
 use Rattle.unification.proofs.Repeats.{earliest-itself, earliest-equal}
 use Rattle.derivation.specs.Derivation.{Derivation}
-use Rattle.renumbering.specs.Inside.{All, Renumbers, InsideDerivation}
-use Rattle.renumbering.specs.Renumbering.{Renumbering, renumberedRow, renumberedDerivation}
+use Rattle.renumbering.proofs.Inside.{Renumbers, InsideDerivation}
+use Rattle.renumbering.specs.Renumbering.{Renumbering}
+use Rattle.renumbering.proofs.Renumbered.{renumberedRow, renumberedDerivation}
 use Rattle.renumbering.proofs.Following.{InsideRow, row-inside}
 use Rattle.verdict.specs.Force.{windowOf}
 use Rattle.verdict.specs.State.{State, Window, arities, rowsOf, rowOf, derivations, clauseOf, nextClause, earliestOf}
@@ -54,7 +55,7 @@ sort (application s xs) = 1
 
 -- Rows that are equal after a renumbering that is one to one on them are equal.
 module _ {N : Renumbering} {I P : ℕ → Type 0} {row row′ : ℕ → Row} (R : Renumbers N I P row row′) where
-  one-list : (xs ys : List ℕ) → All I xs → All I ys → map (N .row) xs ≡ map (N .row) ys → xs ≡ ys
+  one-list : (xs ys : List ℕ) → Each I xs → Each I ys → map (N .row) xs ≡ map (N .row) ys → xs ≡ ys
   one-list [] [] h k e = refl
   one-list [] (y ∷ ys) h k e = let z : _≡_ {A = ℕ} 0 1 = ap begun e in absurd (omega arith)
   one-list (x ∷ xs) [] h k e = let z : _≡_ {A = ℕ} 1 0 = ap begun e in absurd (omega arith)
@@ -89,7 +90,7 @@ module _ {S : State} {K : Kept} (C : KeptClosed S K) {A B : State} {later : List
     oneSymbol = λ s t i j e. below-one (K .symbol) s t i j e;
   }
     where
-      arguments-kept : (xs : List ℕ) → Each (λ a. K .row a ≡ true) xs → Each (IsEarliest (rowsOf A)) xs → All (RowKept S K A) xs
+      arguments-kept : (xs : List ℕ) → Each (λ a. K .row a ≡ true) xs → Each (IsEarliest (rowsOf A)) xs → Each (RowKept S K A) xs
       arguments-kept [] h k = tt
       arguments-kept (x ∷ xs) h k = ((h .0, k .0 .there), arguments-kept xs (h .1) (k .1))
 

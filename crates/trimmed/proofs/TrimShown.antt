@@ -11,7 +11,7 @@ use Rattle.record.specs.declared.Form.the-variants.{Old}
 use Rattle.record.proofs.Bytes.{file-bytes}
 use Rattle.record.proofs.Records.{records-length}
 use Rattle.derivation.specs.Derivation.{Derivation}
-use Rattle.renumbering.specs.Renumbering.{renumberedDerivation}
+use Rattle.renumbering.proofs.Renumbered.{renumberedDerivation}
 use Rattle.demands.proofs.Demanded.{long-enough, stands-check}
 use Rattle.demands.proofs.Reading.{stands-ok, whole-records}
 use Rattle.demands.proofs.Standing.{StateOk}

@@ -14,7 +14,8 @@ use Rattle.record.proofs.Records.{records-shaped}
 use Rattle.unification.proofs.Repeats.{earliest-itself}
 use Rattle.unification.proofs.Tests.{from-T, both-true, true-not-false}
 use Rattle.derivation.specs.Derivation.{input, RowLiteral, Derivation, resolve, factor}
-use Rattle.renumbering.specs.Renumbering.{Renumbering, renumberedRow, renumberedRowLiteral, renumberedDerivation}
+use Rattle.renumbering.specs.Renumbering.{Renumbering, renumberedRowLiteral}
+use Rattle.renumbering.proofs.Renumbered.{renumberedRow, renumberedDerivation}
 use Rattle.renumbering.proofs.EqualNumbers.{numbers-renumbered}
 use Rattle.demands.specs.Conditions.{OneOf}
 use Rattle.demands.proofs.RangeTests.{equal}

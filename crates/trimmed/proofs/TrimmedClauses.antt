@@ -14,8 +14,9 @@ use Rattle.unification.proofs.Rows.{row-there}
 use Rattle.unification.proofs.Tests.{some-injective}
 use Rattle.derivation.specs.Derivation.{literals, input, Literal, Derivation, clauseNumber, Use, uses}
 use Rattle.derivation.specs.Ground.{instances, valueIn}
-use Rattle.renumbering.specs.Inside.{Renumbers, RenumbersTerms}
-use Rattle.renumbering.specs.Renumbering.{Renumbering, renumberedRow, renumberedLiteral, renumberedDerivation, literalWithSymbols}
+use Rattle.renumbering.proofs.Inside.{Renumbers, RenumbersTerms}
+use Rattle.renumbering.specs.Renumbering.{Renumbering, literalWithSymbols}
+use Rattle.renumbering.proofs.Renumbered.{renumberedRow, renumberedLiteral, renumberedDerivation}
 use Rattle.renumbering.proofs.Derivations.{maximum-index-renumbered, literals-renumbered, renumberedUse, uses-renumbered}
 use Rattle.renumbering.proofs.Instances.{instances-renumbered}
 use Rattle.renumbering.proofs.WrittenOut.{rows-named, written-named}

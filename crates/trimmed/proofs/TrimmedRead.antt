@@ -16,7 +16,8 @@ use Rattle.unification.specs.Unification.{unified}
 use Rattle.unification.proofs.Repeats.{row-new}
 use Rattle.unification.proofs.Tests.{both-true, true-not-false}
 use Rattle.derivation.specs.Derivation.{literals, input, Literal, Derivation, resolve, factor, numbered, numberedAll}
-use Rattle.renumbering.specs.Renumbering.{Renumbering, renumberedDerivation}
+use Rattle.renumbering.specs.Renumbering.{Renumbering}
+use Rattle.renumbering.proofs.Renumbered.{renumberedDerivation}
 use Rattle.renumbering.proofs.EqualNumbers.{numbers-renumbered}
 use Rattle.verdict.specs.Force.{windowOf}
 use Rattle.verdict.specs.Refusal.{tests, outlineTests, kindOfRecord, leftOf, rightNumbers, rightOf, deletedOf, isInput, outlinesOfResolve}

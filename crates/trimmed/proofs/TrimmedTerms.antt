@@ -14,7 +14,8 @@ use Rattle.unification.proofs.Lists.{Each}
 use Rattle.unification.proofs.Repeats.{row-old, row-new}
 use Rattle.unification.proofs.Rows.{eqb-below}
 use Rattle.unification.proofs.Tests.{from-T}
-use Rattle.renumbering.specs.Renumbering.{Renumbering, renumberedRow, renamedTerm, renamedTerms}
+use Rattle.renumbering.specs.Renumbering.{Renumbering, renamedTerm, renamedTerms}
+use Rattle.renumbering.proofs.Renumbered.{renumberedRow}
 use Rattle.demands.proofs.RangeTests.{equal, unequal}
 use Rattle.demands.proofs.Shared.{ArgumentsEarliest, SharedRows}
 use Rattle.trimming.specs.Trimming.{keptBelow}

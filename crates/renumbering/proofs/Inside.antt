@@ -1,24 +1,21 @@
--- Which rows and symbols a renumbering is about: those inside. No promise needs this file; the laws of the renumbering rest on it.
+-- Which rows and symbols a renumbering is about: those inside.
 use mathlib.Core.Path.{_≡_}
 use mathlib.Core.Option.{Option, none, some}
-use mathlib.Core.List.{List, [], _∷_}
+use mathlib.Core.List.{List}
 use Prim.Native.Nat.{ℕ}
 use Rattle.unification.specs.Environment.{Binding, Environment}
 use Rattle.unification.specs.Row.{Row, application, Expression, Variable}
 use Rattle.unification.specs.Term.{Term, Variables}
 use Rattle.unification.specs.Unification.{Pair}
+use Rattle.unification.proofs.Lists.{Each}
 use Rattle.derivation.specs.Derivation.{input, RowLiteral, Derivation, resolve, factor}
-use Rattle.renumbering.specs.Renumbering.{Renumbering, renumberedRow, renumberedExpression, renamedTerm}
-
--- Every element of a list has a property.
-abbrev pub All {ℓ} : {A : Type ℓ} → (A → Type 0) → List A → Type 0
-All P [] = Unit {0}
-All P (x ∷ xs) = P x × All P xs
+use Rattle.renumbering.specs.Renumbering.{Renumbering, renamedTerm}
+use Rattle.renumbering.proofs.Renumbered.{renumberedRow, renumberedExpression}
 
 -- The rows inside have the rows below them and their symbols inside; each is renumbered to a row of its own, which is that row renumbered.
 pub record Renumbers (N : Renumbering) (rowInside symbolInside : ℕ → Type 0) (row row′ : ℕ → Row) : Type 0 where
   pub rows : (r : ℕ) → rowInside r → row′ (N .row r) ≡ renumberedRow N (row r)
-  pub arguments : (r s : ℕ) (xs : List ℕ) → rowInside r → row r ≡ application s xs → All rowInside xs
+  pub arguments : (r s : ℕ) (xs : List ℕ) → rowInside r → row r ≡ application s xs → Each rowInside xs
   pub symbols : (r s : ℕ) (xs : List ℕ) → rowInside r → row r ≡ application s xs → symbolInside s
   pub oneRow : (r q : ℕ) → rowInside r → rowInside q → N .row r ≡ N .row q → r ≡ q
   pub oneSymbol : (s t : ℕ) → symbolInside s → symbolInside t → N .symbol s ≡ N .symbol t → s ≡ t
@@ -36,11 +33,11 @@ module _ (rowInside : ℕ → Type 0) where
   abbrev pub InsideLiteral : RowLiteral → Type 0
   InsideLiteral l = rowInside (l .1)
 
-  -- All rows of a clause's literals and bindings, and of those in its derivation.
+  -- Each rows of a clause's literals and bindings, and of those in its derivation.
   abbrev pub InsideDerivation : Derivation → Type 0
-  InsideDerivation (input number ls) = All InsideLiteral ls
-  InsideDerivation (resolve number l a r ns bs) = InsideDerivation l × InsideDerivation r × All InsideBinding bs
-  InsideDerivation (factor number c a b bs) = InsideDerivation c × All InsideBinding bs
+  InsideDerivation (input number ls) = Each InsideLiteral ls
+  InsideDerivation (resolve number l a r ns bs) = InsideDerivation l × InsideDerivation r × Each InsideBinding bs
+  InsideDerivation (factor number c a b bs) = InsideDerivation c × Each InsideBinding bs
 
 abbrev pub renumberedAnswer : Renumbering → Option Expression → Option Expression
 renumberedAnswer N none = none
