@@ -18,6 +18,7 @@ use Rattle.distinct.proofs.Lowest.{none_has, one_has}
 
 -- A row of a chain is its first, or on the chain after that.
 pub on_chain_lem : {L : List ℕ} (c : ℕ) {r : ℕ} → OnChain L c r → (c ≡ suc r) ⊎ ((0 < c) × OnChain L (get_or L (c - 1) 0) r)
+on_chain_lem {L = L} zero {r = r} x = elim x [ ]
 on_chain_lem (suc r) first = inl refl
 on_chain_lem {L} (suc q) {r} (later h) = inr (omega arith, let z : q ≡ suc q - 1 = omega arith in subst (λ (p : ℕ). OnChain L (get_or L p 0) r) z h)
 

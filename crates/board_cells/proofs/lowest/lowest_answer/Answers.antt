@@ -1,0 +1,22 @@
+use mathlib.Core.Path.{◌≡◌, refl}
+use Prim.Native.Nat.{◌-◌, ◌≤◌}
+use native.Mathlib.Omega.{arith}
+use Rattle.board_cells.proofs.AnswerSteps.{Same, found, not_found, nothing}
+use borrow.Author.Rules.{rules}
+use Rattle.board_cells.proofs.lowest.lowest_answer.Goals as goal
+
+pub loop-n-init : goal.loop-n-init
+loop-n-init c =
+    (omega arith, refl)
+
+pub returns-then-is_answer : goal.returns-then-is_answer
+returns-then-is_answer c =
+    found c.args.clauses.now c.args.board.now 4096 c.loop-n.n c.loop-n-test.true c.is_answer.ensures c.if-is_answer.true c.loop-n.invariant.1
+
+pub loop-n-preserved : goal.loop-n-preserved
+loop-n-preserved c =
+    (omega arith, not_found c.args.clauses.now c.args.board.now 4096 c.loop-n.n c.loop-n-test.true c.is_answer.ensures c.if-is_answer.false c.loop-n.invariant.1)
+
+pub returns : goal.returns
+returns c =
+    nothing c.args.clauses.now c.args.board.now 4096 c.loop-n.n c.loop-n-test.false c.loop-n.invariant.1

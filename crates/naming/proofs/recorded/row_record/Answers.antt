@@ -1,0 +1,6 @@
+-- The cell that was read.
+use borrow.Author.Rules.{rules}
+use Rattle.naming.proofs.recorded.row_record.Goals as goal
+
+pub returns : goal.returns
+returns c = c.cell-earliest.ensures

@@ -1,0 +1,30 @@
+-- A call takes up one expression, so the measures are 2w for the test of an expression and 2w + 1 for the arguments before the last. What is
+-- left of the loop has the same answer as the whole.
+use mathlib.Core.Path.{◌≡◌, refl, sym, ◌∙◌}
+use native.Mathlib.Omega.{arith}
+use lib.ListN.{length}
+use Rattle.unification.specs.Unification.{occurs, overwork}
+use Rattle.following.specs.Walks.{Scanned}
+use Rattle.following.proofs.Occurrence.{less_le, less_no, no_more_no, looked_spent, looked_met, looked_into, looked_none, scan_start, scan_last, scan_broke, scan_next, Sought, sought_start, sought_then, sought_next, sought_followable, arguments_followable, scanned_followable}
+use Rattle.following.specs.declared.occurs.Occurs.TheVariants.{Yes, Spent}
+use borrow.Author.Rules.{rules}
+use Prim.Native.Nat.{ℕ, ◌+◌, ◌-◌, ◌*◌, ◌≤◌, ◌<◌}
+use Rattle.occurrence.proofs.+occurs_in_occurs_in_arguments.Given as goal
+
+abbrev pub decreases-occurs_in_arguments : goal.decreases-occurs_in_arguments
+decreases-occurs_in_arguments l = 2 * l.work + 1
+
+abbrev pub decreases-occurs_in : goal.decreases-occurs_in
+decreases-occurs_in l = 2 * l.work
+
+abbrev pub invariant-occurs_in_arguments-loop-n : goal.invariant-occurs_in_arguments-loop-n
+invariant-occurs_in_arguments-loop-n l =    (length l.values ≡ 524416) × (l.left ≤ l.work) × (1 ≤ l.n) × (l.n ≤ l.last) × Scanned l.nodes l.initial.values l.values (l.v, l.i) l.r l.k l.work l.n (l.last + 1 - l.n) l.left
+
+abbrev pub decreases-occurs_in_arguments-loop-n : goal.decreases-occurs_in_arguments-loop-n
+decreases-occurs_in_arguments-loop-n l =    l.last - l.n
+
+abbrev pub invariant-occurs_in-loop-left : goal.invariant-occurs_in-loop-left
+invariant-occurs_in-loop-left l =    (length l.values ≡ 524416) × (l.left ≤ l.work) × Sought l.nodes l.initial.values l.values (l.v, l.i) (l.t, l.j) l.work (l.row, l.index) l.left
+
+abbrev pub decreases-occurs_in-loop-left : goal.decreases-occurs_in-loop-left
+decreases-occurs_in-loop-left l =    l.left

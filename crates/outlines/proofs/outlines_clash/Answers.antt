@@ -1,0 +1,11 @@
+use Rattle.outlines.proofs.Walk.{compared_clash, compared_agree}
+use borrow.Author.Rules.{rules}
+use Rattle.outlines.proofs.outlines_clash.Goals as goal
+
+pub returns-in-Clash : goal.returns-in-Clash
+returns-in-Clash c =
+    compared_clash _ _ _ _ c.compare_pair-c.ensures c.in-Clash.is
+
+pub returns-in-Agree : goal.returns-in-Agree
+returns-in-Agree c =
+    compared_agree _ _ _ c.enum_told-in-Agree-1.given.0.0 _ c.compare_pair-c.ensures c.in-Agree.is

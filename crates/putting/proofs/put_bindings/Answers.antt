@@ -1,0 +1,26 @@
+use mathlib.Core.Path.{◌≡◌, refl, ap, ◌∙◌}
+use Prim.Native.Nat.{◌-◌, ◌≤◌}
+use native.Mathlib.Omega.{arith}
+use lib.ListN.{length}
+use Rattle.unification.specs.Bindings.{bindings_from}
+use Rattle.putting.specs.Putting.{put_bindings}
+use Rattle.putting.proofs.Bindings.{put_one, cells_room, binding_there}
+use borrow.Author.Rules.{rules}
+use Rattle.putting.proofs.put_bindings.Goals as goal
+
+pub loop-k-init : goal.loop-k-init
+loop-k-init c =
+    (c.requires.room, omega arith, refl)
+
+pub put_binding-requires : goal.put_binding-requires
+put_binding-requires c =
+    binding_there c.loop-k.k c.requires c.loop-k.invariant.0 c.loop-k-test.true
+
+pub loop-k-preserved : goal.loop-k-preserved
+loop-k-preserved c =
+    (ap length c.put_binding.ensures ∙ cells_room _ _ _ _ _ c.loop-k.invariant.0, omega arith, put_one _ _ _ _ _ c.loop-k.k c.loop-k.invariant.2 c.put_binding.ensures)
+
+pub returns : goal.returns
+returns c =
+    let z : c.loop-k.k ≡ c.args.n = omega arith in
+    record { room = c.loop-k.invariant.0; cells = rw z at c.loop-k.invariant.2 }

@@ -1,0 +1,37 @@
+use mathlib.Core.Path.{◌≡◌, refl, sym, ◌∙◌}
+use Prim.Native.Nat.{◌+◌, ◌-◌, ◌≤◌}
+use native.Mathlib.Omega.{arith}
+use Rattle.record.specs.Record.{old_file, record_count}
+use Rattle.searching.specs.Searching.{others_from}
+use Rattle.searching.proofs.SearchSteps.{first_ended, goes_on, goes_on_whole, ends_without, ends_with}
+use Rattle.searching.proofs.first_other.Goals as goal
+
+pub loop-i-init : goal.loop-i-init
+loop-i-init c =
+    (omega arith, omega arith, refl)
+
+pub compare_at-m-requires : goal.compare_at-m-requires
+compare_at-m-requires c =
+    (c.loop-i-test.true, c.requires, c.loop-i.invariant.1)
+
+pub loop-i-smaller : goal.loop-i-smaller
+loop-i-smaller c =
+    let m = goes_on _ _ _ _ c.compare_at-m.ensures c.loop-i.invariant.2 c.in-To.is in
+    omega (arith, m)
+
+pub loop-i-preserved : goal.loop-i-preserved
+loop-i-preserved c =
+    let m = goes_on _ _ _ _ c.compare_at-m.ensures c.loop-i.invariant.2 c.in-To.is in
+    (m.4, m.5, goes_on_whole _ _ _ _ c.compare_at-m.ensures c.loop-i.invariant.2 c.in-To.is)
+
+pub returns-in-Ended : goal.returns-in-Ended
+returns-in-Ended c =
+    ends_without _ _ _ _ c.compare_at-m.ensures c.loop-i.invariant.2 c.in-Ended.is
+
+pub returns-in-Other : goal.returns-in-Other
+returns-in-Other c =
+    ends_with _ _ _ _ c.compare_at-m.ensures c.loop-i.invariant.2 c.in-Other.is
+
+pub returns : goal.returns
+returns c =
+    sym (first_ended _ _ _ _ c.loop-i-test.false) ∙ c.loop-i.invariant.2
