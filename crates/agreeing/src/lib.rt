@@ -1,4 +1,6 @@
 // Which two pairs of literals go together: both match, and no variable has two images. `Pairs` in specs/ of the crate matching has the contracts.
+#![tactic(auto)]
+
 ghost use Rattle.std.specs.Prelude.{◌≡◌, ◌<◌, length};
 ghost use Rattle.matching.specs.Pairs.{agree_at, agree_from, go_together, table_filled, TogetherTables};
 

@@ -1,5 +1,7 @@
 // The answer: the verdict and the counts, and how reading can end. `Given` in specs/ says which seven numbers of document 01 an answer stands for. How the
 // one comes from the other is in the crate standing.
+#![tactic(auto)]
+
 pub mod numbers;
 
 ghost use Rattle.std.specs.Prelude.{◌≡◌};

@@ -1,4 +1,6 @@
 // The days beside a record of the new form (document 02, Q-11): whether they refuse it, and whether those of an input clause are in order. `Beside` in specs/ has the contracts.
+#![tactic(auto)]
+
 ghost use Rattle.std.specs.Prelude.{◌≡◌};
 ghost use Rattle.record.specs.Record.{decoded_in};
 ghost use Rattle.verdict.specs.Refusal.{in_order};

@@ -1,6 +1,8 @@
 // The board of a checked file, for the broker service: which input clauses are present, and the lowest standing empty clause whose input clauses are in force.
 // The definitions, and what is shown of every sequence of calls, are in the crate boards; `Contract` in specs/ has what is promised. A board is 4,097 cells: one for
 // each clause and one for the day.
+#![tactic(auto)]
+
 ghost use Rattle.std.specs.Prelude.{true, false, ◌≤◌, length};
 ghost use Rattle.record.specs.Record.{old_file};
 ghost use Rattle.entry.specs.Progress.{tables_with};

@@ -1,4 +1,6 @@
 // The answer of a board in three numbers.
+#![tactic(auto)]
+
 ghost use Rattle.std.specs.Prelude.{◌≡◌, [], ◌∷◌, ◌++◌, ◌≤◌, length, drop};
 ghost use Rattle.board_cells.specs.Given.{board_given};
 

@@ -1,4 +1,6 @@
 // The board of a checked file with its answers in cells, as C has them. In specs/, `ExportedBoard` has what is promised.
+#![tactic(auto)]
+
 ghost use Rattle.std.specs.Prelude.{true, false};
 ghost use Rattle.record.specs.Record.{old_file};
 ghost use Rattle.entry.specs.Progress.{tables_with};

@@ -1,5 +1,7 @@
 // A call on a board: one input clause is withdrawn or returned, the clauses that use it follow, and the answer is given anew. In specs/, `Called` has what a call
 // promises of every board, file and table of clauses; the definitions are in the crate boards.
+#![tactic(auto)]
+
 ghost use Rattle.std.specs.Prelude.{◌≡◌, ◌<◌};
 ghost use Rattle.std.specs.Bool.{beq};
 ghost use Rattle.record.specs.Record.{old_file};

@@ -1,5 +1,7 @@
 // The cells of a board that is opened: every input clause is present. In specs/, `Filling` says how this program goes about it; what the cells are to be, the crate
 // boards has.
+#![tactic(auto)]
+
 mod children;
 
 ghost use Rattle.std.specs.Prelude.{◌≡◌};

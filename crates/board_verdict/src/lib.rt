@@ -1,4 +1,6 @@
 // The answer of a board that is opened.
+#![tactic(auto)]
+
 ghost use Rattle.std.specs.Prelude.{◌≡◌};
 ghost use Rattle.answer.specs.Given.{verdict_coded};
 ghost use Rattle.board_cells.specs.Given.{board_given};

@@ -1,4 +1,6 @@
 // A piece of the second readout with its progress in cells, as C has it. `ExportedCanonical` in specs/ of the crate exported_readout says what it promises.
+#![tactic(auto)]
+
 ghost use Rattle.record.specs.Record.{old_file};
 ghost use Rattle.entry.specs.Progress.{tables_with};
 ghost use Rattle.exported_readout.specs.ExportedReadout.{ExportedCanonical};

@@ -1,6 +1,8 @@
 // Runs every stored vector through the check and prints, for each file, the answer, a hash of each table, and the length and the hash of
 // each of its readouts. The packs are in data/, the last one with a day before each file, and stdout has what the second implementation gives for
 // the same files (`rust/vectors/README.md`).
+#![tactic(auto)]
+
 mod print;
 
 ghost use Rattle.std.specs.Prelude.{◌≤◌, length};

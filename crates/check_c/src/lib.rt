@@ -1,4 +1,6 @@
 // The check of a proof file with its answer in cells, as C has it. `Exported` in specs/ of the crate exported says what it promises.
+#![tactic(auto)]
+
 ghost use Rattle.record.specs.Record.{in_form};
 ghost use Rattle.entry.specs.Progress.{tables_with};
 ghost use Rattle.exported.specs.Exported.{Exported};

@@ -1,5 +1,7 @@
 // The check of a proof file told its form by a number, with its answer in cells, as C has it. `ExportedForm` in specs/ of the crate exported says what
 // it promises.
+#![tactic(auto)]
+
 ghost use Rattle.entry.specs.Progress.{tables_with};
 ghost use Rattle.exported.specs.ExportedForm.{ExportedForm};
 

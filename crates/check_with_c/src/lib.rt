@@ -1,4 +1,6 @@
 // The check for services with its answer in cells, as C has it. `ExportedWith` in specs/ of the crate exported says what it promises.
+#![tactic(auto)]
+
 ghost use Rattle.record.specs.Record.{old_file};
 ghost use Rattle.entry.specs.Progress.{tables_with};
 ghost use Rattle.checker.specs.Contract.{workspace_with};

@@ -1,6 +1,8 @@
 // The check of a proof file. The definitions are in the crate verdict: `Verdict` and `Tables` have what the check answers; in the
 // crate demands, `Demands` has what is demanded of it. In specs/, `Contract` has what `check` promises; `Reader` of the crate reading says how this program
 // goes about it. Single records are read by the crates record_entry, clause_entry, resolution, factoring and window_entry.
+#![tactic(auto)]
+
 ghost use Rattle.record.specs.Record.{in_form};
 ghost use Rattle.checker.specs.Contract.{Checked, CheckedWith, workspace_with};
 ghost use Rattle.entry.specs.Progress.{tables_with};

@@ -3,6 +3,8 @@
 // `ExportedReadout`, `ExportedCanonical`, `ExportedCovers` and `ExportedMerge` say it of `checker_readout`, `checker_canonical_readout`, `checker_covers` and `checker_merge`; in exported_conversion,
 // `ExportedConversion` of `checker_to_new` and `checker_to_old`; in exported_trim, `ExportedTrim` of `checker_trim`; and in board_c, `ExportedBoard` of the three
 // functions of the board. checker.h has their declarations.
+#![tactic(auto)]
+
 ghost use Rattle.std.specs.Prelude.{true, false};
 ghost use Rattle.record.specs.Record.{old_file, new_file};
 ghost use Rattle.entry.specs.Progress.{tables_with};

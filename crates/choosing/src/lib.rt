@@ -1,4 +1,6 @@
 // The search for the earliest choice: it only reads the table of pairs that go together. `Searching` in specs/ of the crate matching has the contracts.
+#![tactic(auto)]
+
 ghost use Rattle.std.specs.Prelude.{◌≡◌, ◌+◌, ◌<◌, length, get_or, set};
 ghost use Rattle.matching.specs.Searching.{pair_chosen, fits, searched, Searchable};
 

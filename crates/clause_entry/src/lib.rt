@@ -1,5 +1,7 @@
 // Records of kind 4: an input clause is tested in the order of the numbers that it can be refused with, and then entered in the tables. `Program`
 // in specs/ of the crate entry has the contract.
+#![tactic(auto)]
+
 ghost use Rattle.std.specs.Prelude.{◌≡◌, ◌<◌, length};
 ghost use Rattle.record.specs.Record.{in_form, record_part, kind_of};
 ghost use Rattle.entry.specs.Program.{RowsReady, input_left, input_entered};

@@ -1,5 +1,7 @@
 // What the tables hold of a clause: its cells in the table of clauses, and the code of its origin. What they mean stands in `Stored` of the crate
 // derivation.
+#![tactic(auto)]
+
 ghost use Rattle.std.specs.Prelude.{◌≡◌, length};
 ghost use Rattle.derivation.specs.Stored.{literals_cell, index_cell, first_cell, bindings_cell, origin_code};
 

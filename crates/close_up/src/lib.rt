@@ -1,4 +1,6 @@
 // A record written with its numbers closed up. In specs/, `ClosedField` has it field by field; what a record becomes stands in the crate trimming.
+#![tactic(auto)]
+
 ghost use Rattle.std.specs.Prelude.{◌≡◌, [], ◌+◌, ◌%◌, ◌≤◌, length};
 ghost use Rattle.record.specs.Bytes.{low_then_high, record_bytes};
 ghost use Rattle.record.specs.Record.{decoded};

@@ -1,4 +1,6 @@
 // The literals of a clause written out, collected in one walk: for clauses with many of them. `Lines` in specs/ of the crate line_texts says what is written.
+#![tactic(auto)]
+
 ghost use Rattle.std.specs.Prelude.{◌≡◌, ◌+◌, ◌≤◌, ◌<◌, length};
 ghost use Rattle.line_texts.specs.Lines.{LiteralsReady, WritesLiterals};
 ghost use Rattle.collecting.specs.Literals.{listed};

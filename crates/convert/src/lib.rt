@@ -1,5 +1,7 @@
 // A proof file converted to the other form. What that is, and what is shown of it, the crate converting has. In specs/, `Contract` has what this crate promises.
 // What comes after the check is in the crate rewriting.
+#![tactic(auto)]
+
 ghost use Rattle.std.specs.Prelude.{◌≤◌, length};
 ghost use Rattle.record.specs.Record.{in_form, old_file, new_file};
 ghost use Rattle.entry.specs.Progress.{tables_with};

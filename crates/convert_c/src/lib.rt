@@ -1,4 +1,6 @@
 // The conversions of a proof file with their answer in cells, as C has it. `ExportedConversion` in specs/ of the crate exported_conversion says what they promise.
+#![tactic(auto)]
+
 ghost use Rattle.record.specs.Record.{old_file, new_file};
 ghost use Rattle.entry.specs.Progress.{tables_with};
 ghost use Rattle.exported_conversion.specs.ExportedConversion.{ExportedConversion};

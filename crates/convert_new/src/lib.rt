@@ -1,5 +1,7 @@
 // An old file in the new form: how many records it has there, and those records written. In specs/, `NewFile` has the contracts; what the new form of a file
 // is, the crate converting has.
+#![tactic(auto)]
+
 pub mod writing;
 
 ghost use Rattle.std.specs.Prelude.{◌≡◌, length};

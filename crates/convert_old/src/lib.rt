@@ -1,5 +1,7 @@
 // A new file in the old form: how many records it has there, and those records written. In specs/, `OldFile` has the contracts; what the old form of a file
 // is, the crate converting has.
+#![tactic(auto)]
+
 pub mod writing;
 
 ghost use Rattle.std.specs.Prelude.{◌≡◌, length};

@@ -1,1 +1,2 @@
 // Files converted from one form to the other: what that is, and what is shown of it. The definitions are in specs/; there is no code.
+#![tactic(auto)]

@@ -1,5 +1,7 @@
 // Which input clause covers which. In specs/ of the crate coverings, `Covering` has what that means, and `Answering` with `Contract` in specs/ here what is
 // promised. The clauses are compared by the crate comparing.
+#![tactic(auto)]
+
 ghost use Rattle.record.specs.Record.{old_file};
 ghost use Rattle.entry.specs.Progress.{tables_with};
 ghost use Rattle.cover.specs.Contract.{CoversAnswered};

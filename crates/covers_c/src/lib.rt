@@ -1,4 +1,6 @@
 // Which clause covers which, with the answer in cells, as C has it. `ExportedCovers` in specs/ of the crate exported_covers says what it promises.
+#![tactic(auto)]
+
 ghost use Rattle.record.specs.Record.{old_file};
 ghost use Rattle.entry.specs.Progress.{tables_with};
 ghost use Rattle.exported_covers.specs.ExportedCovers.{ExportedCovers};

@@ -1,5 +1,7 @@
 // The days of clauses from the windows of an old file: cells 2n and 2n + 1 of a table are the first and last day of clause n. In specs/, `DayTable` has the
 // contracts.
+#![tactic(auto)]
+
 ghost use Rattle.std.specs.Prelude.{◌≡◌, ◌<◌};
 ghost use Rattle.record.specs.Record.{decoded, old_file, records};
 ghost use Rattle.day_table.specs.DayTable.{with_days_of, with_window, with_windows, always_below, DaysTold};

@@ -1,4 +1,6 @@
 // The length and the hash of a file's readout, of either kind.
+#![tactic(auto)]
+
 ghost use Rattle.pieces.specs.Placed.{PieceReady};
 ghost use Rattle.digests.specs.Digest.{DigestAfter};
 

@@ -1,6 +1,8 @@
 // The rows of a file that are no repeats (document 02, Q-2), found by their cells: a hash with chains, in place of comparing with
 // every earlier row. `Rows` in specs/ says which row has given cells, `Index` what the heads and links are; the crates row_scan, row_search
 // and row_listing go through the table, find a row and list one.
+#![tactic(auto)]
+
 ghost use Rattle.std.specs.Prelude.{◌≡◌, [], ◌∷◌, ◌<◌};
 ghost use Rattle.distinct.specs.Index.{bucket_of};
 

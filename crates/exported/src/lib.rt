@@ -1,2 +1,4 @@
 // What the checks for C promise, in specs/, and the cells that they write their answers to.
+#![tactic(auto)]
+
 pub mod cells;

@@ -1,4 +1,6 @@
 // Whether a clause covers another, in ten numbers, for C. `ExportedCovers` in specs/ says what `checker_covers` promises.
+#![tactic(auto)]
+
 ghost use Rattle.std.specs.Prelude.{◌≡◌, [], ◌∷◌, ◌++◌, ◌≤◌, length, drop};
 ghost use Rattle.comparing.specs.Given.{outcome_numbers, covering_given};
 

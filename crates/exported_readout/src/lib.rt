@@ -1,4 +1,6 @@
 // The progress of a readout in three numbers, for C. `ExportedReadout` in specs/ says what `checker_readout` promises.
+#![tactic(auto)]
+
 ghost use Rattle.std.specs.Prelude.{◌≡◌, [], ◌∷◌, ◌++◌, ◌≤◌, length, drop};
 ghost use Rattle.pieces.specs.Placed.{rest_given};
 ghost use Rattle.exported_readout.specs.ExportedReadout.{progress_numbers};

@@ -1,4 +1,6 @@
 // The answer of a function that writes a file in four numbers, for C.
+#![tactic(auto)]
+
 ghost use Rattle.std.specs.Prelude.{◌≡◌, [], ◌∷◌, ◌++◌, ◌≤◌, length, drop};
 ghost use Rattle.writing_answer.specs.Given.{writing_given};
 

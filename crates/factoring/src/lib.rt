@@ -1,5 +1,7 @@
 // Records of kind 6: the tests of a factor, in the order of the numbers that it can be refused with. `Stepping` in specs/ of the crate inference has the
 // contract.
+#![tactic(auto)]
+
 ghost use Rattle.std.specs.Prelude.{◌≡◌};
 ghost use Rattle.record.specs.Record.{in_form, record_part, kind_of};
 ghost use Rattle.inference.specs.Stepping.{BeforeStep, StepRead};

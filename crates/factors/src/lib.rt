@@ -1,5 +1,7 @@
 // A factor on two named atoms of one clause: their outlines are compared, the clause's bindings are loaded once, the atoms are unified, and the factor is
 // entered. `Stepping` in specs/ of the crate inference has the contract.
+#![tactic(auto)]
+
 ghost use Rattle.inference.specs.Stepping.{FactorNamed, StepRead};
 
 use clauses::{index_cell, literals_cell};

@@ -1,5 +1,7 @@
 // The numbers that a record names, tested against a limit or the table of symbols. `Fields` in specs/ has the contracts; what the tests are stands in
 // `Refusal` of the crate verdict.
+#![tactic(auto)]
+
 ghost use Rattle.std.specs.Prelude.{◌≡◌, map, ◌≤◌};
 ghost use Rattle.record.specs.Record.{in_form, decoded, count_of};
 ghost use Rattle.derivation.specs.Derivation.{input_literals};

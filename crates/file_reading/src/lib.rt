@@ -1,5 +1,7 @@
 // A file's records read into tables that are cleared first, and the answer; with a workspace that is lent, and with one of its own. `Reader` in specs/ of the
 // crate reading has the contracts.
+#![tactic(auto)]
+
 ghost use Rattle.record.specs.Record.{in_form};
 ghost use Rattle.entry.specs.Progress.{tables_with};
 ghost use Rattle.reading.specs.Reader.{Readable, FileRead, ReadableWith, FileReadWith};

@@ -1,4 +1,6 @@
 // Which clauses are in force on a day: a flag for each clause, 1 where it is and 0 where it is not. `Flags` in specs/ of the crate force has the contracts.
+#![tactic(auto)]
+
 ghost use Rattle.std.specs.Prelude.{◌≡◌, length};
 ghost use Rattle.force.specs.Flags.{day_flag, with_record, flags_after, flag_from, derived_flags, flags_in_force};
 ghost use Rattle.record.specs.Record.{in_form, record_count, decoded_in};

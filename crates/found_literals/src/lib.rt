@@ -1,4 +1,6 @@
 // The literals of a clause written out, each looked up by its number: for clauses with few of them. `Lines` in specs/ of the crate line_texts says what is written.
+#![tactic(auto)]
+
 ghost use Rattle.std.specs.Prelude.{◌+◌, ◌≤◌};
 ghost use Rattle.line_texts.specs.Lines.{NumberedReady, LiteralsReady, WritesNumbered, WritesLiterals};
 ghost use Rattle.terms.specs.Writing.{Sized};

@@ -1,4 +1,6 @@
 // FNV-1a with 64 bits over the cells of a table, and over bytes.
+#![tactic(auto)]
+
 ghost use Rattle.std.specs.Prelude.{◌≡◌, ◌*◌, ◌%◌, ◌^◌};
 ghost use Rattle.hash.specs.Hash.{hash_byte, hash_bytes, hash_cell, hash_cells, start};
 

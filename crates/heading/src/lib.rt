@@ -1,4 +1,6 @@
 // The first line of the readout: the verdict.
+#![tactic(auto)]
+
 ghost use Rattle.std.specs.Prelude.{◌≡◌, length};
 ghost use Rattle.heading.specs.Heading.{given_text, VerdictWritten};
 ghost use Rattle.verdict.specs.Readout.{accepted_text, refused_text};

@@ -1,5 +1,7 @@
 // What resolve and factor have in common: the atoms that a step names, and in specs/ what its parts promise. The end of a step is in the crate
 // step_end, the right literals of a resolve in rights; the steps themselves are in the crates resolution and factoring.
+#![tactic(auto)]
+
 ghost use Rattle.std.specs.Prelude.{◌≡◌};
 ghost use Rattle.verdict.specs.Refusal.{literal_named, equal_signs};
 ghost use Rattle.inference.specs.Stepping.{ClausesStored, named_answer, pair_answer};

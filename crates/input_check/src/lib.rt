@@ -1,4 +1,6 @@
 // What the program proofread checks: the file in what it has read, on the day that stands before it. `Checking` in specs/ has the contract.
+#![tactic(auto)]
+
 ghost use Rattle.checker.specs.Contract.{workspace_with};
 ghost use Rattle.entry.specs.Progress.{tables_with};
 ghost use Rattle.input_check.specs.Checking.{Holds, InputChecked};

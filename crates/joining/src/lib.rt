@@ -1,5 +1,7 @@
 // What comes after the checks of two files that are to be merged: steps, symbols and the number of records are looked at, and then the file is written. In specs/,
 // `Joined` says how the parts of this program go about it.
+#![tactic(auto)]
+
 ghost use Rattle.std.specs.Prelude.{◌≡◌, length};
 ghost use Rattle.record.specs.Record.{records};
 ghost use Rattle.merging.specs.Answer.{after_checks};

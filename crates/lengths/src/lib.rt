@@ -1,4 +1,6 @@
 // Whether a file and four tables have lengths with which a check can begin.
+#![tactic(auto)]
+
 ghost use Rattle.std.specs.Prelude.{◌≡◌};
 ghost use Rattle.verdict.specs.Verdict.{fitting_length, long_enough};
 

@@ -1,4 +1,6 @@
 // The lines of a readout on standard output, one after another, and what standard error is told.
+#![tactic(auto)]
+
 pub mod output;
 pub mod report;
 

@@ -1,4 +1,6 @@
 // A literal of a clause written out: its sign and its atom.
+#![tactic(auto)]
+
 ghost use Rattle.std.specs.Prelude.{◌≡◌, ◌+◌, ◌≤◌};
 ghost use Rattle.verdict.specs.Text.{sign_text};
 ghost use Rattle.terms.specs.Writing.{Sized, WritingReady};

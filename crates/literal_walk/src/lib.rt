@@ -1,5 +1,7 @@
 // A literal of a clause, found by walking from the clause to the input clause that it comes from. `Named` in specs/ of the crate named_literals has the
 // contracts.
+#![tactic(auto)]
+
 ghost use Rattle.std.specs.Prelude.{◌≡◌, List, ℕ};
 ghost use Rattle.derivation.specs.Derivation.{Derivation, literals, numbered};
 ghost use Rattle.derivation.specs.Stored.{Stored, origin_code};

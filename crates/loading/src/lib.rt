@@ -1,5 +1,7 @@
 // Loading a clause: one walk through its parents that puts every binding it finds into the array of values, so that following a
 // variable afterwards is a read of the array. No variable is bound twice in a derivation, so a clause's own bindings can be put first.
+#![tactic(auto)]
+
 ghost use Rattle.loading.specs.Loaded.{Loadable, Loaded};
 
 use clauses::{bindings_cell, first_cell, index_cell, origin_code};

@@ -1,5 +1,7 @@
 // The records that an accepted clause uses, marked in a table of one cell a record. In specs/, `FieldsMarked` has the marks field by field; what is marked stands
 // in the crate marking.
+#![tactic(auto)]
+
 pub mod down;
 
 ghost use Rattle.std.specs.Prelude.{◌≡◌};

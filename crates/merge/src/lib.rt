@@ -1,5 +1,7 @@
 // Two proof files merged into one: an operator's rulebook and a trip's facts. What that is, and what is shown of it, the crate merging has. In specs/,
 // `Contract` has what this crate promises. What comes after the first file's check is in the crate merge_second.
+#![tactic(auto)]
+
 ghost use Rattle.std.specs.Prelude.{◌≤◌, length};
 ghost use Rattle.entry.specs.Progress.{tables_with};
 ghost use Rattle.merge.specs.Contract.{MergeAnswered};

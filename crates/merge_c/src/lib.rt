@@ -1,4 +1,6 @@
 // The merge of two proof files with its answer in cells, as C has it. `ExportedMerge` in specs/ of the crate exported_merge says what it promises.
+#![tactic(auto)]
+
 ghost use Rattle.entry.specs.Progress.{tables_with};
 ghost use Rattle.exported_merge.specs.ExportedMerge.{ExportedMerge};
 

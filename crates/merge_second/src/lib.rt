@@ -1,5 +1,7 @@
 // The second part of a merge, where the first file stands: the second file's check, and where that stands too, the merged file. In specs/, `Going` says how
 // the parts of a merge go about it. What comes after both checks is in the crate joining.
+#![tactic(auto)]
+
 ghost use Rattle.entry.specs.Progress.{tables_with};
 ghost use Rattle.merge_second.specs.Going.{FirstStands, SecondAnswered};
 

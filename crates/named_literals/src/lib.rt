@@ -1,5 +1,7 @@
 // A literal of a clause by its number: what is found, and the numbers past literals that a step takes away. `Named` in specs/ has the contracts, also those
 // of the walk to the input clause that a literal comes from, in the crate literal_walk; what a clause is stands in the crate derivation.
+#![tactic(auto)]
+
 ghost use Rattle.std.specs.Prelude.{◌≡◌, List, ℕ, ◌<◌};
 ghost use Rattle.named_literals.specs.Named.{left_over, passed, passed_all, NamesRights, PassesRights};
 

@@ -1,4 +1,6 @@
 // A variable written with its name, in either readout.
+#![tactic(auto)]
+
 ghost use Rattle.numbering.specs.declared.Naming.TheVariants.{ByAppearance};
 ghost use Rattle.names.specs.Names.{NameReady, WritesName};
 

@@ -1,4 +1,6 @@
 // What a field of a record names: a symbol, a row, a literal's row or a clause. In specs/, `Naming` says it for each kind of record.
+#![tactic(auto)]
+
 pub mod recorded;
 
 ghost use Rattle.std.specs.Prelude.{◌≡◌};

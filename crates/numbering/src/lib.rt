@@ -1,6 +1,8 @@
 // The numbers of a line's variables, by first appearance. Each variable at an index has a cell, which holds its number if it has one: `order` lists the
 // cells of those that have, by their numbers, and says whether a cell's content counts. So nothing is ever cleared: a line begins with no variables in the list,
 // and the numbers that a hidden literal took are undone by going back to the count before it.
+#![tactic(auto)]
+
 ghost use Rattle.std.specs.Prelude.{◌≡◌, Bool, ◌+◌, ◌<◌, length, get_or};
 ghost use Rattle.numbering.specs.Numbering.{number_cell, has_number, count_after, NumberReady, TakesNumber};
 

@@ -1,5 +1,7 @@
 // The occurrence test: whether a variable occurs in what it would be bound to. Every expression taken up costs one unit of work.
 // `Walks` in specs/ of the crate following has the contracts.
+#![tactic(auto)]
+
 ghost use Rattle.std.specs.Prelude.{◌≡◌, length};
 ghost use Rattle.unification.specs.Row.{same};
 ghost use Rattle.following.specs.Walks.{Followable, ArgumentsFollowable, Looked, LookedBefore, TestLeavesLess, TestLeavesNoMore, met_variable};

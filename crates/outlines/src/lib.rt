@@ -1,5 +1,7 @@
 // Outlines before unification (document 02, Q-1): two rows compared as they are written, over the node table alone. No index, no binding and no
 // array of values comes in.
+#![tactic(auto)]
+
 ghost use Rattle.std.specs.Prelude.{◌≡◌, ◌≤◌, length};
 ghost use Rattle.unification.specs.Nodes.{node_arity, node_row};
 ghost use Rattle.unification.specs.Listed.{listed_from};

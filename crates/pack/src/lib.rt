@@ -1,4 +1,6 @@
 // A pack of files: for each four bytes of length, low byte first, and its bytes.
+#![tactic(auto)]
+
 ghost use Rattle.std.specs.Prelude.{◌≡◌, ◌+◌, ◌≤◌, length};
 ghost use Rattle.pack.specs.Pack.{entry_at, number_at, RightCount};
 

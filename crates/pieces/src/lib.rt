@@ -1,4 +1,6 @@
 // A piece of a readout: as many whole units as fit into an output.
+#![tactic(auto)]
+
 ghost use Rattle.std.specs.Prelude.{◌≡◌, ◌+◌, ◌≤◌, length};
 ghost use Rattle.std.proofs.Math.Seq.{paste};
 ghost use Rattle.units.specs.Units.{AfterCheck};

@@ -1,5 +1,7 @@
 // What files are written with, record by record: its sixteen bytes and two numbers at a place of an output, and the number of the next clause. In specs/,
 // `Placing` has an output with bytes at a place.
+#![tactic(auto)]
+
 ghost use Rattle.std.specs.Prelude.{◌≡◌, [], ◌+◌, ◌≤◌, ◌<◌, length, take};
 ghost use Rattle.record.specs.Bytes.{low_then_high};
 ghost use Rattle.record.specs.Record.{decoded};

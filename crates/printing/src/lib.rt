@@ -1,6 +1,8 @@
 // The programs proofread and proofread_canonical: each reads two bytes of day, low byte first, and then a proof file from standard input, and prints a readout of the
 // file on that day on standard output, and nothing else. It reads one byte more than a day and a file may have, so that a longer input is refused and an
 // endless one ends. Where the input cannot be read it prints nothing, where the output cannot be written it stops, and standard error says which.
+#![tactic(auto)]
+
 pub mod input;
 
 use input::read_input;

@@ -1,4 +1,6 @@
 // What the programs read (document 02, Q-6): two bytes of day, low byte first, then the file. `Input` in specs/ has the contracts.
+#![tactic(auto)]
+
 ghost use Rattle.std.specs.Prelude.{◌≡◌, ◌≤◌};
 ghost use Rattle.program_input.specs.Input.{day_of, file_part, InputsRead};
 

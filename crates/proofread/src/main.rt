@@ -1,4 +1,6 @@
 // Prints the readout of a proof file: see the crate printing. It takes no arguments.
+#![tactic(auto)]
+
 use line_printing::report::usage;
 use numbering::Naming;
 use printing::run;

@@ -1,4 +1,6 @@
 // Bindings of the table put into the array of values, their indices raised by an offset. `Putting` in specs/ has the contracts.
+#![tactic(auto)]
+
 ghost use Rattle.std.specs.Prelude.{◌≡◌};
 ghost use Rattle.putting.specs.Putting.{Puttable, BindingsPut, BindingThere, put_cells};
 

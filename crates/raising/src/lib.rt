@@ -1,4 +1,6 @@
 // A record of the second file, written with its numbers raised.
+#![tactic(auto)]
+
 ghost use Rattle.std.specs.Prelude.{◌≡◌, ◌∷◌, ◌++◌, ◌+◌, ◌/◌, ◌%◌, ◌≤◌, length, drop};
 ghost use Rattle.record.specs.Bytes.{record_bytes};
 ghost use Rattle.record.specs.Record.{field_of, decoded};

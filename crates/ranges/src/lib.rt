@@ -1,5 +1,7 @@
 // Reason 4 for records of kind 1 to 4: whether byte 1 and the fields of a record are in their ranges. What the ranges are stands in `Refusal` of the crate
 // verdict.
+#![tactic(auto)]
+
 ghost use Rattle.std.specs.Prelude.{◌≡◌, drop};
 ghost use Rattle.record.specs.Record.{decoded, fields_of, symbolKind, variableKind, applicationKind, inputKind};
 ghost use Rattle.verdict.specs.Refusal.{zeros, in_range};

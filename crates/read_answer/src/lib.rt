@@ -1,4 +1,6 @@
 // What the answer of a read means to the program proofread. `Reading` in specs/ has it as a definition.
+#![tactic(auto)]
+
 ghost use Rattle.std.specs.Prelude.{◌≡◌};
 ghost use Rattle.read_answer.specs.Reading.{read_of, taken_of};
 

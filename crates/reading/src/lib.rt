@@ -1,2 +1,4 @@
 // Records read one after another. `Reader` in specs/ says how this program goes about it.
+#![tactic(auto)]
+
 pub mod reader;

@@ -1,5 +1,7 @@
 // The readouts of a proof file. What they are, `Text` and `Readout` have in the crate verdict and `Appearance` in the crate appearance; what a piece of one is,
 // `Pieces` in the crate units. In specs/, `Contract` has what this crate promises.
+#![tactic(auto)]
+
 mod piece;
 
 ghost use Rattle.record.specs.Record.{old_file};

@@ -1,4 +1,6 @@
 // A piece of the readout with its progress in cells, as C has it. `ExportedReadout` in specs/ of the crate exported_readout says what it promises.
+#![tactic(auto)]
+
 ghost use Rattle.record.specs.Record.{old_file};
 ghost use Rattle.entry.specs.Progress.{tables_with};
 ghost use Rattle.verdict.specs.Readout.{clause_line};

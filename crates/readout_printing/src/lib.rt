@@ -1,4 +1,6 @@
 // The file of an input checked once, and its readout printed by what the check left.
+#![tactic(auto)]
+
 ghost use Rattle.units.specs.Units.{AfterCheck};
 ghost use Rattle.input_check.specs.Checking.{Holds};
 

@@ -7,7 +7,7 @@ use native.Mathlib.Omega.{arith}
 use lib.ListN.{length, get_or, take, drop, take-append-drop, length-append, length-drop, drop_of_length-le}
 use lib.Seq.{length-take-le, drop-cons, get_or-drop, get_or-take, take_at, drop_at}
 use Rattle.record.specs.Bytes.{low_then_high, field_bytes, day_bytes, record_bytes, bytes_in, DaysFit, Fits, AllFit, Bytes}
-use Rattle.record.specs.Record.{Record, File, in_form, record_length, record_count, kind_of, count_of, fields_of, decoded, decoded_in, parts, records}
+use Rattle.record.specs.Record.{Record, File, in_form, record_length, record_count, fields_of, decoded, decoded_in, parts, records}
 use Rattle.record.proofs.Records.{HasDays, Shaped, HaveDays, decoded_parts}
 use Rattle.record.specs.declared.Form.{Form}
 use Rattle.record.specs.declared.Form.TheVariants.{Old, New}

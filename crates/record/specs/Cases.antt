@@ -1,7 +1,7 @@
 -- Document 01, "The file", in bytes: byte 0 is the kind, byte 1 a count, and bytes 2 to 15 are seven fields, each with its low byte first. Document 02, Q-11: in the
 -- new form bytes 16 to 19 are two days, written the same way. And records by their kind.
 use Rattle.std.specs.Prelude.{◌≡◌, Bool, List, [], ◌∷◌, ◌++◌, map, ℕ, replicate}
-use Rattle.std.proofs.Math.Option.{none, some}
+use Rattle.std.proofs.Math.Option.{none}
 use Rattle.record.specs.Bytes.{bytes_in, file_bytes}
 use Rattle.record.specs.Record.{pick, Record, old_file, new_file, with_days, records}
 use Rattle.record.specs.Sorts.{is_symbol, is_row, is_input, is_step, is_clause, is_window, how_many}

@@ -1,5 +1,7 @@
 // The records of a proof file: sixteen bytes each, or twenty in the new form, handed out as a part of the caller's file and never copied. Every
 // function here takes any number and any bytes.
+#![tactic(auto)]
+
 ghost use Rattle.std.specs.Prelude.{◌≡◌, get_or};
 ghost use Rattle.record.specs.Record.{old_file, new_file, in_form, record_count, record_part, kind_of, count_of, field_of};
 

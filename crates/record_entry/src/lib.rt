@@ -1,5 +1,7 @@
 // Records of kind 1 to 3: each is tested in the order of the numbers that it can be refused with, and then entered in the tables. `Program`
 // in specs/ of the crate entry has the contracts.
+#![tactic(auto)]
+
 ghost use Rattle.std.specs.Prelude.{◌≡◌, ◌≤◌, ◌<◌};
 ghost use Rattle.record.specs.Record.{in_form, count_of};
 ghost use Rattle.distinct.specs.Index.{Indexed};

@@ -1,4 +1,6 @@
 // The seven fields of a record at once, and an input clause's literals read out as seven numbers. `Reader` in specs/ has what is read out.
+#![tactic(auto)]
+
 ghost use Rattle.std.specs.Prelude.{◌≡◌};
 ghost use Rattle.record.specs.Record.{in_form, fields_of};
 ghost use Rattle.record_fields.specs.Reader.{clause_literals};

@@ -1,4 +1,6 @@
 // One record, read by its kind. `Progress` in specs/ of the crate entry has the contract.
+#![tactic(auto)]
+
 ghost use Rattle.record.specs.Record.{in_form};
 ghost use Rattle.distinct.specs.Index.{Indexed};
 ghost use Rattle.entry.specs.Program.{rows_after};

@@ -1,5 +1,7 @@
 // Records of kind 5 and 7: a resolve, on one right literal or on several. Its literals are looked up and its tests made here; on the atoms that were
 // found the crate resolvents goes on. `Stepping` in specs/ of the crate inference has the contracts.
+#![tactic(auto)]
+
 ghost use Rattle.record.specs.Record.{in_form, record_part, kind_of};
 ghost use Rattle.inference.specs.Stepping.{BeforeStep, ResolveKind, StepRead};
 

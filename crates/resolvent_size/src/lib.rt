@@ -1,5 +1,7 @@
 // How large a resolvent is, by the cells of its parents, before it is made: its literals and its maximum index, with document 01's limits. `Size` in
 // specs/ has the contract.
+#![tactic(auto)]
+
 ghost use Rattle.std.specs.Prelude.{◌≡◌};
 ghost use Rattle.resolvent_size.specs.Size.{Sizeable, size_of};
 

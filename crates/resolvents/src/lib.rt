@@ -1,5 +1,7 @@
 // A resolve on atoms that were found: the limits on its result, outlines, unification, and its end. `Stepping` in specs/ of the crate inference
 // has the contracts.
+#![tactic(auto)]
+
 ghost use Rattle.inference.specs.Stepping.{ResolveNamed, StepRead};
 
 use entry::entry::{Counts, Entered};

@@ -1,5 +1,7 @@
 // What comes after the check of a file that is to be converted: the number of records is looked at, and then the file is written. In specs/,
 // `Rewritten` says how the parts of this program go about it.
+#![tactic(auto)]
+
 ghost use Rattle.record.specs.Record.{in_form, old_file, new_file};
 ghost use Rattle.rewriting.specs.Rewritten.{Convertible, Rewritten};
 

@@ -1,5 +1,7 @@
 // The right literals that a resolve names (document 02, Q-3): looked up one after another, and their atoms listed, two cells for each, its row
 // and its index. `Rights` in specs/ of the crate inference has the contracts.
+#![tactic(auto)]
+
 ghost use Rattle.std.specs.Prelude.{◌≡◌, ◌&&◌, not, ◌≤◌, ◌<◌, length};
 ghost use Rattle.verdict.specs.Refusal.{equal_signs};
 ghost use Rattle.inference.specs.Rights.{AtomListed, RightsNamed, RightsTested};

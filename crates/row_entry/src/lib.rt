@@ -1,5 +1,7 @@
 // A row, entered in the node table as a row of its own or as a repeat of the earliest equal one. `Program` in specs/ of the crate entry has
 // the contracts.
+#![tactic(auto)]
+
 ghost use Rattle.std.specs.Prelude.{◌≡◌, ◌<◌};
 ghost use Rattle.distinct.specs.Index.{Indexed};
 ghost use Rattle.entry.specs.Program.{RowReady, rows_after, more_rows, row_left, row_entered};

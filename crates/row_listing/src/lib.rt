@@ -1,4 +1,6 @@
 // A row listed by its bucket, as the newest of it. `Index` in specs/ of the crate distinct has the contracts.
+#![tactic(auto)]
+
 ghost use Rattle.std.specs.Prelude.{◌≡◌, ◌+◌, ◌<◌, length};
 ghost use Rattle.distinct.specs.Rows.{node_at};
 ghost use Rattle.distinct.specs.Index.{bucket_of, Indexed, Listable};

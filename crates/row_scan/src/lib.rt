@@ -1,4 +1,6 @@
 // A row compared with given cells, and the lowest row that has them, by going through the table. `Rows` in specs/ of the crate distinct has the contracts.
+#![tactic(auto)]
+
 ghost use Rattle.std.specs.Prelude.{◌≡◌, ◌∷◌, ◌≤◌, ◌<◌, length};
 ghost use Rattle.unification.specs.Repeated.{equal_lists};
 ghost use Rattle.distinct.specs.Rows.{node_at, row_with_cells, found_row};

@@ -1,4 +1,6 @@
 // The row that has given cells, found by its bucket. `Rows` and `Index` in specs/ of the crate distinct have the contracts.
+#![tactic(auto)]
+
 ghost use Rattle.std.specs.Prelude.{◌≡◌, ◌∷◌};
 ghost use Rattle.distinct.specs.Rows.{row_with_cells, found_row};
 ghost use Rattle.distinct.specs.Index.{Findable};

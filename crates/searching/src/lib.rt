@@ -1,4 +1,6 @@
 // The first step of a file, and the first symbol of a second file that differs from the first's.
+#![tactic(auto)]
+
 ghost use Rattle.std.specs.Prelude.{◌≡◌, ◌≤◌, ◌<◌, length};
 ghost use Rattle.record.specs.Record.{old_file, decoded, records, record_count};
 ghost use Rattle.record.specs.Sorts.{is_step};

@@ -1,4 +1,6 @@
 // How many clauses a record makes, by its kind. `Sorts` in specs/ of the crate record says which records make one.
+#![tactic(auto)]
+
 ghost use Rattle.std.specs.Prelude.{◌≡◌};
 ghost use Rattle.record.specs.Record.{decoded};
 ghost use Rattle.record.specs.Sorts.{is_clause, one};

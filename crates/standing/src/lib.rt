@@ -1,5 +1,7 @@
 // The answer on a file that was read, on a day: which clauses are in force, and the first without literals among them. `Given` in specs/ of the crate answer
 // has the contracts.
+#![tactic(auto)]
+
 ghost use Rattle.std.specs.Prelude.{◌≡◌, length};
 ghost use Rattle.record.specs.Record.{in_form};
 ghost use Rattle.force.specs.Flags.{flags_in_force};

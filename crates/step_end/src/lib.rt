@@ -1,5 +1,7 @@
 // The end of a step: one that went through is entered, and a refused one leaves no binding behind. `Stepping` in specs/ of the crate inference
 // has the contracts.
+#![tactic(auto)]
+
 ghost use Rattle.std.specs.Prelude.{◌≡◌, ◌∷◌};
 ghost use Rattle.inference.specs.Stepping.{Finishing, finished, step_finished};
 

@@ -1,5 +1,7 @@
 // Tests of a step by its own bytes: the fields that it uses, and the right literals of a resolve. `Fields` in specs/ of the crate fields has the
 // contracts.
+#![tactic(auto)]
+
 ghost use Rattle.std.specs.Prelude.{◌≡◌, ◌≤◌, take, drop};
 ghost use Rattle.record.specs.Record.{decoded, fields_of, severalKind};
 ghost use Rattle.verdict.specs.Refusal.{in_range, rising};

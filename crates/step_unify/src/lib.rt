@@ -1,5 +1,7 @@
 // The unification of a step: the atoms that it names, over the bindings of its parents, which are loaded first. `Stepping` in specs/ of the crate
 // inference has the contracts.
+#![tactic(auto)]
+
 ghost use Rattle.std.specs.Prelude.{◌≡◌};
 ghost use Rattle.unify.specs.Unifying.{outcome_of};
 ghost use Rattle.verdict.specs.Step.{unify_resolve, unify_factor};

@@ -1,5 +1,7 @@
 // The tables that the caller lends, cell by cell. A read outside gives 0 and a write outside does nothing. `Cells` in specs/ has the
 // contracts.
+#![tactic(auto)]
+
 ghost use Rattle.std.specs.Prelude.{◌≡◌, ◌≤◌, length, get_or, set};
 ghost use Rattle.tables.specs.Cells.{cleared_part, with_clause_cells};
 

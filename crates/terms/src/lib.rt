@@ -1,5 +1,7 @@
 // A term written out, with the occurrences that may be written counted down: a term that has more is broken off.
 // `Text` of the crate verdict has what its text is, over how variables are named; `Writing` in specs/ says how the parts of this program go about it.
+#![tactic(auto)]
+
 ghost use Rattle.std.specs.Prelude.{◌≡◌, length};
 ghost use Rattle.text.specs.Buffer.{Wrote};
 ghost use Rattle.terms.specs.Writing.{Sized, mark_before, closing_text, WritingReady, WritingArgumentsReady, WritesTerm, WritesArguments, FewerOccurrencesLeft, NoMoreOccurrencesLeft};

@@ -1,5 +1,7 @@
 // Bytes and numbers written into a buffer. Every writer takes the position to write at and answers the position after what it
 // wrote; what does not fit is dropped, so that no writer asks for room.
+#![tactic(auto)]
+
 ghost use Rattle.std.specs.Prelude.{◌≡◌, [], ◌∷◌, ◌++◌, ◌+◌, ◌<◌, length};
 ghost use Rattle.verdict.specs.Text.{decimal};
 ghost use Rattle.text.specs.Buffer.{Wrote, digit_text};

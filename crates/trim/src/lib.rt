@@ -1,5 +1,7 @@
 // A proof file trimmed to what its accepted clause uses (document 02, Q-12). What that is, and what is shown of it, the crate trimming has. In specs/, `Contract` has
 // what this crate promises. How the records are marked and written is in the crate trim_kept.
+#![tactic(auto)]
+
 ghost use Rattle.std.specs.Prelude.{◌≤◌, length};
 ghost use Rattle.entry.specs.Progress.{tables_with};
 ghost use Rattle.trim.specs.Contract.{TrimAnswered};

@@ -1,4 +1,6 @@
 // The trim of a proof file with its answer in cells, as C has it. `ExportedTrim` in specs/ of the crate exported_trim says what it promises.
+#![tactic(auto)]
+
 ghost use Rattle.entry.specs.Progress.{tables_with};
 ghost use Rattle.exported_trim.specs.ExportedTrim.{ExportedTrim};
 

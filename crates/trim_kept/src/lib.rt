@@ -1,5 +1,7 @@
 // A file trimmed to what an accepted clause uses, after the check: its records are marked, then written. In specs/, `KeptRecords` has the whole as one
 // equation with the crate marking.
+#![tactic(auto)]
+
 ghost use Rattle.std.specs.Prelude.{◌≡◌, map};
 ghost use Rattle.record.specs.Bytes.{file_bytes};
 ghost use Rattle.raising.specs.Wrapped.{wrapped};

@@ -2,6 +2,8 @@
 // unification is stands in the crate unification; `Unifying` in specs/ has what this program promises of it, and `Pairs` the contracts of the walks over
 // pairs. What is to be done with two sides that were followed is in the crate unify_meet, a variable bound in unify_bind, the walks in unify_pairs,
 // and what a step calls in unify_atoms.
+#![tactic(auto)]
+
 pub mod bindings;
 
 // The work left and the number of bindings held; or the reason for the refusal, 10 to 13.

@@ -1,4 +1,6 @@
 // Unification of two atoms, with the work and the bindings that a step may take. `Unifying` in specs/ of the crate unify has the contract.
+#![tactic(auto)]
+
 ghost use Rattle.std.specs.Prelude.{[], ◌∷◌};
 ghost use Rattle.unify.specs.Unifying.{Ready, Answered};
 

@@ -1,4 +1,6 @@
 // A variable bound: the occurrence test, the binding written, and its value. `Pairs` in specs/ of the crate unify has the contract.
+#![tactic(auto)]
+
 ghost use Rattle.std.specs.Prelude.{◌≡◌, length};
 ghost use Rattle.unify.specs.Pairs.{BindReady, Bound, Filed, NoMoreWorkLeft};
 

@@ -1,5 +1,7 @@
 // Unification of an atom with several others in turn, with the work and the bindings that a step may take for all of them. `Unifying` in specs/ of the
 // crate unify has the contract.
+#![tactic(auto)]
+
 ghost use Rattle.unify.specs.Unifying.{pairs_from, ReadyForEach, Answered};
 
 use following::nodes::Nodes;

@@ -1,4 +1,6 @@
 // Two sides that were followed: what is to be done with them. `Pairs` in specs/ of the crate unify has the contracts.
+#![tactic(auto)]
+
 ghost use Rattle.std.specs.Prelude.{◌≡◌, length};
 ghost use Rattle.following.specs.declared.follow.Followed.TheVariants.{Application};
 ghost use Rattle.unify.specs.Pairs.{Meets};

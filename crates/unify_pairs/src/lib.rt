@@ -1,5 +1,7 @@
 // The unification of two expressions, pair by pair. Every pair taken up costs one unit of work. `Pairs` in specs/ of the crate unify has the
 // contracts. The pair walk calls the argument walk and that calls the pair walk; the work left falls around the cycle.
+#![tactic(auto)]
+
 ghost use Rattle.std.specs.Prelude.{◌≡◌, length};
 ghost use Rattle.unify.specs.Pairs.{PairReady, ArgumentsReady, Paired, ArguedBefore, Filed, LessWorkLeft, NoMoreWorkLeft};
 

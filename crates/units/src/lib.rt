@@ -1,5 +1,7 @@
 // What a piece of a readout is made of: the line of a clause, with the first line before it for clause 0. Without clauses the first
 // line stands alone.
+#![tactic(auto)]
+
 ghost use Rattle.std.specs.Prelude.{◌≡◌};
 ghost use Rattle.units.specs.Pieces.{units_within};
 ghost use Rattle.units.specs.Units.{UnitReady, UnitWritten};

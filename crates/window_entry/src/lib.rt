@@ -1,5 +1,7 @@
 // A record of kind 8: the first and the last day of an input clause. It is no clause, and no table has it.
 // `Window` in specs/ has the contract.
+#![tactic(auto)]
+
 ghost use Rattle.std.specs.Prelude.{◌≡◌, length};
 ghost use Rattle.window_entry.specs.Window.{window_entered};
 

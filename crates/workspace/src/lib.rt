@@ -1,5 +1,7 @@
 // What the caller lends besides the four tables: a node table, a table of origins and an array of values, whatever they hold. A reference to
 // an array that is lent as a slice shows the length that its type has.
+#![tactic(auto)]
+
 ghost use Rattle.std.specs.Prelude.{◌≡◌, length};
 ghost use Rattle.reading.specs.Reader.{clear_table};
 

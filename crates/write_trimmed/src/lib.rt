@@ -1,4 +1,6 @@
 // The marked records of a file, written with new numbers. In specs/, `Writing` has the contracts; which records they are stands in the crate marking.
+#![tactic(auto)]
+
 pub mod numbering;
 
 ghost use Rattle.record.specs.Bytes.{file_bytes};

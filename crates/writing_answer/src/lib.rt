@@ -1,5 +1,7 @@
 // The answer of a function that writes a file, as the program gives it, and the refusal of an input file as such an answer. In specs/, `Given` has its four numbers,
 // and those of a refusal.
+#![tactic(auto)]
+
 ghost use Rattle.std.specs.Prelude.{◌≡◌};
 ghost use Rattle.writing_answer.specs.Given.{writing_given, refusal_given};
 

@@ -11,7 +11,7 @@ use Rattle.record.specs.Sorts.{how_many}
 use Rattle.convert_old.proofs.old_count.Given as goal
 
 abbrev pub invariant-loop-k : goal.invariant-loop-k
-invariant-loop-k l =    (l.k ≤ l.count) × (l.n ≤ l.count + l.k) × Counted (new_file l.file) is_dated l.count l.k l.n
+invariant-loop-k l = (l.k ≤ l.count) × (l.n ≤ l.count + l.k) × Counted (new_file l.file) is_dated l.count l.k l.n
 
 abbrev pub decreases-loop-k : goal.decreases-loop-k
-decreases-loop-k l =    l.count - l.k
+decreases-loop-k l = l.count - l.k

@@ -12,7 +12,7 @@ use borrow.Author.Rules.{rules}
 use Rattle.fields.proofs.literal_rows_below.Given as goal
 
 abbrev pub invariant-loop-i : goal.invariant-loop-i
-invariant-loop-i l =    (l.end ≤ 7) × (all_below l.limit (rows_in (take (l.end - l.i) (drop l.i (fields_of l.part)))) ≡ all_below l.limit (map (λ l. l.1) (input_literals (decoded l.part))))
+invariant-loop-i l = (l.end ≤ 7) × (all_below l.limit (rows_in (take (l.end - l.i) (drop l.i (fields_of l.part)))) ≡ all_below l.limit (map (λ l. l.1) (input_literals (decoded l.part))))
 
 abbrev pub decreases-loop-i : goal.decreases-loop-i
-decreases-loop-i l =    l.end - l.i
+decreases-loop-i l = l.end - l.i

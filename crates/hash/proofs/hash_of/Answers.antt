@@ -1,8 +1,8 @@
-use mathlib.Core.Path.{◌≡◌, refl, sym, ap, ◌∙◌}
-use Prim.Native.Nat.{ℕ, ◌+◌, ◌-◌, ◌≤◌}
+use mathlib.Core.Path.{refl, sym, ap, ◌∙◌}
+use Prim.Native.Nat.{ℕ, ◌+◌}
 use native.Mathlib.Omega.{arith}
-use lib.ListN.{length, drop}
-use Rattle.hash.specs.Hash.{start, hash_cells}
+use lib.ListN.{drop}
+use Rattle.hash.specs.Hash.{hash_cells}
 use Rattle.hash.proofs.HashLaws.{cells_next, cells_done}
 use Rattle.hash.proofs.hash_of.Goals as goal
 

@@ -10,7 +10,7 @@ use Rattle.named_literals.proofs.Origins.{from_itself, walked, walk_there, walk_
 use Rattle.literal_walk.proofs.input_place.Given as goal
 
 abbrev pub invariant-loop-up : goal.invariant-loop-up
-invariant-loop-up l =    (B : List ℕ) (d : Derivation) → Stored l.origins l.clauses B l.c d → ComesFrom l.origins l.clauses B d l.n l.clause l.number l.added
+invariant-loop-up l = (B : List ℕ) (d : Derivation) → Stored l.origins l.clauses B l.c d → ComesFrom l.origins l.clauses B d l.n l.clause l.number l.added
 
 abbrev pub decreases-loop-up : goal.decreases-loop-up
-decreases-loop-up l =    l.clause
+decreases-loop-up l = l.clause

@@ -1,8 +1,6 @@
 use mathlib.Core.Path.{sym, ◌∙◌}
-use Prim.Native.Nat.{◌-◌}
 use native.Mathlib.Omega.{arith}
-use lib.ListN.{length}
-use Rattle.pack.proofs.PackLaws.{Passed, inside, passed_none, passed_more, passed_all_lem, passed_cut}
+use Rattle.pack.proofs.PackLaws.{inside, passed_none, passed_more, passed_all_lem, passed_cut}
 use Rattle.pack.proofs.count_files.Goals as goal
 
 pub loop-at-init : goal.loop-at-init

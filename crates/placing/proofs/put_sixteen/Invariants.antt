@@ -8,7 +8,7 @@ use Rattle.placing.proofs.Placing.{place_none, byte_placed}
 use Rattle.placing.proofs.put_sixteen.Given as goal
 
 abbrev pub invariant-loop-i : goal.invariant-loop-i
-invariant-loop-i l =    (l.i ≤ 16) × (length l.output ≡ length l.initial.output) × (l.output ≡ placed_at l.at (take l.i l.part) l.initial.output)
+invariant-loop-i l = (l.i ≤ 16) × (length l.output ≡ length l.initial.output) × (l.output ≡ placed_at l.at (take l.i l.part) l.initial.output)
 
 abbrev pub decreases-loop-i : goal.decreases-loop-i
-decreases-loop-i l =    16 - l.i
+decreases-loop-i l = 16 - l.i

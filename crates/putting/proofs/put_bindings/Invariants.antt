@@ -10,7 +10,7 @@ use borrow.Author.Rules.{rules}
 use Rattle.putting.proofs.put_bindings.Given as goal
 
 abbrev pub invariant-loop-k : goal.invariant-loop-k
-invariant-loop-k l =    (length l.values ≡ 524416) × (l.k ≤ l.n) × (l.values ≡ put_bindings l.nodes l.offset (bindings_from l.bindings l.first l.k) l.initial.values)
+invariant-loop-k l = (length l.values ≡ 524416) × (l.k ≤ l.n) × (l.values ≡ put_bindings l.nodes l.offset (bindings_from l.bindings l.first l.k) l.initial.values)
 
 abbrev pub decreases-loop-k : goal.decreases-loop-k
-decreases-loop-k l =    l.n - l.k
+decreases-loop-k l = l.n - l.k

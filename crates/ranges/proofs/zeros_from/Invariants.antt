@@ -9,7 +9,7 @@ use borrow.Author.Rules.{rules}
 use Rattle.ranges.proofs.zeros_from.Given as goal
 
 abbrev pub invariant-loop-i : goal.invariant-loop-i
-invariant-loop-i l =    zeros (drop l.i (fields_of l.part)) ≡ zeros (drop l.from (fields_of l.part))
+invariant-loop-i l = zeros (drop l.i (fields_of l.part)) ≡ zeros (drop l.from (fields_of l.part))
 
 abbrev pub decreases-loop-i : goal.decreases-loop-i
-decreases-loop-i l =    7 - l.i
+decreases-loop-i l = 7 - l.i

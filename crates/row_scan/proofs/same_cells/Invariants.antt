@@ -12,7 +12,7 @@ use borrow.Author.Rules.{rules}
 use Rattle.row_scan.proofs.same_cells.Given as goal
 
 abbrev pub invariant-loop-i : goal.invariant-loop-i
-invariant-loop-i l =    (l.i ≤ 7) × (equal_lists (numbers_from l.nodes (8 * l.r) l.i) (drop l.i l.numbers) ≡ equal_lists (node_at l.nodes l.r) (l.code ∷ l.numbers))
+invariant-loop-i l = (l.i ≤ 7) × (equal_lists (numbers_from l.nodes (8 * l.r) l.i) (drop l.i l.numbers) ≡ equal_lists (node_at l.nodes l.r) (l.code ∷ l.numbers))
 
 abbrev pub decreases-loop-i : goal.decreases-loop-i
-decreases-loop-i l =    7 - l.i
+decreases-loop-i l = 7 - l.i

@@ -16,8 +16,8 @@ pub same_cells-requires : goal.same_cells-requires
 same_cells-requires c =
     let p = c.requires in
     let h = c.loop-row-test.true in
-    let m = p.1.1 in
-    record { nodes_len = p.0; numbers_len = p.1.0; r_bound = omega arith }
+    let m = p.n_bound in
+    record { nodes_len = p.nodes_len; numbers_len = p.numbers_len; r_bound = omega arith }
 
 pub returns-then-same_cells : goal.returns-then-same_cells
 returns-then-same_cells c =

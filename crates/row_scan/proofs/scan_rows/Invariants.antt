@@ -10,7 +10,7 @@ use borrow.Author.Rules.{rules}
 use Rattle.row_scan.proofs.scan_rows.Given as goal
 
 abbrev pub invariant-loop-row : goal.invariant-loop-row
-invariant-loop-row l =    (row_with_cells l.nodes l.row (l.code ∷ l.numbers) ≡ none) × (l.row ≤ l.n)
+invariant-loop-row l = (row_with_cells l.nodes l.row (l.code ∷ l.numbers) ≡ none) × (l.row ≤ l.n)
 
 abbrev pub decreases-loop-row : goal.decreases-loop-row
-decreases-loop-row l =    l.n - l.row
+decreases-loop-row l = l.n - l.row

@@ -8,7 +8,7 @@ use Rattle.searching.proofs.SearchSteps.{first_ended, goes_on, goes_on_whole, en
 use Rattle.searching.proofs.first_other.Given as goal
 
 abbrev pub invariant-loop-i : goal.invariant-loop-i
-invariant-loop-i l =    (l.i ≤ record_count (old_file l.first)) × (l.j ≤ 4096) × (others_from l.first l.second l.i l.j ≡ others_from l.first l.second 0 0)
+invariant-loop-i l = (l.i ≤ record_count (old_file l.first)) × (l.j ≤ 4096) × (others_from l.first l.second l.i l.j ≡ others_from l.first l.second 0 0)
 
 abbrev pub decreases-loop-i : goal.decreases-loop-i
-decreases-loop-i l =    (record_count (old_file l.first) + 4096) - (l.i + l.j)
+decreases-loop-i l = (record_count (old_file l.first) + 4096) - (l.i + l.j)

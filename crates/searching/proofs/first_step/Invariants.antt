@@ -7,7 +7,7 @@ use Rattle.searching.proofs.SearchSteps.{Same, no_step_left, step_here, step_lat
 use Rattle.searching.proofs.first_step.Given as goal
 
 abbrev pub invariant-loop-k : goal.invariant-loop-k
-invariant-loop-k l =    (l.k ≤ record_count (old_file l.file)) × Same l.file l.k
+invariant-loop-k l = (l.k ≤ record_count (old_file l.file)) × Same l.file l.k
 
 abbrev pub decreases-loop-k : goal.decreases-loop-k
-decreases-loop-k l =    record_count (old_file l.file) - l.k
+decreases-loop-k l = record_count (old_file l.file) - l.k

@@ -10,7 +10,7 @@ use borrow.Author.Rules.{rules}
 use Rattle.step_fields.proofs.rights_rise.Given as goal
 
 abbrev pub invariant-loop-i : goal.invariant-loop-i
-invariant-loop-i l =    (3 ≤ l.i) × (rising (take (l.n + 3 - l.i) (drop l.i (fields_of l.part))) ≡ rising (take l.n (drop 3 (fields_of l.part))))
+invariant-loop-i l = (3 ≤ l.i) × (rising (take (l.n + 3 - l.i) (drop l.i (fields_of l.part))) ≡ rising (take l.n (drop 3 (fields_of l.part))))
 
 abbrev pub decreases-loop-i : goal.decreases-loop-i
-decreases-loop-i l =    l.last - l.i
+decreases-loop-i l = l.last - l.i

@@ -7,7 +7,7 @@ use Rattle.text.proofs.Positions.{wrote_nothing, wrote_next, wrote_whole}
 use Rattle.text.proofs.put_word.Given as goal
 
 abbrev pub invariant-loop-n : goal.invariant-loop-n
-invariant-loop-n l =    (length l.text ≡ 131072) × (l.n ≤ length l.word) × Wrote l.initial.text l.text l.at l.end (take l.n l.word)
+invariant-loop-n l = (length l.text ≡ 131072) × (l.n ≤ length l.word) × Wrote l.initial.text l.text l.at l.end (take l.n l.word)
 
 abbrev pub decreases-loop-n : goal.decreases-loop-n
-decreases-loop-n l =    length l.word - l.n
+decreases-loop-n l = length l.word - l.n

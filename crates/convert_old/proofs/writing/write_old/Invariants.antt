@@ -5,7 +5,7 @@ use Rattle.convert_old.proofs.OldWritten.{OldGoing, old_first, few_clauses, next
 use Rattle.convert_old.proofs.writing.write_old.Given as goal
 
 abbrev pub invariant-loop-k : goal.invariant-loop-k
-invariant-loop-k l =    OldGoing l.file l.initial.output l.output l.next l.n l.k
+invariant-loop-k l = OldGoing l.file l.initial.output l.output l.next l.n l.k
 
 abbrev pub decreases-loop-k : goal.decreases-loop-k
-decreases-loop-k l =    l.count - l.k
+decreases-loop-k l = l.count - l.k

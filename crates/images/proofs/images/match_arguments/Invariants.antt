@@ -11,7 +11,7 @@ use borrow.Author.Rules.{rules}
 use Rattle.images.proofs.images.match_arguments.Given as goal
 
 abbrev pub invariant-loop-n : goal.invariant-loop-n
-invariant-loop-n l =    (length l.images ≡ 4096) × (1 ≤ l.n) × (l.n ≤ l.count + 1) × (arguments_imaged l.nodes l.r l.y (l.count + 1 - l.n) l.n l.images ≡ arguments_imaged l.nodes l.r l.y (node_arity l.nodes l.r) 1 l.initial.images)
+invariant-loop-n l = (length l.images ≡ 4096) × (1 ≤ l.n) × (l.n ≤ l.count + 1) × (arguments_imaged l.nodes l.r l.y (l.count + 1 - l.n) l.n l.images ≡ arguments_imaged l.nodes l.r l.y (node_arity l.nodes l.r) 1 l.initial.images)
 
 abbrev pub decreases-loop-n : goal.decreases-loop-n
-decreases-loop-n l =    l.count + 1 - l.n
+decreases-loop-n l = l.count + 1 - l.n

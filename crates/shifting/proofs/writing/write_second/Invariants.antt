@@ -7,7 +7,7 @@ use Rattle.raising.proofs.Raising.{tail_lent}
 use Rattle.shifting.proofs.writing.write_second.Given as goal
 
 abbrev pub invariant-loop-from : goal.invariant-loop-from
-invariant-loop-from l =    Reached l.second l.symbols l.rows l.clauses l.initial.output l.at l.output l.from l.next l.s
+invariant-loop-from l = Reached l.second l.symbols l.rows l.clauses l.initial.output l.at l.output l.from l.next l.s
 
 abbrev pub decreases-loop-from : goal.decreases-loop-from
-decreases-loop-from l =    length l.second - l.from
+decreases-loop-from l = length l.second - l.from

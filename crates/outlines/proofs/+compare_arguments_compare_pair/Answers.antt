@@ -1,0 +1,111 @@
+use native.Mathlib.Omega.{arith}
+use mathlib.Core.Path.{sym, ◌∙◌}
+use Prim.Native.Nat.{◌+◌, ◌-◌, ◌*◌, ◌≤◌}
+use Rattle.outlines.proofs.Walk.{pair_spent, pair_same, pair_left_variable, pair_right_variable, pair_clash, pair_opened, ArgumentsLeft, arguments_first, arguments_next, arguments_clash, arguments_agree}
+use borrow.Author.Rules.{rules}
+use Prim.Native.Nat.{ℕ, ◌<◌}
+use Rattle.outlines.proofs.+compare_arguments_compare_pair.Goals as goal
+
+compare-arguments-common-arity-requires :
+    (t : ℕ) → compare-arguments-lts.Need-common-arity-requires (compare-arguments-told t) (compare-arguments-at t) compare-arguments.Post
+    compare-arguments-Inv-loop
+    compare-arguments-μ-loop
+compare-arguments-common-arity-requires t c κs = search rules
+
+compare-arguments-compare-pair-requires :
+    (t : ℕ) → compare-arguments-lts.Need-compare-pair-requires (compare-arguments-told t) (compare-arguments-at t) compare-arguments.Post
+    compare-arguments-Inv-loop
+    compare-arguments-μ-loop
+compare-arguments-compare-pair-requires t c κs = search rules
+
+compare-pair-compare-arguments-requires :
+    (t : ℕ) → compare-pair-lts.Need-compare-arguments-requires (compare-pair-told t) (compare-pair-at t) compare-pair.Post
+compare-pair-compare-arguments-requires t c κs = search rules
+
+pub compare_arguments-loop-n-init : goal.compare_arguments-loop-n-init
+    compare-arguments-Inv-loop
+    compare-arguments-μ-loop
+compare_arguments-loop-n-init t c =
+    arguments_first _ _ _ _ _
+
+pub compare_arguments-overflow-add-part-of : goal.compare_arguments-overflow-add-part-of
+    compare-arguments-Inv-loop
+    compare-arguments-μ-loop
+compare_arguments-overflow-add-part-of t c = search rules
+
+pub compare_arguments-part_of-a-requires : goal.compare_arguments-part_of-a-requires
+    compare-arguments-Inv-loop
+    compare-arguments-μ-loop
+compare_arguments-part_of-a-requires t c = search rules
+
+pub compare_arguments-overflow-add-part-of-2 : goal.compare_arguments-overflow-add-part-of-2
+    compare-arguments-Inv-loop
+    compare-arguments-μ-loop
+compare_arguments-overflow-add-part-of-2 t c = search rules
+
+pub compare_arguments-part_of-b-requires : goal.compare_arguments-part_of-b-requires
+    compare-arguments-Inv-loop
+    compare-arguments-μ-loop
+compare_arguments-part_of-b-requires t c = search rules
+
+pub compare_arguments-enum_known-c : goal.compare_arguments-enum_known-c
+    compare-arguments-Inv-loop
+    compare-arguments-μ-loop
+compare_arguments-enum_known-c t c = search rules
+
+pub compare_arguments-enum_told-1 : goal.compare_arguments-enum_told-1
+    compare-arguments-Inv-loop
+    compare-arguments-μ-loop
+compare_arguments-enum_told-1 t c = search rules
+
+pub compare_arguments-returns-in_default : goal.compare_arguments-returns-in_default
+    compare-arguments-Inv-loop
+    compare-arguments-μ-loop
+compare_arguments-returns-in_default t c =
+    arguments_clash _ _ _ _ _ _ c.loop-n.n c.loop-n.invariant c.loop-n-test.true _ _ c.part_of-a.ensures c.part_of-b.ensures _ c.compare_pair-c.ensures c.common_arity-most.ensures.0 c.in_default.is
+
+pub compare_arguments-overflow_add-n : goal.compare_arguments-overflow_add-n
+    compare-arguments-Inv-loop
+    compare-arguments-μ-loop
+compare_arguments-overflow_add-n t c = search rules
+
+pub compare_arguments-loop-n-smaller : goal.compare_arguments-loop-n-smaller
+    compare-arguments-Inv-loop
+    compare-arguments-μ-loop
+compare_arguments-loop-n-smaller t c = search rules
+
+pub compare_arguments-loop-n-preserved : goal.compare_arguments-loop-n-preserved
+    compare-arguments-Inv-loop
+    compare-arguments-μ-loop
+compare_arguments-loop-n-preserved t c =
+    arguments_next _ _ _ _ _ _ c.loop-n.n c.loop-n.invariant c.loop-n-test.true _ _ c.part_of-a.ensures c.part_of-b.ensures _ c.compare_pair-c.ensures _ c.in-Agree.is
+
+pub compare_arguments-returns : goal.compare_arguments-returns
+    compare-arguments-Inv-loop
+    compare-arguments-μ-loop
+compare_arguments-returns t c =
+    arguments_agree _ _ _ _ _ _ _ c.loop-n.invariant (omega (arith, c.loop-n-test.false)) c.common_arity-most.ensures.0
+
+pub compare_pair-returns-then-pairs-eq0 : goal.compare_pair-returns-then-pairs-eq0
+compare_pair-returns-then-pairs-eq0 t c =
+    pair_spent _ _ _ _ c.if-pairs-eq0.true
+
+pub compare_pair-returns-then-r-q : goal.compare_pair-returns-then-r-q
+compare_pair-returns-then-r-q t c =
+    pair_same _ _ _ _ c.if-pairs-eq0.false c.if-r-q.true
+
+pub compare_pair-returns-then-is_variable : goal.compare_pair-returns-then-is_variable
+compare_pair-returns-then-is_variable t c =
+    pair_left_variable _ _ _ _ c.if-pairs-eq0.false c.if-r-q.false (sym c.is_variable.ensures ∙ c.if-is_variable.true)
+
+pub compare_pair-returns-then-is_variable-2 : goal.compare_pair-returns-then-is_variable-2
+compare_pair-returns-then-is_variable-2 t c =
+    pair_right_variable _ _ _ _ c.if-pairs-eq0.false c.if-r-q.false (sym c.is_variable.ensures ∙ c.if-is_variable.false) (sym c.is_variable-2.ensures ∙ c.if-is_variable-2.true)
+
+pub compare_pair-returns-then-part_of : goal.compare_pair-returns-then-part_of
+compare_pair-returns-then-part_of t c =
+    pair_clash _ _ _ _ c.if-pairs-eq0.false c.if-r-q.false (sym c.is_variable.ensures ∙ c.if-is_variable.false) (sym c.is_variable-2.ensures ∙ c.if-is_variable-2.false) (λ e. c.if-part_of.true (c.part_of.ensures ∙ e ∙ sym c.part_of-2.ensures))
+
+pub compare_pair-returns : goal.compare_pair-returns
+compare_pair-returns t c =
+    pair_opened _ _ _ _ _ c.if-pairs-eq0.false c.if-r-q.false (sym c.is_variable.ensures ∙ c.if-is_variable.false) (sym c.is_variable-2.ensures ∙ c.if-is_variable-2.false) (sym c.part_of.ensures ∙ c.if-part_of.false ∙ c.part_of-2.ensures) c.compare_arguments.ensures
