@@ -1,5 +1,5 @@
 -- Document 01, "The file": an input clause's literals are read out as seven numbers, beside their count.
-use Rattle.std.specs.Prelude.{List, [], ◌∷◌, ℕ, eqb}
+use Rattle.std.specs.Prelude.{[], ◌∷◌, ℕ, eqb}
 use Rattle.record.specs.Record.{pick, File, record_part, kind_of, count_of, fields_of}
 use Rattle.record_fields.specs.declared.ClauseLiterals.{ClauseLiterals}
 

@@ -4,14 +4,14 @@ use mathlib.Core.Path.{◌≡◌, refl, sym, ap, ap₂, ◌∙◌, subst}
 use mathlib.Core.Logic.{◌⊎◌, inl, inr}
 use mathlib.Core.Bool.{Bool, true, false}
 use mathlib.Core.List.{List, [], ◌∷◌}
-use Prim.Native.Nat.{ℕ, zero, suc, ◌≤◌, ◌<◌}
+use Prim.Native.Nat.{ℕ, zero, suc, ◌<◌}
 use native.Mathlib.Omega.{arith}
 use lib.Dec.{eqb, eqb→eq, eqb_refl}
 use lib.ListN.{length, get_or}
 use Rattle.record.specs.Record.{pick}
 use Rattle.unification.specs.Outlines.{most_outline_pairs, RowPair, OutlineTurn, agree, differ, argument_row_pairs, opened, after_turn, outline_turn, clash_within, outlines_clash, Compares, no_pair, one_pair, Position, top, argument, ClashAt, ClashFound}
 use Rattle.unification.specs.Row.{variable, Row, application, argument_terms, row_term}
-use Rattle.unification.specs.Term.{Term, Terms, app, nil, cons, apply, apply_all}
+use Rattle.unification.specs.Term.{Term, Terms, app, cons, apply, apply_all}
 use Rattle.unification.proofs.Lists.{Each}
 use Rattle.unification.proofs.Tests.{to_t, from_t, true_not_false}
 

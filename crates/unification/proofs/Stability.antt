@@ -8,7 +8,6 @@ use Rattle.unification.specs.Row.{variable, Row, application, Expression, Variab
 use Rattle.unification.specs.Unification.{turn, Task, unifying, testing, Turn, finished, go_on, stop, meet, test_one, without_work, with_work, run}
 use Rattle.unification.proofs.Meaning.{expression_of}
 use Rattle.unification.proofs.Ranges.{Kept, KeptArguments, kept_view_row, KeptTask, KeptEnd, kept_turn}
-use Rattle.unification.proofs.Solved.{agree}
 use Rattle.unification.proofs.Turns.{moves, After}
 
 module _ (variableOk : Variable → Type 0) (good : Expression → Type 0) (row row' : ℕ → Row) (agree : (e : Expression) → good e → row e.0 ≡ row' e.0) where

@@ -1,12 +1,12 @@
 -- A term against itself at another index: as many turns as it has symbols, and no binding. A tree is so counted by its levels, and not turn by turn.
 use mathlib.Core.Path.{◌≡◌, ap, ap₂, ◌∙◌}
-use mathlib.Core.Bool.{Bool, true, false}
+use mathlib.Core.Bool.{Bool, false}
 use mathlib.Core.List.{List, [], ◌∷◌}
 use Prim.Native.Nat.{ℕ, zero, suc, ◌+◌, ◌<◌}
 use native.Mathlib.Nat.{zero-add, suc-add}
 use native.Mathlib.Omega.{arith}
 use lib.Dec.{eqb}
-use Rattle.unification.specs.Environment.{follow, Binding, Environment, extend, View, applied, view_row, onward}
+use Rattle.unification.specs.Environment.{follow, Binding, Environment, extend, applied, view_row, onward}
 use Rattle.unification.specs.Row.{Row, application}
 use Rattle.unification.specs.Unification.{turn, overwork, failed, Pair, Task, unifying, go_on, argument_pairs, meet, without_work, with_work, run, Reaches, no_turn, one_turn}
 use Rattle.unification.proofs.Repeats.{itself}

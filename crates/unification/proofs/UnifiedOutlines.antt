@@ -1,14 +1,14 @@
 -- What unification makes equal has no clash of outlines, whatever the rows and the environment are: every pair that the comparison takes up
 -- is among those that unification still has to take up, and it meets the same symbols there.
-use mathlib.Core.Path.{◌≡◌, refl, sym, ap, ap₂, ◌∙◌, subst}
-use mathlib.Core.Bool.{Bool, true, false}
+use mathlib.Core.Path.{◌≡◌, refl, sym, ap, ◌∙◌, subst}
+use mathlib.Core.Bool.{Bool, true}
 use mathlib.Core.List.{List, [], ◌∷◌}
 use Prim.Native.Nat.{ℕ, zero, suc}
 use native.Mathlib.Omega.{arith}
-use Rattle.unification.specs.Environment.{follow, Binding, Environment, extend, unbound, link, View, applied, view_row}
-use Rattle.unification.specs.Outlines.{most_outline_pairs, RowPair, OutlineTurn, agree, differ, argument_row_pairs, after_turn, outline_turn, clash_within, outlines_clash}
-use Rattle.unification.specs.Row.{variable, Row, application, Expression}
-use Rattle.unification.specs.Unification.{Outcome, unified, failed, Pair, Task, unifying, testing, Turn, finished, go_on, stop, argument_pairs, run}
+use Rattle.unification.specs.Environment.{follow, Binding, Environment, extend, unbound, View, applied, view_row}
+use Rattle.unification.specs.Outlines.{most_outline_pairs, RowPair, OutlineTurn, argument_row_pairs, after_turn, outline_turn, clash_within, outlines_clash}
+use Rattle.unification.specs.Row.{Row, application, Expression}
+use Rattle.unification.specs.Unification.{Outcome, unified, failed, Pair, Task, unifying, testing, Turn, argument_pairs, run}
 use Rattle.unification.proofs.Meaning.{expression_of}
 use Rattle.unification.proofs.Outlines.{Sees, same_row, left_variable, right_variable, one_symbol, two_symbols, sees}
 use Rattle.unification.proofs.Tests.{true_not_false}

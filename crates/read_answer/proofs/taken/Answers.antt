@@ -1,6 +1,5 @@
 use mathlib.Core.Path.{sym, ap}
 use Rattle.read_answer.specs.Reading.{taken_of}
-use borrow.Author.Rules.{rules}
 use Rattle.read_answer.proofs.taken.Goals as goal
 
 pub returns-in-Bytes : goal.returns-in-Bytes
