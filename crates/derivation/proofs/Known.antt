@@ -3,8 +3,7 @@ use mathlib.Core.Path.{◌≡◌, refl, sym, ◌∙◌, subst}
 use mathlib.Core.Bool.{Bool, true, false, not}
 use mathlib.Core.Option.{Option, none, some}
 use mathlib.Core.List.{List, [], ◌∷◌, map}
-use Prim.Native.Nat.{ℕ, ◌-◌, ◌≤◌, ◌<◌}
-use native.Mathlib.Omega.{arith}
+use Prim.Native.Nat.{ℕ, ◌-◌, ◌<◌}
 use lib.Dec.{leb}
 use Rattle.record.specs.Record.{pick}
 use Rattle.unification.specs.Environment.{Binding, Environment, extend}
@@ -12,10 +11,9 @@ use Rattle.unification.specs.Row.{variable, Row, application, Expression}
 use Rattle.unification.specs.Unification.{most_work, most_links, unified, Pair, unifying, no_room}
 use Rattle.unification.proofs.Lists.{Each, each_append, each_map, each_more}
 use Rattle.unification.proofs.Ranges.{Kept, KeptPairs, KeptArguments, KeptEnd, kept_run}
-use Rattle.unification.proofs.Solved.{agree}
 use Rattle.unification.proofs.Stability.{run_agree}
 use Rattle.unification.proofs.Tests.{some_not_none, some_injective}
-use Rattle.derivation.specs.Derivation.{literals, input, Literal, RowLiteral, Derivation, resolve, factor, numbered, without, numbered_all, without_all, raise, pairs_with, raise_literal, maximum_index, raise_answer, joined, lookup, uses, Use}
+use Rattle.derivation.specs.Derivation.{literals, input, Literal, RowLiteral, Derivation, resolve, factor, numbered, without, numbered_all, without_all, pairs_with, raise_literal, maximum_index, raise_answer, joined, lookup, uses, Use}
 use Rattle.derivation.proofs.Literals.{each_numbered, each_without, each_numbered_all, each_without_all}
 use Rattle.derivation.proofs.Validity.{Unified, Valid, signed, each_signed, pairs_kept}
 

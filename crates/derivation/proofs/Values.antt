@@ -4,7 +4,7 @@ use mathlib.Core.Option.{Option, none, some}
 use mathlib.Core.List.{List, []}
 use Prim.Native.Nat.{ℕ}
 use lib.ListN.{length}
-use Rattle.unification.specs.Environment.{unbound, Respects}
+use Rattle.unification.specs.Environment.{Respects}
 use Rattle.unification.specs.Row.{Row, application, Expression, Variable, row_term}
 use Rattle.unification.specs.Term.{Term, apply}
 use Rattle.unification.proofs.Solved.{Solved, agree}

@@ -9,7 +9,7 @@ use lib.Dec.{eqb}
 use lib.ListN.{length, get_or, set, replicate, length-set, length-replicate}
 use lib.Seq.{get_or-set_same, get_or-set_other}
 use borrow.Author.Tests.{eqb-true, eqb-false}
-use Rattle.unification.specs.Nodes.{HasRow, has_row}
+use Rattle.unification.specs.Nodes.{HasRow}
 use Rattle.distinct.specs.Rows.{node_at, with_node, row_with_cells, found_row}
 use Rattle.distinct.specs.Index.{bucket_of, OnChain, first, later, Indexed, Findable, Listable}
 use Rattle.distinct.specs.declared.FoundRow.{FoundRow}

@@ -3,15 +3,14 @@ use mathlib.Core.Path.{◌≡◌, refl, sym, ap, ◌∙◌, subst}
 use mathlib.Core.Bool.{Bool, true, false}
 use mathlib.Core.List.{List, ◌∷◌}
 use mathlib.Core.Logic.{◌⊎◌, inl, inr}
-use Prim.Native.Nat.{ℕ, zero, suc, ◌+◌, ◌-◌, ◌≤◌, ◌<◌}
+use Prim.Native.Nat.{ℕ, zero, suc, ◌-◌, ◌≤◌, ◌<◌}
 use native.Mathlib.Omega.{arith}
-use lib.ListN.{length, get_or}
+use lib.ListN.{get_or}
 use Rattle.unification.specs.Nodes.{HasRow}
 use Rattle.unification.specs.Repeated.{equal_lists}
 use Rattle.unification.proofs.Tests.{true_not_false}
 use Rattle.distinct.specs.Rows.{node_at, row_with_cells, found_row}
-use Rattle.distinct.specs.Index.{bucket_of, OnChain, first, later, Indexed, Findable}
-use Rattle.distinct.specs.declared.FoundRow.{FoundRow}
+use Rattle.distinct.specs.Index.{bucket_of, OnChain, first, later, Findable}
 use Rattle.distinct.specs.declared.FoundRow.TheVariants.{At, Nowhere}
 use Rattle.distinct.proofs.Cells.{equal_lists_lem, lists_equal, listed_cells}
 use Rattle.distinct.proofs.Lowest.{none_has, one_has}

@@ -13,7 +13,7 @@ use Rattle.record.specs.Record.{pick}
 use Rattle.unification.specs.Environment.{follow, Environment, Ends}
 use Rattle.unification.specs.Nodes.{is_variable, part, HasRow, node_row, NodesOk}
 use Rattle.unification.specs.Row.{Expression, same}
-use Rattle.unification.specs.Unification.{most_links, full}
+use Rattle.unification.specs.Unification.{most_links}
 use Rattle.unification.specs.ValueArray.{slot, put, cell_of, index_of, InStep, Onward, one_link, more_links, Models}
 use Rattle.unification.proofs.Meaning.{with}
 use Rattle.unification.proofs.Tests.{same_eq, same_refl, some_not_none, some_injective}

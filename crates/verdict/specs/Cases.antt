@@ -9,7 +9,6 @@ use Prim.Native.String.{String}
 use Rattle.record.specs.Bytes.{file_bytes}
 use Rattle.record.specs.Record.{pick, old_file, Record, records, resolveKind, severalKind}
 use Rattle.unification.specs.Unification.{most_work, Outcome, unified, failed}
-use Rattle.derivation.specs.Derivation.{Literal, Derivation}
 use Rattle.verdict.specs.Readout.{readout}
 use Rattle.verdict.specs.Refusal.{left_of, right_of, deleted_of}
 use Rattle.verdict.specs.State.{State, empty_state}

@@ -1,5 +1,4 @@
 use Rattle.distinct.proofs.Cells.{bucket_sum, bucket_room}
-use borrow.Author.Rules.{rules}
 use Rattle.distinct.proofs.bucket.Goals as goal
 
 pub returns : goal.returns

@@ -1,12 +1,9 @@
-use mathlib.Core.Path.{◌≡◌, refl, sym, ◌∙◌}
+use mathlib.Core.Path.{refl, sym, ◌∙◌}
 use native.Mathlib.Omega.{arith}
-use lib.ListN.{length}
 use Rattle.unification.specs.Unification.{occurs, overwork}
-use Rattle.following.specs.Walks.{Scanned}
-use Rattle.following.proofs.Occurrence.{less_le, less_no, no_more_no, looked_spent, looked_met, looked_into, looked_none, scan_start, scan_last, scan_broke, scan_next, Sought, sought_start, sought_then, sought_next, sought_followable, arguments_followable, scanned_followable}
+use Rattle.following.proofs.Occurrence.{less_le, less_no, no_more_no, looked_spent, looked_met, looked_into, looked_none, scan_start, scan_last, scan_broke, scan_next, sought_start, sought_then, sought_next, sought_followable, arguments_followable, scanned_followable}
 use Rattle.following.specs.declared.occurs.Occurs.TheVariants.{Yes, Spent}
-use borrow.Author.Rules.{rules}
-use Prim.Native.Nat.{ℕ, ◌+◌, ◌-◌, ◌*◌, ◌≤◌, ◌<◌}
+use Prim.Native.Nat.{◌+◌, ◌-◌}
 use Rattle.occurrence.proofs.+occurs_in_occurs_in_arguments.Goals as goal
 
 pub occurs_in_arguments-loop-n-init : goal.occurs_in_arguments-loop-n-init

@@ -1,14 +1,10 @@
 -- A call takes up one expression, so the measures are 2w for the test of an expression and 2w + 1 for the arguments before the last. What is
 -- left of the loop has the same answer as the whole.
-use mathlib.Core.Path.{◌≡◌, refl, sym, ◌∙◌}
-use native.Mathlib.Omega.{arith}
+use mathlib.Core.Path.{◌≡◌}
 use lib.ListN.{length}
-use Rattle.unification.specs.Unification.{occurs, overwork}
 use Rattle.following.specs.Walks.{Scanned}
-use Rattle.following.proofs.Occurrence.{less_le, less_no, no_more_no, looked_spent, looked_met, looked_into, looked_none, scan_start, scan_last, scan_broke, scan_next, Sought, sought_start, sought_then, sought_next, sought_followable, arguments_followable, scanned_followable}
-use Rattle.following.specs.declared.occurs.Occurs.TheVariants.{Yes, Spent}
-use borrow.Author.Rules.{rules}
-use Prim.Native.Nat.{ℕ, ◌+◌, ◌-◌, ◌*◌, ◌≤◌, ◌<◌}
+use Rattle.following.proofs.Occurrence.{Sought}
+use Prim.Native.Nat.{◌+◌, ◌-◌, ◌*◌, ◌≤◌}
 use Rattle.occurrence.proofs.+occurs_in_occurs_in_arguments.Given as goal
 
 abbrev pub decreases-occurs_in_arguments : goal.decreases-occurs_in_arguments

@@ -2,7 +2,6 @@
 use mathlib.Core.Path.{sym, ap, ◌∙◌}
 use mathlib.Core.Bool.{Bool}
 use Rattle.following.specs.Walks.{met_variable}
-use borrow.Author.Rules.{rules}
 use Rattle.occurrence.proofs.occurs_here.Goals as goal
 
 pub returns-then-is_same : goal.returns-then-is_same

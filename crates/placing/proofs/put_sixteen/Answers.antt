@@ -1,7 +1,7 @@
 use mathlib.Core.Path.{◌≡◌, refl, sym, ap, ◌∙◌}
-use Prim.Native.Nat.{ℕ, ◌-◌, ◌≤◌}
+use Prim.Native.Nat.{ℕ}
 use native.Mathlib.Omega.{arith}
-use lib.ListN.{length, take, length-set}
+use lib.ListN.{take, length-set}
 use Rattle.placing.specs.Placing.{placed_at}
 use Rattle.placing.proofs.Placing.{place_none, byte_placed}
 use Rattle.placing.proofs.put_sixteen.Goals as goal

@@ -1,10 +1,8 @@
 -- After each turn the first i bytes are placed.
-use mathlib.Core.Path.{◌≡◌, refl, sym, ap, ◌∙◌}
-use Prim.Native.Nat.{ℕ, ◌-◌, ◌≤◌}
-use native.Mathlib.Omega.{arith}
-use lib.ListN.{length, take, length-set}
+use mathlib.Core.Path.{◌≡◌}
+use Prim.Native.Nat.{◌-◌, ◌≤◌}
+use lib.ListN.{length, take}
 use Rattle.placing.specs.Placing.{placed_at}
-use Rattle.placing.proofs.Placing.{place_none, byte_placed}
 use Rattle.placing.proofs.put_sixteen.Given as goal
 
 abbrev pub invariant-loop-i : goal.invariant-loop-i

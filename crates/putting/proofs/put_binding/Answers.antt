@@ -1,7 +1,6 @@
 -- Each cell is inside its table, and no sum wraps: the binding is in range.
 use native.Mathlib.Omega.{arith}
 use Rattle.putting.proofs.Bindings.{number_small, cells_put_lem}
-use borrow.Author.Rules.{rules}
 use Rattle.putting.proofs.put_binding.Goals as goal
 
 pub overflow_cast-number : goal.overflow_cast-number

@@ -1,11 +1,7 @@
 use mathlib.Core.Path.{◌≡◌, refl, ap, ◌∙◌}
-use Prim.Native.Nat.{◌-◌, ◌≤◌}
 use native.Mathlib.Omega.{arith}
 use lib.ListN.{length}
-use Rattle.unification.specs.Bindings.{bindings_from}
-use Rattle.putting.specs.Putting.{put_bindings}
 use Rattle.putting.proofs.Bindings.{put_one, cells_room, binding_there}
-use borrow.Author.Rules.{rules}
 use Rattle.putting.proofs.put_bindings.Goals as goal
 
 pub loop-k-init : goal.loop-k-init

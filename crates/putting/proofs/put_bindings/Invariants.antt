@@ -1,12 +1,9 @@
 -- After k turns the first k bindings are in the array.
-use mathlib.Core.Path.{◌≡◌, refl, ap, ◌∙◌}
+use mathlib.Core.Path.{◌≡◌}
 use Prim.Native.Nat.{◌-◌, ◌≤◌}
-use native.Mathlib.Omega.{arith}
 use lib.ListN.{length}
 use Rattle.unification.specs.Bindings.{bindings_from}
 use Rattle.putting.specs.Putting.{put_bindings}
-use Rattle.putting.proofs.Bindings.{put_one, cells_room, binding_there}
-use borrow.Author.Rules.{rules}
 use Rattle.putting.proofs.put_bindings.Given as goal
 
 abbrev pub invariant-loop-k : goal.invariant-loop-k

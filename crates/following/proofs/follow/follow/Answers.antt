@@ -1,12 +1,6 @@
-use mathlib.Core.Path.{◌≡◌, sym, ◌∙◌}
-use Prim.Native.Nat.{ℕ, ◌≤◌}
+use mathlib.Core.Path.{sym, ◌∙◌}
 use native.Mathlib.Omega.{arith}
-use borrow.Author.Tests.{not-true, not-false}
-use lib.ListN.{length}
-use Rattle.unification.specs.Environment.{Environment}
-use Rattle.unification.specs.ValueArray.{Models, InStep}
-use Rattle.following.proofs.Halving.{Going, going_start, going_none, going_app, going_free, going_on}
-use borrow.Author.Rules.{rules}
+use Rattle.following.proofs.Halving.{going_start, going_none, going_app, going_free, going_on}
 use Rattle.following.proofs.follow.follow.Goals as goal
 
 pub loop-links-init : goal.loop-links-init

@@ -1,12 +1,9 @@
-use mathlib.Core.Path.{◌≡◌, sym, ◌∙◌}
+use mathlib.Core.Path.{◌≡◌}
 use Prim.Native.Nat.{ℕ, ◌≤◌}
-use native.Mathlib.Omega.{arith}
-use borrow.Author.Tests.{not-true, not-false}
 use lib.ListN.{length}
 use Rattle.unification.specs.Environment.{Environment}
 use Rattle.unification.specs.ValueArray.{Models, InStep}
-use Rattle.following.proofs.Halving.{Going, going_start, going_none, going_app, going_free, going_on}
-use borrow.Author.Rules.{rules}
+use Rattle.following.proofs.Halving.{Going}
 use Rattle.following.proofs.follow.follow.Given as goal
 
 abbrev pub invariant-loop-links : goal.invariant-loop-links

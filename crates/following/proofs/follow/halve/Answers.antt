@@ -1,5 +1,4 @@
 use Rattle.following.proofs.Halving.{halved_not, halved_free, halved_put}
-use borrow.Author.Rules.{rules}
 use Rattle.following.proofs.follow.halve.Goals as goal
 
 pub returns-then-q-ne0 : goal.returns-then-q-ne0

@@ -1,5 +1,4 @@
 use Rattle.unification.specs.Nodes.{is_variable}
-use borrow.Author.Rules.{rules}
 use Rattle.following.proofs.nodes.is_variable.Goals as goal
 
 pub returns : goal.returns

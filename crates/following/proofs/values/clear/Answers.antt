@@ -1,10 +1,8 @@
 use mathlib.Core.Path.{◌≡◌, refl, ◌∙◌}
-use Prim.Native.Nat.{◌+◌, ◌-◌, ◌*◌, ◌≤◌}
+use Prim.Native.Nat.{◌+◌, ◌*◌}
 use native.Mathlib.Omega.{arith}
-use lib.ListN.{length, length-set}
-use Rattle.following.specs.Clearing.{Cleared}
+use lib.ListN.{length-set}
 use Rattle.following.proofs.Clearing.{cleared_none, cleared_more}
-use borrow.Author.Rules.{rules}
 use Rattle.following.proofs.values.clear.Goals as goal
 
 pub loop-k-init : goal.loop-k-init

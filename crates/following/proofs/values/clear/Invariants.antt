@@ -1,10 +1,7 @@
-use mathlib.Core.Path.{◌≡◌, refl, ◌∙◌}
-use Prim.Native.Nat.{◌+◌, ◌-◌, ◌*◌, ◌≤◌}
-use native.Mathlib.Omega.{arith}
-use lib.ListN.{length, length-set}
+use mathlib.Core.Path.{◌≡◌}
+use Prim.Native.Nat.{◌-◌, ◌≤◌}
+use lib.ListN.{length}
 use Rattle.following.specs.Clearing.{Cleared}
-use Rattle.following.proofs.Clearing.{cleared_none, cleared_more}
-use borrow.Author.Rules.{rules}
 use Rattle.following.proofs.values.clear.Given as goal
 
 abbrev pub invariant-loop-k : goal.invariant-loop-k

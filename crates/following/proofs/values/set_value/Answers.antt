@@ -2,7 +2,6 @@ use mathlib.Core.Path.{sym, refl, ◌∙◌}
 use native.Mathlib.Omega.{arith}
 use lib.ListN.{length-set}
 use lib.Seq.{set_out}
-use borrow.Author.Rules.{rules}
 use Rattle.following.proofs.values.set_value.Goals as goal
 
 pub returns-then-at-lt524416 : goal.returns-then-at-lt524416

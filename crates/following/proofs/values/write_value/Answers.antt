@@ -2,7 +2,6 @@ use mathlib.Core.Path.{ap, ◌∙◌}
 use lib.ListN.{set}
 use Prim.Native.Nat.{◌+◌}
 use Rattle.unification.specs.ValueArray.{put}
-use borrow.Author.Rules.{rules}
 use Rattle.following.proofs.values.write_value.Goals as goal
 
 pub returns : goal.returns
