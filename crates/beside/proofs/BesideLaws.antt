@@ -1,19 +1,17 @@
 -- What the days beside a record do to its step: they refuse it, or it is the step of the record without them. And the tests of the program in turn.
-use mathlib.Core.Path.{◌≡◌, refl, sym, ap, ◌∙◌, subst}
+use mathlib.Core.Path.{◌≡◌, refl, sym, ◌∙◌}
 use mathlib.Core.Bool.{Bool, true, false, ◌&&◌}
-use mathlib.Core.Option.{some}
 use mathlib.Core.List.{List}
 use Prim.Native.Nat.{ℕ, ◌≤◌, ◌<◌}
 use native.Mathlib.Omega.{arith}
 use lib.Dec.{eqb, leb}
-use borrow.Author.Tests.{eq-eqb, ne_eqb, le-leb, lt-leb}
+use borrow.Author.Tests.{ne_eqb, le-leb, lt-leb}
 use Rattle.record.specs.Record.{pick, Record, otherKind, Kind, symbolKind, variableKind, applicationKind, inputKind, resolveKind, factorKind, severalKind, windowKind, kind_numbered, kind_of, field_of, decoded, decoded_in}
-use Rattle.unification.proofs.Tests.{both_true}
-use Rattle.verdict.specs.Refusal.{Reason, badKind, outOfRange, reason_number, tests, in_range, fields_in_range, kind_of_record}
+use Rattle.verdict.specs.Refusal.{Reason, badKind, outOfRange, reason_number, kind_of_record}
 use Rattle.verdict.specs.State.{State}
-use Rattle.verdict.specs.Step.{refused, Result, require, require_all, step}
+use Rattle.verdict.specs.Step.{refused, require, step}
 use Rattle.demands.specs.Conditions.{kind_below, kind_above, window_in_new_form, UnknownKind}
-use Rattle.demands.proofs.RangeTests.{KindOf, of_kind_lem, other_kind, kind_at, not_true, equal, unequal, at_most}
+use Rattle.demands.proofs.RangeTests.{KindOf, of_kind_lem, other_kind, kind_at, equal, unequal, at_most}
 use Rattle.demands.proofs.Resolution.{at_kind}
 use Rattle.derivation.proofs.Literals.{leb_false_lt}
 use Rattle.beside.specs.Beside.{refused_new_days, refused_days}

@@ -1,6 +1,6 @@
 -- Reading record by record, as a program does it: the state after k records, and what the next record makes of it.
 use mathlib.Core.Path.{◌≡◌, refl, sym, ap, ◌∙◌, subst}
-use mathlib.Core.Bool.{true, ◌&&◌}
+use mathlib.Core.Bool.{◌&&◌}
 use mathlib.Core.List.{List, [], ◌∷◌, ◌++◌, map}
 use Prim.Native.Nat.{ℕ, zero, suc, ◌+◌, ◌≤◌, ◌<◌}
 use native.Mathlib.Nat.{zero-add}
@@ -13,10 +13,10 @@ use Rattle.record.proofs.Records.{decoded_seven, decoded_count, records_length, 
 use Rattle.unification.specs.Row.{variable, Row, application}
 use Rattle.unification.proofs.Lists.{Each}
 use Rattle.unification.proofs.Tests.{to_t, both_true}
-use Rattle.derivation.specs.Derivation.{input, input_literals, Derivation, resolve, factor}
-use Rattle.verdict.specs.Refusal.{tests, Reason, kind_of_record, zeros, argument_rows, left_of, right_numbers, right_of, deleted_of}
+use Rattle.derivation.specs.Derivation.{Derivation, resolve, factor}
+use Rattle.verdict.specs.Refusal.{Reason, kind_of_record, zeros, argument_rows, left_of, right_numbers, right_of, deleted_of}
 use Rattle.verdict.specs.State.{State, empty_state, with_row, with_clause, rows_of, earliest_of, record_of_row, derivations, next_clause}
-use Rattle.verdict.specs.Step.{stands, refused, Result, step, unify_resolve, unify_factor, new_application, new_literals, enter_resolvent, enter, read, all_stand, refused_at}
+use Rattle.verdict.specs.Step.{stands, refused, Result, step, unify_resolve, unify_factor, new_application, enter_resolvent, enter, read, all_stand, refused_at}
 use Rattle.verdict.specs.Verdict.{ending}
 use Rattle.demands.proofs.RangeTests.{fields_of_lem}
 use Rattle.demands.proofs.Inversions.{tests_passed, stands_same, step_stands, named_stands, clause_added, Passed}

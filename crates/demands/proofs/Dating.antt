@@ -6,14 +6,13 @@ use mathlib.Core.List.{List, [], ◌∷◌}
 use Prim.Native.Nat.{ℕ, suc, ◌+◌}
 use native.Mathlib.Omega.{arith}
 use lib.Dec.{eqb, leb}
-use lib.ListN.{length}
-use Rattle.record.specs.Record.{pick, File, Record, records, otherKind, Kind, symbolKind, variableKind, applicationKind, inputKind, resolveKind, factorKind, severalKind, windowKind, field_a, field_b, field_c}
+use Rattle.record.specs.Record.{pick, File, Record, records, otherKind, Kind, symbolKind, variableKind, applicationKind, inputKind, resolveKind, factorKind, severalKind, windowKind, field_b, field_c}
 use Rattle.unification.proofs.Tests.{some_injective, some_not_none}
-use Rattle.derivation.specs.Derivation.{input, Derivation, resolve, factor}
+use Rattle.derivation.specs.Derivation.{resolve, factor}
 use Rattle.demands.specs.Conditions.{IsWindow}
 use Rattle.demands.specs.Demands.{clauses_of, Dates, by_window, by_days_beside}
 use Rattle.verdict.specs.Refusal.{kind_of_record, left_of, right_numbers, right_of, deleted_of}
-use Rattle.verdict.specs.State.{State, Window, empty_state, windows_with, derivations, next_clause}
+use Rattle.verdict.specs.State.{State, Window, empty_state, windows_with, next_clause}
 use Rattle.verdict.specs.Step.{stands, refused, Result, window_in, unify_resolve, unify_factor, enter_resolvent, enter, step, read, all_stand, refused_at}
 use Rattle.verdict.specs.Verdict.{ending, Stands}
 use Rattle.demands.proofs.Inversions.{stands_same, step_stands, named_stands, clause_added, never_both}

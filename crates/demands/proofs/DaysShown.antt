@@ -19,7 +19,7 @@ use Rattle.verdict.specs.Readout.{LineWriter, clause_lines, readout_lines}
 use Rattle.verdict.specs.Refusal.{Reason, badKind, badLength, shortTable}
 use Rattle.verdict.specs.State.{State, Window, empty_state, with_window, entry, derivations, next_clause, clause_of}
 use Rattle.verdict.specs.Step.{stands, refused, Result, window_in, enter, step, read, Ending, all_stand, refused_at}
-use Rattle.verdict.specs.Tables.{Tables, filled_tables}
+use Rattle.verdict.specs.Tables.{filled_tables}
 use Rattle.verdict.specs.Verdict.{Verdict, refusal, accepted, open', check, answer_numbers, answer_of, first_empty, standing, Lengths, fitting, long_enough, ending, Stands, Reading, untouched, read_to, reading, verdict_given, state_given}
 use Rattle.demands.proofs.Demanded.{never_refusal}
 use Rattle.demands.proofs.Dating.{with_given, undated_none, step_windows}

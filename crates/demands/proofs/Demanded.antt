@@ -9,7 +9,7 @@ use native.Mathlib.Nat.{zero-add}
 use native.Mathlib.Omega.{arith}
 use lib.Dec.{eqb, leb}
 use lib.ListN.{length, get_or, take, drop, replicate, length-map, length-take, get_or-append}
-use Rattle.record.specs.Record.{pick, File, in_form, old_file, new_file, Record, records, kind_numbered}
+use Rattle.record.specs.Record.{pick, File, in_form, old_file, new_file, Record, records}
 use Rattle.record.proofs.Records.{records_shaped}
 use Rattle.unification.specs.Environment.{follow, Ends}
 use Rattle.unification.specs.Row.{Expression}

@@ -5,12 +5,12 @@ use Prim.Native.Nat.{ℕ, suc, ◌/◌, ◌%◌}
 use mathlib.Core.Bool.{◌&&◌}
 use lib.Dec.{eqb, leb}
 use lib.ListN.{length}
-use Rattle.record.specs.Record.{pick, old_file, records, decoded, parts, otherKind, Kind, symbolKind, variableKind, applicationKind, inputKind, resolveKind, factorKind, severalKind, windowKind, kind_numbered, kind_of}
+use Rattle.record.specs.Record.{pick, records, decoded, parts, otherKind, Kind, symbolKind, variableKind, applicationKind, inputKind, resolveKind, factorKind, severalKind, windowKind, kind_numbered, kind_of}
 use Rattle.verdict.specs.Refusal.{tests, outline_tests, badLength, shortTable}
 use Rattle.verdict.specs.State.{State, empty_state}
 use Rattle.verdict.specs.Step.{stands, refused, Result, require, require_all, enter, step, read, Ending, refused_at}
-use Rattle.verdict.specs.Verdict.{Lengths, long_enough, ending, untouched, read_to, reading}
-use Rattle.demands.specs.Forms.{tests_before, enter_before, step_before, read_before, reading_before, OldFormAsBefore}
+use Rattle.verdict.specs.Verdict.{long_enough, ending, untouched, read_to}
+use Rattle.demands.specs.Forms.{tests_before, enter_before, step_before, read_before, OldFormAsBefore}
 
 -- One record without days, by its kind.
 module _ (S : State) (k : ℕ) (part : List ℕ) where

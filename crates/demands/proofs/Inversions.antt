@@ -17,7 +17,7 @@ use Rattle.unification.proofs.Tests.{to_t, from_t, both_true, true_not_false, so
 use Rattle.derivation.specs.Derivation.{literals, Literal, RowLiteral, input_literals, Derivation, numbered, numbered_all, StrictlyRising}
 use Rattle.derivation.proofs.Literals.{leb_false_lt}
 use Rattle.verdict.specs.Refusal.{tests, outline_tests, in_order, Reason, reason_number, unification, kind_of_record, in_range, literal_in, literal_named, left_of, right_numbers, literals_in, right_of, deleted_of, is_there, is_input, has_arity, all_below, arguments_there, literal_rows_there, both_there, all_applications, equal_signs, all_opposite, opposite_signs, factor_signs, resolvent_fits, factor_fits, rising, resolve_tests}
-use Rattle.verdict.specs.State.{State, with_clause, entry, rows_of, clause_of, row_of}
+use Rattle.verdict.specs.State.{State, with_clause, entry, clause_of, row_of}
 use Rattle.verdict.specs.Step.{stands, refused, Result, require, require_all, enter, step, add_clause, on_named}
 
 pub stands_same : {S T : State} → stands S ≡ stands T → S ≡ T

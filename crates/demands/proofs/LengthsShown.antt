@@ -1,9 +1,7 @@
 -- The lengths of case C, for every file.
 use mathlib.Core.Path.{◌≡◌, refl}
 use mathlib.Core.Bool.{false}
-use mathlib.Core.List.{List}
 use Prim.Native.Nat.{ℕ}
-use lib.ListN.{length}
 use Rattle.record.specs.Record.{File, old_file, new_file}
 use Rattle.unification.proofs.Tests.{true_not_false}
 use Rattle.verdict.specs.Verdict.{check, answer_numbers, Lengths, fitting}

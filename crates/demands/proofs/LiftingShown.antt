@@ -24,7 +24,6 @@ use Rattle.demands.specs.Conditions.{RightLiterals, Resolves}
 use Rattle.demands.specs.Demands.{Reached, atom_of, resolve_atoms, factor_atoms, ResolventAdded, FactorAdded}
 use Rattle.demands.specs.Lifting.{NotLost, NothingLost}
 use Rattle.verdict.specs.State.{State, with_clause, clause_of, row_of, term_of}
-use Rattle.verdict.specs.Step.{step}
 use Rattle.demands.proofs.Demanded.{demand2}
 use Rattle.demands.proofs.Reading.{reached_ok, term_of_row}
 use Rattle.demands.proofs.Standing.{order_of}

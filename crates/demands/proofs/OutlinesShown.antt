@@ -14,13 +14,13 @@ use Rattle.unification.specs.Unification.{most_work, most_links, endless, Failur
 use Rattle.unification.proofs.Outlines.{found_or_spent_lem}
 use Rattle.unification.proofs.UnifiedOutlines.{ClashAmong, clash_here, clash_later, clash_not_unified}
 use Rattle.unification.proofs.Tests.{true_not_false}
-use Rattle.derivation.specs.Derivation.{Literal, Derivation, resolve, factor, pairs_with, maximum_index, joined, lookup}
+use Rattle.derivation.specs.Derivation.{Literal, resolve, factor, pairs_with, maximum_index, joined, lookup}
 use Rattle.demands.specs.Conditions.{OneOf, OutlinesClash, precedence}
 use Rattle.demands.specs.Outlines.{OutlinesBeforeUnification}
 use Rattle.verdict.specs.Refusal.{tests, outline_tests, outlines_of_resolve, outlines_agree, on_both, Reason, unification, reason_number, kind_of_record, left_of, right_numbers, right_of, deleted_of}
 use Rattle.verdict.specs.State.{State, row_of, next_clause}
 use Rattle.verdict.specs.Step.{stands, refused, require_all, step, step_without_outlines, atoms, unify_resolve, unify_factor, enter_resolvent, enter}
-use Rattle.demands.proofs.Inversions.{FirstFailing, AllPass, all_stand_lem, all_refused, all_passed, named_stands, clause_added, refused_injective, tests_passed}
+use Rattle.demands.proofs.Inversions.{FirstFailing, AllPass, all_stand_lem, all_refused, all_passed, named_stands, clause_added, tests_passed}
 use Rattle.demands.proofs.RangeTests.{either_false}
 use Rattle.demands.proofs.Refusals.{tests_rising, rising_first, first_refused_lem, pass_or_fail, by_unification, by_outlines_lem, outlines_clash_lem, outlines_fail}
 

@@ -9,7 +9,7 @@ use native.Mathlib.Omega.{arith}
 use lib.Dec.{eqb, leb, ltb, eqb→eq, eqb_refl, leb→le, nltb→le}
 use lib.ListN.{get_or, drop}
 use lib.Seq.{get_or-drop}
-use Rattle.record.specs.Record.{pick, Record, otherKind, Kind, symbolKind, variableKind, applicationKind, inputKind, resolveKind, factorKind, severalKind, windowKind, kind_numbered, field_a, field_d}
+use Rattle.record.specs.Record.{pick, Record, otherKind, Kind, symbolKind, variableKind, applicationKind, inputKind, resolveKind, factorKind, severalKind, windowKind, kind_numbered, field_a}
 use Rattle.unification.proofs.Tests.{to_t, from_t, both_true, true_not_false, some_not_none}
 use Rattle.derivation.proofs.Literals.{leb_false_lt}
 use Rattle.demands.specs.Conditions.{field_numbered, IsWindow, UnknownKind, kind_below, kind_above, window_in_new_form, Layout, of_symbol, of_variable, of_application, of_input, of_resolve, of_factor, of_several, of_window, OutOfRange, count_over, no_right_literal, variable_over, unused_field, unused_days, RightLiterals, of_one, of_some}

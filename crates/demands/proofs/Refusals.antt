@@ -7,13 +7,12 @@ use mathlib.Core.List.{List, [], ◌∷◌}
 use Prim.Native.Nat.{ℕ, ◌+◌, ◌≤◌, ◌<◌}
 use native.Mathlib.Omega.{arith}
 use lib.Dec.{eqb, leb, eqb→eq}
-use lib.ListN.{length, take}
+use lib.ListN.{length}
 use borrow.Author.Tests.{not-false}
-use Rattle.record.specs.Record.{pick, File, Record, records, otherKind, Kind, kind_numbered, symbolKind, variableKind, applicationKind, inputKind, resolveKind, factorKind, severalKind, windowKind, field_b, field_c}
+use Rattle.record.specs.Record.{pick, File, Record, otherKind, Kind, symbolKind, variableKind, applicationKind, inputKind, resolveKind, factorKind, severalKind, windowKind, field_b, field_c}
 use Rattle.unification.specs.Environment.{Binding, Environment}
 use Rattle.unification.specs.Failing.{Failing}
 use Rattle.unification.specs.Outlines.{outlines_clash}
-use Rattle.unification.specs.Term.{apply}
 use Rattle.unification.specs.Unification.{most_work, most_links, endless, Failure, clash, occurs, overwork, full, failure_number, Outcome, failed, Pair, unifying, no_room}
 use Rattle.unification.specs.Unifier.{TermPair, NoUnifier}
 use Rattle.unification.proofs.Failures.{fails, failing_fails}
@@ -21,12 +20,11 @@ use Rattle.unification.proofs.Limits.{bindings_8192, work_16384}
 use Rattle.unification.proofs.Outlines.{clash_found, found_clash}
 use Rattle.unification.proofs.Tests.{to_t, both_true, true_not_false, some_injective}
 use Rattle.derivation.specs.Derivation.{Literal, Derivation, resolve, factor, pairs_with, maximum_index, joined, lookup}
-use Rattle.derivation.specs.Written.{renamed}
 use Rattle.derivation.proofs.Validity.{signed}
 use Rattle.demands.specs.Conditions.{OneOf, RightLiterals, of_one, of_some, Resolves, OutlinesClash, resolve_outlines, factor_outlines, Fails, StepFails, resolve_fails, factor_fails, Condition, unknown_kind, outside_range, nothing_there, falling_literals, crossing_days, variable_as_literal, unfit_signs, large_result, clashing_outlines, clashing, occurring, overworking, overfull, precedence}
 use Rattle.demands.specs.Demands.{Reached, atom_of, StepAtoms, resolve_atoms, factor_atoms}
 use Rattle.verdict.specs.Refusal.{tests, resolve_tests, outline_tests, outlines_of_resolve, outlines_agree, on_both, Reason, unification, reason_number, kind_of_record, in_range, left_of, right_numbers, right_of, deleted_of}
-use Rattle.verdict.specs.State.{State, empty_state, rows_of, row_of, next_clause}
+use Rattle.verdict.specs.State.{State, row_of, next_clause}
 use Rattle.verdict.specs.Step.{stands, refused, Result, require, require_all, step, add_clause, atoms, unify_resolve, unify_factor, enter_resolvent, enter}
 use Rattle.demands.proofs.RangeTests.{not_true, either_false, of_kind_lem, kind_at, other_kind, range_over, out_of_range, IsResolve, on_one, on_several}
 use Rattle.demands.proofs.ExistenceTests.{arguments_absent, literal_rows_absent, resolve_absent, factor_absent, window_absent, not_there}

@@ -2,9 +2,8 @@
 use mathlib.Core.Path.{◌≡◌, refl, sym, ap, ap₂, ◌∙◌}
 use mathlib.Core.Bool.{true}
 use mathlib.Core.Option.{some}
-use mathlib.Core.List.{List, []}
-use Prim.Native.Nat.{ℕ, ◌+◌, ◌%◌, ◌<◌}
-use lib.Dec.{eqb, leb, eqb→eq}
+use mathlib.Core.List.{[]}
+use Prim.Native.Nat.{ℕ, ◌+◌, ◌<◌}
 use lib.ListN.{length, take}
 use Rattle.record.specs.Record.{pick, File, records}
 use Rattle.record.proofs.Records.{records_shaped}
@@ -14,7 +13,6 @@ use Rattle.derivation.specs.Derivation.{Derivation, lookup}
 use Rattle.derivation.proofs.Known.{KnownRows, known_lookup}
 use Rattle.unification.specs.Term.{Term}
 use Rattle.unification.proofs.Repeats.{earliest_same, same_earliest}
-use Rattle.unification.proofs.Tests.{to_t, both_true}
 use Rattle.verdict.specs.Refusal.{badLength, shortTable}
 use Rattle.demands.specs.Repeats.{written_rows, number_term, term_by_numbers, NoRepeats, reading_as_written, replaced_file, RepeatedRows}
 use Rattle.verdict.specs.State.{State, empty_state, rows_of, derivations, clause_of, row_of, earliest_of}

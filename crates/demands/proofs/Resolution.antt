@@ -7,7 +7,7 @@ use mathlib.Core.List.{List, [], ◌∷◌, map}
 use Prim.Native.Nat.{ℕ}
 use lib.ListN.{length}
 use borrow.Author.Tests.{not-false}
-use Rattle.record.specs.Record.{Record, Kind, kind_numbered, resolveKind, factorKind, severalKind, field_a, field_b, field_c}
+use Rattle.record.specs.Record.{Record, Kind, resolveKind, factorKind, severalKind, field_a, field_b, field_c}
 use Rattle.unification.specs.Environment.{Binding}
 use Rattle.unification.specs.Outlines.{outlines_clash}
 use Rattle.unification.specs.Row.{application, Variable, row_term, written_out}

@@ -1,13 +1,13 @@
 -- Document 02, Q-3: a step of kind 7 with one right literal is the step of kind 5.
-use mathlib.Core.Path.{◌≡◌, refl, sym, ap, ap₂, ◌∙◌}
+use mathlib.Core.Path.{◌≡◌, refl, sym, ap, ◌∙◌}
 use mathlib.Core.Bool.{Bool, true, false, ◌&&◌}
 use mathlib.Core.Option.{Option, none, some}
 use mathlib.Core.List.{List, [], ◌∷◌, map}
-use Prim.Native.Nat.{ℕ, zero, suc, ◌≤◌, ◌<◌}
+use Prim.Native.Nat.{ℕ, suc, ◌<◌}
 use native.Mathlib.Omega.{arith}
 use lib.Dec.{eqb}
 use lib.ListN.{length, get_or, take, drop}
-use Rattle.record.specs.Record.{pick, File, Record, records, field_a, field_b, field_c}
+use Rattle.record.specs.Record.{pick, File, Record, records, field_b, field_c}
 use Rattle.record.proofs.Records.{Shaped, records_shaped}
 use Rattle.unification.specs.Unification.{clash}
 use Rattle.unification.proofs.Tests.{both_true}

@@ -1,9 +1,9 @@
 -- Nothing sees a repeated row: the arguments of every row, and the rows of every clause, are earliest rows.
-use mathlib.Core.Path.{◌≡◌, refl, sym, ap, ◌∙◌, subst}
+use mathlib.Core.Path.{◌≡◌, refl, subst}
 use mathlib.Core.Bool.{Bool, true, false}
 use mathlib.Core.Option.{some}
 use mathlib.Core.List.{List, [], ◌∷◌, map}
-use Prim.Native.Nat.{ℕ, suc, ◌<◌}
+use Prim.Native.Nat.{ℕ, ◌<◌}
 use native.Mathlib.Omega.{arith}
 use lib.Dec.{eqb}
 use lib.ListN.{length}
@@ -13,7 +13,7 @@ use Rattle.unification.specs.Row.{variable, Row, application, row_at}
 use Rattle.unification.proofs.Lists.{Each, each_more}
 use Rattle.unification.proofs.Repeats.{earliest_more, earliest_equal_lem, all_earliest}
 use Rattle.unification.proofs.Tests.{both_true}
-use Rattle.derivation.specs.Derivation.{input, Literal, RowLiteral, input_literals, Derivation, resolve, factor}
+use Rattle.derivation.specs.Derivation.{input, RowLiteral, input_literals, Derivation, resolve, factor}
 use Rattle.derivation.proofs.Known.{KnownRows, known_more}
 use Rattle.verdict.specs.Refusal.{kind_of_record, argument_rows, has_arity, all_below, left_of, right_numbers, right_of, deleted_of}
 use Rattle.verdict.specs.State.{State, empty_state, with_row, with_clause, rows_of, derivations, clause_of, arity_of, earliest_of, record_of_row, next_clause}

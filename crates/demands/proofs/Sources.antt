@@ -10,7 +10,7 @@ use lib.ListN.{length, length-map, length-take}
 use Rattle.record.specs.Record.{pick, Record, otherKind, Kind, symbolKind, variableKind, applicationKind, inputKind, resolveKind, factorKind, severalKind, windowKind, field_a, field_b, field_c}
 use Rattle.unification.proofs.Tests.{to_t, some_not_none, some_injective}
 use Rattle.derivation.specs.Derivation.{input, Derivation, resolve, factor, clause_number}
-use Rattle.verdict.specs.Refusal.{tests, kind_of_record, left_of, right_numbers, right_of, deleted_of}
+use Rattle.verdict.specs.Refusal.{kind_of_record, left_of, right_numbers, right_of, deleted_of}
 use Rattle.verdict.specs.State.{State, entry, derivations, next_clause}
 use Rattle.verdict.specs.Step.{stands, step, unify_resolve, unify_factor, new_literals, enter_resolvent, enter}
 use Rattle.demands.proofs.Inversions.{tests_passed, stands_same, step_stands, named_stands, clause_added, PassedResolve, Passed}

@@ -26,7 +26,7 @@ use Rattle.derivation.proofs.Literals.{each_numbered_all, leb_false_lt}
 use Rattle.derivation.proofs.Validity.{Valid, pairs_kept, lookup_in}
 use Rattle.demands.specs.Demands.{InputsOf}
 use Rattle.verdict.specs.Refusal.{most_literals, most_index}
-use Rattle.verdict.specs.State.{arities, State, Window, empty_state, with_symbol, with_row, with_clause, with_window, entry, rows_of, derivations, arity_of, clause_of, row_of}
+use Rattle.verdict.specs.State.{arities, State, Window, with_symbol, with_row, with_clause, with_window, entry, rows_of, derivations, arity_of, clause_of, row_of}
 use Rattle.verdict.specs.Step.{atoms, unify_resolve, unify_factor}
 use Rattle.verdict.specs.Tables.{bindings_of}
 use Rattle.demands.proofs.Inversions.{not_equal, entry_more, entry_each}

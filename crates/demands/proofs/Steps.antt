@@ -19,7 +19,7 @@ use Rattle.unification.proofs.Rows.{Below}
 use Rattle.unification.proofs.Tests.{to_t, both_true, some_injective}
 use Rattle.derivation.specs.Derivation.{literals, input, Literal, RowLiteral, input_literals, Derivation, resolve, factor, numbered, numbered_all, StrictlyRising, pairs_with, placed, maximum_index, joined, lookup, uses}
 use Rattle.derivation.proofs.Validity.{Valid, signed}
-use Rattle.verdict.specs.Refusal.{tests, most_literals, most_index, kind_of_record, zeros, argument_rows, left_of, right_numbers, right_of, deleted_of, has_arity, all_below, equal_signs, opposite_signs, factor_signs, result_fits}
+use Rattle.verdict.specs.Refusal.{most_literals, most_index, kind_of_record, zeros, argument_rows, left_of, right_numbers, right_of, deleted_of, has_arity, all_below, equal_signs, opposite_signs, factor_signs, result_fits}
 use Rattle.verdict.specs.State.{State, rows_of, derivations, arity_of, clause_of, row_of, earliest_of, record_of_row, next_clause}
 use Rattle.verdict.specs.Step.{window_in, stands, step, add_clause, atoms, unify_resolve, unify_factor, new_application, new_literals, enter_resolvent, enter}
 use Rattle.demands.proofs.RangeTests.{fields_of_lem}

@@ -14,7 +14,6 @@ use Rattle.record.proofs.Records.{Shaped}
 use Rattle.unification.specs.Bindings.{binding_at, bindings_from}
 use Rattle.unification.specs.Environment.{Binding}
 use Rattle.unification.specs.Row.{Row}
-use Rattle.unification.specs.Unification.{most_bindings}
 use Rattle.unification.proofs.Limits.{bindings_8192}
 use Rattle.unification.proofs.Tests.{some_not_none, some_injective}
 use Rattle.derivation.specs.Derivation.{Derivation, own_bindings}

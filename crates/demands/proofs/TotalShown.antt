@@ -1,20 +1,17 @@
 -- The running total is the sum of the table's fifth cells, after each record and at the end.
-use mathlib.Core.Path.{◌≡◌, refl, sym, ap, ap₂, ◌∙◌}
+use mathlib.Core.Path.{◌≡◌, refl, sym, ap, ◌∙◌}
 use mathlib.Core.Bool.{Bool, true, false}
-use mathlib.Core.List.{List, [], ◌∷◌, ◌++◌, map, append_assoc}
-use Prim.Native.Nat.{ℕ, ◌+◌, ◌*◌}
-use native.Mathlib.Omega.{arith}
-use lib.ListN.{length, get_or, take}
-use lib.Seq.{get_or-append-add, take-length}
+use mathlib.Core.List.{List}
+use Prim.Native.Nat.{ℕ, ◌+◌}
+use lib.ListN.{length, take}
+use lib.Seq.{take-length}
 use Rattle.record.specs.Record.{File, Record, records}
 use Rattle.record.proofs.Records.{records_shaped}
-use Rattle.derivation.specs.Derivation.{Derivation, own_bindings}
 use Rattle.verdict.specs.State.{State, empty_state}
 use Rattle.verdict.specs.Step.{read, state_of}
-use Rattle.verdict.specs.Tables.{Tables, lengths_of, cells_of_clause, clause_cells, filled_tables, tables_after, bindings_of}
+use Rattle.verdict.specs.Tables.{Tables, lengths_of, filled_tables, tables_after}
 use Rattle.demands.specs.Total.{state_after, total_after, fifth_cells, BindingsHeld}
 use Rattle.verdict.specs.Verdict.{check, Answer, long_enough, fitting, ending}
-use Rattle.demands.proofs.Acceptance.{cells_length}
 use Rattle.demands.proofs.Demanded.{check_length, check_tables, check_reads, tables_read}
 use Rattle.demands.proofs.Reading.{read_ok, start_ok, shaped_take}
 use Rattle.demands.proofs.Standing.{StateOk}

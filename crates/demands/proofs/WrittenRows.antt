@@ -15,7 +15,7 @@ use Rattle.unification.proofs.Repeats.{earliest_equal_lem, earliest_itself, earl
 use Rattle.unification.proofs.Rows.{eqb_below, below_other}
 use Rattle.unification.proofs.Tests.{to_t}
 use Rattle.derivation.specs.Derivation.{resolve, factor}
-use Rattle.verdict.specs.Refusal.{Reason, kind_of_record, argument_rows, left_of, right_numbers, right_of, deleted_of}
+use Rattle.verdict.specs.Refusal.{kind_of_record, argument_rows, left_of, right_numbers, right_of, deleted_of}
 use Rattle.demands.specs.Repeats.{with_written, written_after, number_term, term_by_numbers}
 use Rattle.verdict.specs.State.{State, rows_of, next_clause, term_of}
 use Rattle.verdict.specs.Step.{stands, refused, Result, step, unify_resolve, unify_factor, new_application, enter_resolvent, enter, read, all_stand, refused_at}

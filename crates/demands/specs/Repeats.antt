@@ -10,7 +10,7 @@ use Rattle.derivation.specs.Derivation.{input, input_literals, Derivation, looku
 use Rattle.verdict.specs.Refusal.{tests, outline_tests, kind_of_record, argument_rows}
 use Rattle.verdict.specs.State.{State, empty_state, with_row, with_clause, with_days_beside, rows_of, earliest_of, next_clause, clause_of}
 use Rattle.verdict.specs.Step.{stands, refused, Result, require_all, enter, step, read, Ending, all_stand, refused_at}
-use Rattle.verdict.specs.Verdict.{Lengths, fitting, long_enough, ending, Reading, untouched, read_to, reading}
+use Rattle.verdict.specs.Verdict.{Lengths, fitting, long_enough, Reading, untouched, read_to, reading}
 use Rattle.verdict.specs.Refusal.{badLength, shortTable}
 
 -- ── Rows as the file writes them ──

@@ -1,6 +1,6 @@
 -- Document 02, Q-3: with one right literal the result of kind 7 is kind 5's. What a step on several right literals is, and when it is refused, is in
 -- demand 2, which speaks of both kinds.
-use Rattle.std.specs.Prelude.{◌≡◌, ◌&&◌, List, map, ℕ, eqb, length}
+use Rattle.std.specs.Prelude.{◌≡◌, ◌&&◌, map, ℕ, eqb, length}
 use Rattle.record.specs.Record.{pick, File, Record, records}
 use Rattle.derivation.specs.Derivation.{Derivation, maximum_index, uses}
 use Rattle.verdict.specs.State.{State}

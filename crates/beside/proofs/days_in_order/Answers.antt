@@ -1,5 +1,4 @@
-use mathlib.Core.Path.{◌≡◌, sym, ap, ap₂, ◌∙◌}
-use mathlib.Core.Option.{some}
+use mathlib.Core.Path.{sym, ap, ap₂, ◌∙◌}
 use lib.Dec.{leb}
 use Rattle.record.specs.Record.{decoded_in}
 use Rattle.verdict.specs.Refusal.{in_order}

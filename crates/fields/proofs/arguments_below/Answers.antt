@@ -1,11 +1,10 @@
 use mathlib.Core.Path.{◌≡◌, sym, ap, ◌∙◌}
-use Prim.Native.Nat.{ℕ, ◌+◌, ◌-◌, ◌≤◌}
+use Prim.Native.Nat.{ℕ, ◌+◌, ◌-◌}
 use native.Mathlib.Omega.{arith}
 use lib.ListN.{take, drop}
-use Rattle.record.specs.Record.{decoded, fields_of}
-use Rattle.verdict.specs.Refusal.{all_below, argument_rows}
+use Rattle.record.specs.Record.{fields_of}
+use Rattle.verdict.specs.Refusal.{all_below}
 use Rattle.fields.proofs.FieldLaws.{below_stop, below_on, fields_end}
-use borrow.Author.Rules.{rules}
 use Rattle.fields.proofs.arguments_below.Goals as goal
 
 pub loop-i-init : goal.loop-i-init

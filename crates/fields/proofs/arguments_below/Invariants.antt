@@ -1,12 +1,9 @@
 -- What is left of the argument rows has the same answer as the whole.
-use mathlib.Core.Path.{◌≡◌, sym, ap, ◌∙◌}
-use Prim.Native.Nat.{ℕ, ◌+◌, ◌-◌, ◌≤◌}
-use native.Mathlib.Omega.{arith}
+use mathlib.Core.Path.{◌≡◌}
+use Prim.Native.Nat.{◌-◌, ◌≤◌}
 use lib.ListN.{take, drop}
 use Rattle.record.specs.Record.{decoded, fields_of}
 use Rattle.verdict.specs.Refusal.{all_below, argument_rows}
-use Rattle.fields.proofs.FieldLaws.{below_stop, below_on, fields_end}
-use borrow.Author.Rules.{rules}
 use Rattle.fields.proofs.arguments_below.Given as goal
 
 abbrev pub invariant-loop-i : goal.invariant-loop-i

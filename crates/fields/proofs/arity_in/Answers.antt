@@ -1,7 +1,6 @@
 -- Both sides make the same test, and what was read is what the definition reads.
 use Rattle.record.specs.Record.{in_form}
 use Rattle.fields.proofs.FieldLaws.{arity_found, arity_missing}
-use borrow.Author.Rules.{rules}
 use Rattle.fields.proofs.arity_in.Goals as goal
 
 pub returns-then-s-n : goal.returns-then-s-n

@@ -1,13 +1,11 @@
 use mathlib.Core.Path.{◌≡◌, sym, ap, ◌∙◌}
-use mathlib.Core.List.{List, map}
-use Prim.Native.Nat.{ℕ, ◌-◌, ◌≤◌}
+use mathlib.Core.List.{List}
+use Prim.Native.Nat.{ℕ, ◌-◌}
 use native.Mathlib.Omega.{arith}
-use lib.ListN.{take, drop}
-use Rattle.record.specs.Record.{decoded, fields_of}
-use Rattle.derivation.specs.Derivation.{input_literals}
+use lib.ListN.{take}
+use Rattle.record.specs.Record.{fields_of}
 use Rattle.verdict.specs.Refusal.{all_below}
 use Rattle.fields.proofs.FieldLaws.{rows_in, rows_stop, rows_on, fields_end}
-use borrow.Author.Rules.{rules}
 use Rattle.fields.proofs.literal_rows_below.Goals as goal
 
 pub loop-i-init : goal.loop-i-init

@@ -1,14 +1,12 @@
 -- What is left of the literals has the same answer as the whole.
-use mathlib.Core.Path.{◌≡◌, sym, ap, ◌∙◌}
-use mathlib.Core.List.{List, map}
-use Prim.Native.Nat.{ℕ, ◌-◌, ◌≤◌}
-use native.Mathlib.Omega.{arith}
+use mathlib.Core.Path.{◌≡◌}
+use mathlib.Core.List.{map}
+use Prim.Native.Nat.{◌-◌, ◌≤◌}
 use lib.ListN.{take, drop}
 use Rattle.record.specs.Record.{decoded, fields_of}
 use Rattle.derivation.specs.Derivation.{input_literals}
 use Rattle.verdict.specs.Refusal.{all_below}
-use Rattle.fields.proofs.FieldLaws.{rows_in, rows_stop, rows_on, fields_end}
-use borrow.Author.Rules.{rules}
+use Rattle.fields.proofs.FieldLaws.{rows_in}
 use Rattle.fields.proofs.literal_rows_below.Given as goal
 
 abbrev pub invariant-loop-i : goal.invariant-loop-i

@@ -5,7 +5,6 @@ use lib.ListN.{drop}
 use Rattle.record.specs.Record.{fields_of, count_of}
 use Rattle.verdict.specs.Refusal.{zeros}
 use Rattle.ranges.proofs.RangeLaws.{few_passed, few_failed}
-use borrow.Author.Rules.{rules}
 use Rattle.ranges.proofs.application_in_range.Goals as goal
 
 pub returns-then-n-le6 : goal.returns-then-n-le6

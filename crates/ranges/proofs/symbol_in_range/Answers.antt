@@ -2,7 +2,6 @@
 use Rattle.record.specs.Record.{fields_of}
 use Rattle.verdict.specs.Refusal.{zeros}
 use Rattle.ranges.proofs.RangeLaws.{few_passed, few_failed}
-use borrow.Author.Rules.{rules}
 use Rattle.ranges.proofs.symbol_in_range.Goals as goal
 
 pub returns-then-count-le6 : goal.returns-then-count-le6

@@ -1,6 +1,5 @@
 -- The three tests of the definition, in its order.
 use borrow.Author.Tests.{le-leb, lt-leb, ne_eqb}
-use borrow.Author.Rules.{rules}
 use Rattle.ranges.proofs.variable_in_range.Goals as goal
 
 pub returns-then-count-ne0 : goal.returns-then-count-ne0

@@ -1,10 +1,5 @@
-use mathlib.Core.Path.{◌≡◌, refl, sym, ◌∙◌}
-use Prim.Native.Nat.{◌-◌}
-use lib.ListN.{drop}
-use Rattle.record.specs.Record.{fields_of}
-use Rattle.verdict.specs.Refusal.{zeros}
+use mathlib.Core.Path.{refl, sym, ◌∙◌}
 use Rattle.ranges.proofs.RangeLaws.{zeros_stop, zeros_on, zeros_end}
-use borrow.Author.Rules.{rules}
 use Rattle.ranges.proofs.zeros_from.Goals as goal
 
 pub loop-i-init : goal.loop-i-init

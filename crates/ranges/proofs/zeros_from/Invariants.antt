@@ -1,11 +1,9 @@
 -- What is left of the fields has the same answer as the whole.
-use mathlib.Core.Path.{◌≡◌, refl, sym, ◌∙◌}
+use mathlib.Core.Path.{◌≡◌}
 use Prim.Native.Nat.{◌-◌}
 use lib.ListN.{drop}
 use Rattle.record.specs.Record.{fields_of}
 use Rattle.verdict.specs.Refusal.{zeros}
-use Rattle.ranges.proofs.RangeLaws.{zeros_stop, zeros_on, zeros_end}
-use borrow.Author.Rules.{rules}
 use Rattle.ranges.proofs.zeros_from.Given as goal
 
 abbrev pub invariant-loop-i : goal.invariant-loop-i

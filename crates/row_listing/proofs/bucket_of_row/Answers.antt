@@ -1,5 +1,4 @@
 use Rattle.distinct.proofs.Cells.{row_bucket}
-use borrow.Author.Rules.{rules}
 use Rattle.row_listing.proofs.bucket_of_row.Goals as goal
 
 pub returns : goal.returns

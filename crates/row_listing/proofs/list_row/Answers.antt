@@ -1,5 +1,4 @@
 use Rattle.distinct.proofs.Listing.{index_more}
-use borrow.Author.Rules.{rules}
 use Rattle.row_listing.proofs.list_row.Goals as goal
 
 pub bucket_of_row-b-requires : goal.bucket_of_row-b-requires

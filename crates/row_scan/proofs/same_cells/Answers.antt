@@ -1,12 +1,9 @@
 use mathlib.Core.Path.{◌≡◌, sym, ◌∙◌}
-use mathlib.Core.List.{List, ◌∷◌}
-use Prim.Native.Nat.{ℕ, ◌+◌, ◌-◌, ◌*◌, ◌≤◌, ◌<◌}
+use mathlib.Core.List.{List}
+use Prim.Native.Nat.{ℕ, ◌+◌, ◌*◌, ◌≤◌, ◌<◌}
 use native.Mathlib.Omega.{arith}
-use lib.ListN.{length, drop}
-use Rattle.unification.specs.Repeated.{equal_lists}
-use Rattle.distinct.specs.Rows.{node_at}
-use Rattle.distinct.proofs.Cells.{numbers_from, code_differs, code_same, number_differs, number_same, numbers_end}
-use borrow.Author.Rules.{rules}
+use lib.ListN.{length}
+use Rattle.distinct.proofs.Cells.{code_differs, code_same, number_differs, number_same, numbers_end}
 use Rattle.row_scan.proofs.same_cells.Goals as goal
 
 room : (N : List ℕ) (r : ℕ) → length N ≡ 32768 → r < 4096 → 8 * r + 8 ≤ length N

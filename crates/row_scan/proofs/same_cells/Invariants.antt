@@ -1,14 +1,12 @@
 -- What is left of the cells has the same answer as the whole row.
 -- The row's eight cells are inside.
-use mathlib.Core.Path.{◌≡◌, sym, ◌∙◌}
-use mathlib.Core.List.{List, ◌∷◌}
-use Prim.Native.Nat.{ℕ, ◌+◌, ◌-◌, ◌*◌, ◌≤◌, ◌<◌}
-use native.Mathlib.Omega.{arith}
-use lib.ListN.{length, drop}
+use mathlib.Core.Path.{◌≡◌}
+use mathlib.Core.List.{◌∷◌}
+use Prim.Native.Nat.{◌-◌, ◌*◌, ◌≤◌}
+use lib.ListN.{drop}
 use Rattle.unification.specs.Repeated.{equal_lists}
 use Rattle.distinct.specs.Rows.{node_at}
-use Rattle.distinct.proofs.Cells.{numbers_from, code_differs, code_same, number_differs, number_same, numbers_end}
-use borrow.Author.Rules.{rules}
+use Rattle.distinct.proofs.Cells.{numbers_from}
 use Rattle.row_scan.proofs.same_cells.Given as goal
 
 abbrev pub invariant-loop-i : goal.invariant-loop-i

@@ -1,11 +1,7 @@
-use mathlib.Core.Path.{◌≡◌, sym, ap, ◌∙◌}
-use mathlib.Core.Option.{none}
-use mathlib.Core.List.{◌∷◌}
-use Prim.Native.Nat.{◌-◌, ◌≤◌}
+use mathlib.Core.Path.{sym, ap, ◌∙◌}
 use native.Mathlib.Omega.{arith}
-use Rattle.distinct.specs.Rows.{row_with_cells, found_row}
+use Rattle.distinct.specs.Rows.{found_row}
 use Rattle.distinct.proofs.Lowest.{none_has, none_yet, first_has, none_at_all}
-use borrow.Author.Rules.{rules}
 use Rattle.row_scan.proofs.scan_rows.Goals as goal
 
 pub loop-row-init : goal.loop-row-init

@@ -1,12 +1,9 @@
 -- No row so far has the cells.
-use mathlib.Core.Path.{◌≡◌, sym, ap, ◌∙◌}
+use mathlib.Core.Path.{◌≡◌}
 use mathlib.Core.Option.{none}
 use mathlib.Core.List.{◌∷◌}
 use Prim.Native.Nat.{◌-◌, ◌≤◌}
-use native.Mathlib.Omega.{arith}
-use Rattle.distinct.specs.Rows.{row_with_cells, found_row}
-use Rattle.distinct.proofs.Lowest.{none_has, none_yet, first_has, none_at_all}
-use borrow.Author.Rules.{rules}
+use Rattle.distinct.specs.Rows.{row_with_cells}
 use Rattle.row_scan.proofs.scan_rows.Given as goal
 
 abbrev pub invariant-loop-row : goal.invariant-loop-row
