@@ -8,7 +8,7 @@ use native.Mathlib.Nat.{add-zero}
 use native.Mathlib.Numerals.{add-one}
 use native.Mathlib.Omega.{arith}
 use lib.Dec.{eqb, leb, ltb, eqb→eq, leb→le, ltb→lt}
-use lib.ListN.{length, get_or, take, drop, set, length-take, length-map, get_or-append, length-reverse}
+use lib.ListN.{length, get_or, take, drop, set, length-map, get_or-append, length-reverse}
 use lib.Seq.{length-take-le, get_or_at}
 use borrow.Author.Tests.{eq-eqb}
 use Rattle.record.specs.Record.{pick, File, Record, record_count, record_part, kind_of, count_of, field_of, fields_of, decoded, record_at, symbolKind, variableKind, applicationKind, inputKind, field_a}

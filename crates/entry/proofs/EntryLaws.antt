@@ -11,7 +11,6 @@ use borrow.Author.Tests.{eq-eqb, ne_eqb, leb-true, not-true, not-false}
 use Rattle.record.specs.Record.{pick, File, record_part, kind_of, count_of, field_of, fields_of, decoded, decoded_in, symbolKind, variableKind, applicationKind, inputKind}
 use Rattle.record_fields.specs.Reader.{clause_literals}
 use Rattle.record_fields.specs.declared.ClauseLiterals.{ClauseLiterals}
-use Rattle.unification.specs.Nodes.{part}
 use Rattle.unification.proofs.Tests.{both_true}
 use Rattle.derivation.specs.Derivation.{input_literals}
 use Rattle.distinct.specs.Index.{Indexed, Findable, Listable}

@@ -9,7 +9,6 @@ use lib.Dec.{ltb, ltb→lt}
 use lib.ListN.{length, get_or, take, drop, set, replicate, length-append, length-drop, length-replicate, get_or-append}
 use lib.Seq.{get_or-append-add, ext_get_or, set_at, append_snoc, get_or-take, get_or-drop, length-take-le}
 use Rattle.unification.specs.Bindings.{bindings_from}
-use Rattle.unification.specs.Unification.{full}
 use Rattle.unification.proofs.Tests.{to_t}
 use Rattle.tables.specs.Cells.{cleared_part, with_clause_cells}
 use Rattle.verdict.specs.Tables.{cells_of_bindings, filled}

@@ -15,7 +15,6 @@ use Rattle.record.specs.Record.{pick}
 use Rattle.unification.specs.Nodes.{is_variable, part, node_arity, HasRow, has_row, arguments_from, node_row, node_row_if, NodesOk}
 use Rattle.unification.specs.Repeated.{earliest_equal, earliest_row, IsEarliest}
 use Rattle.unification.specs.Row.{variable, Row, application, no_symbol, row_at}
-use Rattle.unification.specs.Unification.{arguments}
 use Rattle.unification.proofs.Lists.{Each}
 use Rattle.unification.proofs.Repeats.{row_old, row_new, earliest_more, earliest_new, earliest_none, earliest_found, earliest_equal_lem, one_earliest, earliest_itself, earliest_or_not, earliest_old, earliest_shorter}
 use Rattle.unification.proofs.Rows.{RowsOk, row_arities}

@@ -7,7 +7,6 @@ use native.Mathlib.Omega.{arith}
 use lib.Dec.{eqb}
 use lib.ListN.{length, take, length-append, length-map}
 use Rattle.unification.specs.Nodes.{part}
-use Rattle.unification.specs.Row.{same}
 use Rattle.derivation.specs.Derivation.{literals, input, RowLiteral, literal_of, Derivation, resolve, factor, numbered, without, without_all, raise_literal, placed, maximum_index}
 use Rattle.named_literals.specs.Named.{named_literal, StoredClause, StoredLiteral, left_over, passed, passed_all, NamesRights, PassesRights, raise_named, ComesFrom, ComesUp, ComesFromInput}
 use Rattle.derivation.specs.Stored.{literals_cell, index_cell, origin_code, origin_numbers, Cells, Stored, stored_input, stored_resolve, stored_factor}

@@ -8,9 +8,9 @@ use Rattle.unification.specs.Bindings.{bindings_from, Added}
 use Rattle.unification.specs.Environment.{Binding, Environment}
 use Rattle.unification.specs.Nodes.{node_row}
 use Rattle.unification.specs.Row.{Expression}
-use Rattle.unification.specs.Unification.{unify, most_work, most_links, unified, failed, Pair, unifying, no_room, run}
+use Rattle.unification.specs.Unification.{unify, most_work, most_links, unified, Pair, unifying, no_room, run}
 use Rattle.unify.specs.Unifying.{EachInStep, Facing, Ready, Answered}
-use Rattle.unify.specs.Pairs.{failure_of, Filed, bindings_onto, Stand, PairReady, Pairing, Paired}
+use Rattle.unify.specs.Pairs.{Filed, bindings_onto, Stand, PairReady, Pairing, Paired}
 use Rattle.unify.proofs.BindingsAdded.{added_none, added_below, onto_none, onto_then}
 use Rattle.unify.specs.declared.Unified.{Unified}
 use Rattle.unify.specs.declared.Unified.TheVariants.{Done, Refused}

@@ -1,10 +1,5 @@
 use mathlib.Core.Path.{sym, ◌∙◌}
-use mathlib.Core.List.{List}
-use Prim.Native.Nat.{ℕ}
 use native.Mathlib.Omega.{arith}
-use Rattle.derivation.specs.Derivation.{Derivation}
-use Rattle.derivation.specs.Stored.{Stored}
-use Rattle.named_literals.specs.Named.{ComesFrom}
 use Rattle.named_literals.proofs.Origins.{from_itself, walked, walk_there, walk_small}
 use Rattle.literal_walk.proofs.input_place.Goals as goal
 

@@ -1,12 +1,9 @@
 -- At every turn literal n of clause c is literal `number` of `clause`, its index raised by `added`; the clause number falls.
-use mathlib.Core.Path.{sym, ◌∙◌}
 use mathlib.Core.List.{List}
 use Prim.Native.Nat.{ℕ}
-use native.Mathlib.Omega.{arith}
 use Rattle.derivation.specs.Derivation.{Derivation}
 use Rattle.derivation.specs.Stored.{Stored}
 use Rattle.named_literals.specs.Named.{ComesFrom}
-use Rattle.named_literals.proofs.Origins.{from_itself, walked, walk_there, walk_small}
 use Rattle.literal_walk.proofs.input_place.Given as goal
 
 abbrev pub invariant-loop-up : goal.invariant-loop-up

@@ -1,12 +1,10 @@
 -- A number outside the clause names nothing; else the literal is a field of the input clause's record, raised on the way.
 use mathlib.Core.Path.{sym, ap, ◌∙◌}
-use Prim.Native.Nat.{◌-◌}
 use native.Mathlib.Omega.{arith}
 use Rattle.derivation.specs.Derivation.{literals, numbered}
 use Rattle.named_literals.specs.Named.{named_literal}
 use Rattle.named_literals.proofs.Numbers.{numbered_zero, numbered_past}
 use Rattle.named_literals.proofs.Origins.{stored_cells, input_found, input_small}
-use borrow.Author.Rules.{rules}
 use Rattle.literal_walk.proofs.literal.Goals as goal
 
 pub returns-then-n-eq0 : goal.returns-then-n-eq0

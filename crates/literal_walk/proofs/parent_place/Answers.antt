@@ -3,7 +3,6 @@ use mathlib.Core.Path.{refl}
 use Prim.Native.Nat.{◌+◌, ◌*◌}
 use native.Mathlib.Omega.{arith}
 use Rattle.named_literals.proofs.Origins.{comes_up, comes_high, factor_up, left_up, right_up, right_passes}
-use borrow.Author.Rules.{rules}
 use Rattle.literal_walk.proofs.parent_place.Goals as goal
 
 pub part_of-left-requires : goal.part_of-left-requires

@@ -1,6 +1,5 @@
 -- The code makes the tests of the definition.
 use borrow.Author.Tests.{eq-eqb, ne_eqb, le-leb, lt-leb}
-use borrow.Author.Rules.{rules}
 use Rattle.named_literals.specs.Named.{left_over}
 use Rattle.named_literals.proofs.left_over.Goals as goal
 

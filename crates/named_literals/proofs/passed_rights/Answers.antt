@@ -1,11 +1,6 @@
 -- Past the first number, and past all four: zeros pass nothing.
-use mathlib.Core.Path.{◌≡◌, sym, ap, ◌∙◌}
-use mathlib.Core.List.{List}
-use Prim.Native.Nat.{ℕ}
-use native.Mathlib.Omega.{arith}
-use Rattle.named_literals.specs.Named.{passed_all, NamesRights}
-use Rattle.named_literals.proofs.Numbers.{one_right, all_rights, fits_first, fits_second, fits_third, fits_fourth, passed_four}
-use borrow.Author.Rules.{rules}
+use mathlib.Core.Path.{◌∙◌}
+use Rattle.named_literals.proofs.Numbers.{one_right, fits_first, fits_second, fits_third, fits_fourth, passed_four}
 use Rattle.named_literals.proofs.passed_rights.Goals as goal
 
 pub part_of-requires : goal.part_of-requires

@@ -6,83 +6,19 @@ use borrow.Author.Rules.{rules}
 use Prim.Native.Nat.{ℕ, ◌<◌}
 use Rattle.outlines.proofs.+compare_arguments_compare_pair.Goals as goal
 
-compare-arguments-common-arity-requires :
-    (t : ℕ) → compare-arguments-lts.Need-common-arity-requires (compare-arguments-told t) (compare-arguments-at t) compare-arguments.Post
-    compare-arguments-Inv-loop
-    compare-arguments-μ-loop
-compare-arguments-common-arity-requires t c κs = search rules
-
-compare-arguments-compare-pair-requires :
-    (t : ℕ) → compare-arguments-lts.Need-compare-pair-requires (compare-arguments-told t) (compare-arguments-at t) compare-arguments.Post
-    compare-arguments-Inv-loop
-    compare-arguments-μ-loop
-compare-arguments-compare-pair-requires t c κs = search rules
-
-compare-pair-compare-arguments-requires :
-    (t : ℕ) → compare-pair-lts.Need-compare-arguments-requires (compare-pair-told t) (compare-pair-at t) compare-pair.Post
-compare-pair-compare-arguments-requires t c κs = search rules
-
 pub compare_arguments-loop-n-init : goal.compare_arguments-loop-n-init
-    compare-arguments-Inv-loop
-    compare-arguments-μ-loop
 compare_arguments-loop-n-init t c =
     arguments_first _ _ _ _ _
 
-pub compare_arguments-overflow-add-part-of : goal.compare_arguments-overflow-add-part-of
-    compare-arguments-Inv-loop
-    compare-arguments-μ-loop
-compare_arguments-overflow-add-part-of t c = search rules
-
-pub compare_arguments-part_of-a-requires : goal.compare_arguments-part_of-a-requires
-    compare-arguments-Inv-loop
-    compare-arguments-μ-loop
-compare_arguments-part_of-a-requires t c = search rules
-
-pub compare_arguments-overflow-add-part-of-2 : goal.compare_arguments-overflow-add-part-of-2
-    compare-arguments-Inv-loop
-    compare-arguments-μ-loop
-compare_arguments-overflow-add-part-of-2 t c = search rules
-
-pub compare_arguments-part_of-b-requires : goal.compare_arguments-part_of-b-requires
-    compare-arguments-Inv-loop
-    compare-arguments-μ-loop
-compare_arguments-part_of-b-requires t c = search rules
-
-pub compare_arguments-enum_known-c : goal.compare_arguments-enum_known-c
-    compare-arguments-Inv-loop
-    compare-arguments-μ-loop
-compare_arguments-enum_known-c t c = search rules
-
-pub compare_arguments-enum_told-1 : goal.compare_arguments-enum_told-1
-    compare-arguments-Inv-loop
-    compare-arguments-μ-loop
-compare_arguments-enum_told-1 t c = search rules
-
 pub compare_arguments-returns-in_default : goal.compare_arguments-returns-in_default
-    compare-arguments-Inv-loop
-    compare-arguments-μ-loop
 compare_arguments-returns-in_default t c =
     arguments_clash _ _ _ _ _ _ c.loop-n.n c.loop-n.invariant c.loop-n-test.true _ _ c.part_of-a.ensures c.part_of-b.ensures _ c.compare_pair-c.ensures c.common_arity-most.ensures.0 c.in_default.is
 
-pub compare_arguments-overflow_add-n : goal.compare_arguments-overflow_add-n
-    compare-arguments-Inv-loop
-    compare-arguments-μ-loop
-compare_arguments-overflow_add-n t c = search rules
-
-pub compare_arguments-loop-n-smaller : goal.compare_arguments-loop-n-smaller
-    compare-arguments-Inv-loop
-    compare-arguments-μ-loop
-compare_arguments-loop-n-smaller t c = search rules
-
 pub compare_arguments-loop-n-preserved : goal.compare_arguments-loop-n-preserved
-    compare-arguments-Inv-loop
-    compare-arguments-μ-loop
 compare_arguments-loop-n-preserved t c =
     arguments_next _ _ _ _ _ _ c.loop-n.n c.loop-n.invariant c.loop-n-test.true _ _ c.part_of-a.ensures c.part_of-b.ensures _ c.compare_pair-c.ensures _ c.in-Agree.is
 
 pub compare_arguments-returns : goal.compare_arguments-returns
-    compare-arguments-Inv-loop
-    compare-arguments-μ-loop
 compare_arguments-returns t c =
     arguments_agree _ _ _ _ _ _ _ c.loop-n.invariant (omega (arith, c.loop-n-test.false)) c.common_arity-most.ensures.0
 

@@ -14,7 +14,7 @@ abbrev pub decreases-compare_pair : goal.decreases-compare_pair
 decreases-compare_pair l = 2 * l.pairs
 
 abbrev pub invariant-compare_arguments-loop-n : goal.invariant-compare_arguments-loop-n
-invariant-compare_arguments-loop-n l = ArgumentsLeft l.nodes l.r l.q l.pairs l.most l.left l.n
+invariant-compare_arguments-loop-n l =    ArgumentsLeft l.nodes l.r l.q l.pairs l.most l.left l.n
 
 abbrev pub decreases-compare_arguments-loop-n : goal.decreases-compare_arguments-loop-n
-decreases-compare_arguments-loop-n l = l.most - l.n
+decreases-compare_arguments-loop-n l =    l.most - l.n

@@ -8,4 +8,4 @@ returns-in-Clash c =
 
 pub returns-in-Agree : goal.returns-in-Agree
 returns-in-Agree c =
-    compared_agree _ _ _ c.enum_told-in-Agree-1.given.0.0 _ c.compare_pair-c.ensures c.in-Agree.is
+    compared_agree _ _ _ _ _ c.compare_pair-c.ensures c.in-Agree.is

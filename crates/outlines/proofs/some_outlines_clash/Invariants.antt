@@ -10,7 +10,7 @@ use borrow.Author.Rules.{rules}
 use Rattle.outlines.proofs.some_outlines_clash.Given as goal
 
 abbrev pub invariant-loop-j : goal.invariant-loop-j
-invariant-loop-j l = (some_clash (node_row l.nodes) l.r (listed_from l.listed l.j (l.n - l.j)) ≡ some_clash (node_row l.nodes) l.r (listed_from l.listed 0 l.n)) × (l.j ≤ l.n)
+invariant-loop-j l =    (some_clash (node_row l.nodes) l.r (listed_from l.listed l.j (l.n - l.j)) ≡ some_clash (node_row l.nodes) l.r (listed_from l.listed 0 l.n)) × (l.j ≤ l.n)
 
 abbrev pub decreases-loop-j : goal.decreases-loop-j
-decreases-loop-j l = l.n - l.j
+decreases-loop-j l =    l.n - l.j

@@ -1,9 +1,6 @@
-use mathlib.Core.List.{◌∷◌}
-use Prim.Native.Nat.{◌<◌}
 use native.Mathlib.Omega.{arith}
 use Rattle.distinct.proofs.Cells.{sought_bucket}
-use Rattle.distinct.proofs.Searching.{Sought, sought_first, chain_falls, sought_next, sought_found, sought_nowhere}
-use borrow.Author.Rules.{rules}
+use Rattle.distinct.proofs.Searching.{sought_first, chain_falls, sought_next, sought_found, sought_nowhere}
 use Rattle.row_search.proofs.find_row.Goals as goal
 
 pub loop-c-init : goal.loop-c-init

@@ -1,10 +1,7 @@
 -- Every row below n that has the cells is on the rest of the chain. The measure is the chain's number, which falls.
 use mathlib.Core.List.{◌∷◌}
 use Prim.Native.Nat.{◌<◌}
-use native.Mathlib.Omega.{arith}
-use Rattle.distinct.proofs.Cells.{sought_bucket}
-use Rattle.distinct.proofs.Searching.{Sought, sought_first, chain_falls, sought_next, sought_found, sought_nowhere}
-use borrow.Author.Rules.{rules}
+use Rattle.distinct.proofs.Searching.{Sought}
 use Rattle.row_search.proofs.find_row.Given as goal
 
 abbrev pub invariant-loop-c : goal.invariant-loop-c

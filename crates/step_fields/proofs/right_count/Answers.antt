@@ -1,6 +1,5 @@
 -- The definition's tests, in its order.
 use borrow.Author.Tests.{eq-eqb, ne_eqb}
-use borrow.Author.Rules.{rules}
 use Rattle.step_fields.proofs.right_count.Goals as goal
 
 pub returns-then-step_in_range : goal.returns-then-step_in_range

@@ -1,11 +1,10 @@
 use mathlib.Core.Path.{◌≡◌, sym, ap, ◌∙◌}
-use Prim.Native.Nat.{ℕ, ◌+◌, ◌-◌, ◌≤◌}
+use Prim.Native.Nat.{ℕ, ◌+◌, ◌-◌}
 use native.Mathlib.Omega.{arith}
 use lib.ListN.{take, drop}
 use Rattle.record.specs.Record.{fields_of}
 use Rattle.verdict.specs.Refusal.{rising}
 use Rattle.fields.proofs.FieldLaws.{rise_stop, rise_on, rise_end}
-use borrow.Author.Rules.{rules}
 use Rattle.step_fields.proofs.rights_rise.Goals as goal
 
 pub loop-i-init : goal.loop-i-init

@@ -1,12 +1,9 @@
 -- What is left of the numbers has the same answer as all of them.
-use mathlib.Core.Path.{◌≡◌, sym, ap, ◌∙◌}
-use Prim.Native.Nat.{ℕ, ◌+◌, ◌-◌, ◌≤◌}
-use native.Mathlib.Omega.{arith}
+use mathlib.Core.Path.{◌≡◌}
+use Prim.Native.Nat.{◌+◌, ◌-◌, ◌≤◌}
 use lib.ListN.{take, drop}
 use Rattle.record.specs.Record.{fields_of}
 use Rattle.verdict.specs.Refusal.{rising}
-use Rattle.fields.proofs.FieldLaws.{rise_stop, rise_on, rise_end}
-use borrow.Author.Rules.{rules}
 use Rattle.step_fields.proofs.rights_rise.Given as goal
 
 abbrev pub invariant-loop-i : goal.invariant-loop-i

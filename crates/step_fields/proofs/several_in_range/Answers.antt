@@ -4,7 +4,6 @@ use lib.ListN.{drop}
 use Rattle.record.specs.Record.{fields_of}
 use Rattle.verdict.specs.Refusal.{zeros}
 use Rattle.fields.proofs.FieldLaws.{no_rights, few_rights, many_rights}
-use borrow.Author.Rules.{rules}
 use Rattle.step_fields.proofs.several_in_range.Goals as goal
 
 pub returns-then-n-eq0 : goal.returns-then-n-eq0

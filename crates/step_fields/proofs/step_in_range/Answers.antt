@@ -3,7 +3,6 @@ use lib.ListN.{drop}
 use Rattle.record.specs.Record.{fields_of}
 use Rattle.verdict.specs.Refusal.{zeros}
 use Rattle.ranges.proofs.RangeLaws.{none_passed, none_failed}
-use borrow.Author.Rules.{rules}
 use Rattle.step_fields.proofs.step_in_range.Goals as goal
 
 pub returns-then-count-eq0 : goal.returns-then-count-eq0

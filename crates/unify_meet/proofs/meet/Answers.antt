@@ -2,7 +2,6 @@
 use mathlib.Core.Path.{sym, ◌∙◌}
 use Rattle.unify.specs.Pairs.{same_variable, left_to_variable, left_to_application, right_variable}
 use Rattle.unify.proofs.PairWalk.{meets_as}
-use borrow.Author.Rules.{rules}
 use Rattle.unify_meet.proofs.meet.Goals as goal
 
 pub returns-then-is_same : goal.returns-then-is_same

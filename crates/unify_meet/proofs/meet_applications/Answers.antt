@@ -2,7 +2,6 @@
 use mathlib.Core.Path.{sym, ◌∙◌}
 use native.Mathlib.Omega.{arith}
 use Rattle.unify.specs.Pairs.{same_application, other_symbol, no_arguments, some_arguments}
-use borrow.Author.Rules.{rules}
 use Rattle.unify_meet.proofs.meet_applications.Goals as goal
 
 pub returns-then-is_same : goal.returns-then-is_same

@@ -1,6 +1,5 @@
 -- By the row's code.
 use Rattle.entry.proofs.NodeLaws.{taken_repeat, taken_itself}
-use borrow.Author.Rules.{rules}
 use Rattle.entry.proofs.rows.earliest_of.Goals as goal
 
 pub returns-then-node-eq0 : goal.returns-then-node-eq0

@@ -1,14 +1,13 @@
 use mathlib.Core.Path.{◌≡◌, sym, ap, ◌∙◌}
 use mathlib.Core.List.{List, map}
-use Prim.Native.Nat.{ℕ, ◌-◌, ◌≤◌}
+use Prim.Native.Nat.{ℕ, ◌-◌}
 use native.Mathlib.Omega.{arith}
-use lib.ListN.{take, drop}
-use Rattle.record.specs.Record.{decoded, fields_of}
-use Rattle.derivation.specs.Derivation.{literal_of, input_literals}
+use lib.ListN.{take}
+use Rattle.record.specs.Record.{fields_of}
+use Rattle.derivation.specs.Derivation.{literal_of}
 use Rattle.entry.specs.Program.{no_variable}
 use Rattle.fields.proofs.FieldLaws.{fields_end}
 use Rattle.entry.proofs.NodeLaws.{variable_stop, variable_on}
-use borrow.Author.Rules.{rules}
 use Rattle.entry.proofs.rows.no_variable.Goals as goal
 
 pub loop-i-init : goal.loop-i-init

@@ -1,9 +1,8 @@
 use mathlib.Core.Path.{◌≡◌, refl, ap, ◌∙◌}
-use Prim.Native.Nat.{◌+◌, ◌-◌, ◌*◌, ◌≤◌}
+use Prim.Native.Nat.{◌+◌, ◌*◌, ◌≤◌}
 use native.Mathlib.Omega.{arith}
 use lib.ListN.{length, set, length-set}
 use Rattle.entry.proofs.NodeLaws.{fields_stored, field_stored, node_written}
-use borrow.Author.Rules.{rules}
 use Rattle.entry.proofs.rows.put_cells.Goals as goal
 
 pub loop-i-init : goal.loop-i-init

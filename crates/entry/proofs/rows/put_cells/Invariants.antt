@@ -1,10 +1,8 @@
 -- After each turn the numbers before i are stored after the row's code.
-use mathlib.Core.Path.{◌≡◌, refl, ap, ◌∙◌}
-use Prim.Native.Nat.{◌+◌, ◌-◌, ◌*◌, ◌≤◌}
-use native.Mathlib.Omega.{arith}
-use lib.ListN.{length, set, length-set}
-use Rattle.entry.proofs.NodeLaws.{fields_stored, field_stored, node_written}
-use borrow.Author.Rules.{rules}
+use mathlib.Core.Path.{◌≡◌}
+use Prim.Native.Nat.{◌-◌, ◌≤◌}
+use lib.ListN.{length}
+use Rattle.entry.proofs.NodeLaws.{fields_stored}
 use Rattle.entry.proofs.rows.put_cells.Given as goal
 
 abbrev pub invariant-loop-i : goal.invariant-loop-i

@@ -1,5 +1,4 @@
 use Rattle.entry.proofs.NodeLaws.{six_taken}
-use borrow.Author.Rules.{rules}
 use Rattle.entry.proofs.rows.taken_arguments.Goals as goal
 
 pub returns : goal.returns

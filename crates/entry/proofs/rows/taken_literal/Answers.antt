@@ -2,7 +2,6 @@ use mathlib.Core.Path.{ap}
 use Prim.Native.Nat.{ℕ, ◌+◌, ◌*◌, ◌%◌}
 use native.Mathlib.Omega.{arith}
 use Rattle.entry.proofs.NodeLaws.{taken_small}
-use borrow.Author.Rules.{rules}
 use Rattle.entry.proofs.rows.taken_literal.Goals as goal
 
 pub earliest_of-requires : goal.earliest_of-requires

@@ -1,5 +1,4 @@
-use mathlib.Core.List.{List, [], ◌∷◌}
-use borrow.Author.Rules.{rules}
+use mathlib.Core.List.{[], ◌∷◌}
 use Rattle.entry.proofs.rows.taken_literals.Goals as goal
 
 pub returns : goal.returns

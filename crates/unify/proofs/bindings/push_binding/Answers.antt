@@ -3,7 +3,6 @@ use mathlib.Core.List.{List}
 use Prim.Native.Nat.{ℕ, ◌+◌, ◌*◌}
 use Rattle.unification.specs.ValueArray.{put}
 use Rattle.unification.specs.Bindings.{push}
-use borrow.Author.Rules.{rules}
 use Rattle.unify.proofs.bindings.push_binding.Goals as goal
 
 pub returns : goal.returns

@@ -2,7 +2,6 @@ use mathlib.Core.Path.{ap, ◌∙◌}
 use lib.ListN.{set}
 use Prim.Native.Nat.{◌+◌}
 use Rattle.unification.specs.ValueArray.{put}
-use borrow.Author.Rules.{rules}
 use Rattle.unify.proofs.bindings.write_cells.Goals as goal
 
 pub returns : goal.returns
