@@ -10,14 +10,14 @@ ghost use Rattle.answer.specs.Given.{verdict_stands, answer_given, untouched_num
 use entry::entry::Counts;
 
 // All records stand, with the counts after the last; or one is refused: its reason's number, its own, and the counts before it.
-#[derive(Drop)]
+#[derive(Clone, Copy)]
 pub enum Ended {
     All(Counts),
     Refused(u8, u16, Counts),
 }
 
 // No empty clause in force; the lowest number of one; or a refusal's number and its record.
-#[derive(Drop)]
+#[derive(Clone, Copy)]
 pub enum Verdict {
     Open,
     Accepted(u16),
@@ -25,7 +25,7 @@ pub enum Verdict {
 }
 
 // The verdict, and how many symbols, rows, clauses and bindings there are.
-#[derive(Drop)]
+#[derive(Clone, Copy)]
 pub struct Answer {
     pub verdict: Verdict,
     pub symbols: u16,

@@ -5,7 +5,7 @@ ghost use Rattle.answer.specs.Given.{verdict_coded};
 use super::Verdict;
 
 // A verdict in numbers: 0 open, 1 accepted, 2 refused; the clause or the reason; the record.
-#[derive(Drop)]
+#[derive(Clone, Copy)]
 pub struct Numbers {
     pub kind: u16,
     pub what: u16,

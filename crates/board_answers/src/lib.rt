@@ -7,7 +7,7 @@ ghost use Rattle.board_cells.specs.Given.{board_given};
 use board_cells::lowest::BoardAnswer;
 
 // An answer in numbers: 0 none, 1 a clause, 2 refused; the clause or the reason; the record.
-#[derive(Drop)]
+#[derive(Clone, Copy)]
 struct Numbers {
     kind: u16,
     what: u16,

@@ -7,7 +7,7 @@ ghost use Rattle.boards.specs.Board.{answer_numbers, answered};
 use tables::cell;
 
 // No such clause; its number; or refused: a number and a record.
-#[derive(Drop)]
+#[derive(Clone, Copy)]
 pub enum BoardAnswer {
     None,
     Clause(u16),

@@ -1,6 +1,6 @@
 // The answer: an outcome, and seven numbers beside it. `Given` in specs/ says which ten numbers it stands for.
 // C covers D; it does not; or there is nothing to compare: a number and a record.
-#[derive(Drop)]
+#[derive(Clone, Copy)]
 pub enum Outcome {
     Yes,
     No,
@@ -8,7 +8,7 @@ pub enum Outcome {
 }
 
 // The outcome, and with a yes the literals of D chosen, one for each literal of C and zeros after them; with a no or a refusal zeros.
-#[derive(Drop)]
+#[derive(Clone, Copy)]
 pub struct Covering {
     pub outcome: Outcome,
     pub first: u16,

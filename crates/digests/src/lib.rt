@@ -12,7 +12,7 @@ use numbering::Naming;
 use pieces::{Rest, write_piece};
 
 // How many bytes there are, and their hash.
-#[derive(Drop)]
+#[derive(Clone, Copy)]
 pub struct Digest {
     pub length: usize,
     pub hash: u64,

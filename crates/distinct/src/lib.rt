@@ -13,7 +13,7 @@ pub type Heads = [u16; 4096];
 pub type Links = [u16; 4096];
 
 // The row that a search found.
-#[derive(Drop)]
+#[derive(Clone, Copy)]
 pub enum FoundRow {
     At(u16),
     Nowhere,

@@ -7,7 +7,7 @@ ghost use Rattle.comparing.specs.Given.{outcome_numbers, covering_given};
 use comparing::covering::{Covering, Outcome};
 
 // An outcome in numbers: 0 no, 1 yes, 2 refused; the reason; the record.
-#[derive(Drop)]
+#[derive(Clone, Copy)]
 struct Numbers {
     kind: u16,
     reason: u16,

@@ -9,7 +9,7 @@ use pieces::{Piece, Rest};
 
 // A piece in numbers: 0 all is written, 1 there is more, 2 too short; the bytes written; the clause to go on with or that it is too
 // short for.
-#[derive(Drop)]
+#[derive(Clone, Copy)]
 struct Numbers {
     kind: u64,
     written: u64,

@@ -7,7 +7,7 @@ ghost use Rattle.writing_answer.specs.Given.{writing_given};
 use writing_answer::WritingOutcome;
 
 // An answer in numbers: 0 written, 2 refused; the length or the reason; the file; the record.
-#[derive(Drop)]
+#[derive(Clone, Copy)]
 struct Numbers {
     kind: u32,
     what: u32,

@@ -12,7 +12,7 @@ use record::{Form, count, field, record_part};
 use tables::cell;
 
 // A symbol's arity, or that there is no such symbol.
-#[derive(Drop)]
+#[derive(Clone, Copy)]
 pub enum Arity {
     Is(u8),
     Missing,

@@ -8,7 +8,7 @@ use super::nodes::{Nodes, is_variable};
 use super::values::{ValueCells, slot_of, value, write_value};
 
 // Where following ends: an unbound variable or an application, its row and index.
-#[derive(Drop)]
+#[derive(Clone, Copy)]
 pub enum Followed {
     Variable(u16, u16),
     Application(u16, u16),

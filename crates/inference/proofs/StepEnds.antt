@@ -23,7 +23,6 @@ use Rattle.verdict.specs.Tables.{Tables, cells_of_bindings, binding_cells, fille
 use Rattle.entry.proofs.Declaring.{symbols_here, rows_here, clauses_here, bindings_here, clause_table, clause_origin}
 use Rattle.entry.proofs.Filling.{bindings_count, bindings_added, bindings_cleared}
 use Rattle.entry.proofs.Kept.{sizes, kept_next}
-use Rattle.demands.proofs.Standing.{room}
 use Rattle.inference.proofs.StepLaws.{held_count, held_sum, clause_count, held_few, few_of, room_of, origins_room}
 use Rattle.demands.proofs.Tabled.{all_bindings_length}
 use Rattle.unify.specs.declared.Unified.{Unified}

@@ -36,7 +36,7 @@ use Rattle.tables.specs.Cells.{cleared_part, with_clause_cells}
 use Rattle.outlines.specs.Comparing.{some_clash}
 use Rattle.verdict.specs.Refusal.{outlines_agree}
 use Rattle.verdict.specs.State.{State, rows_of, derivations, clause_of, row_of}
-use Rattle.verdict.specs.Step.{step, atoms, unify_resolve, unify_factor}
+use Rattle.verdict.specs.Step.{atoms, unify_resolve, unify_factor}
 use Rattle.inference.specs.Stepping.{BeforeStep, AtomOf, atom_named, RightsOf, rights_named, Resolving, Factoring, UnifiedTables, finished, with_step, step_finished, HeldUpTo}
 use Rattle.distinct.specs.Rows.{with_node}
 use Rattle.entry.specs.Progress.{tables_with}
@@ -46,7 +46,7 @@ use Rattle.entry.proofs.Declaring.{bindings_here}
 use Rattle.entry.proofs.Filling.{filled_length}
 use Rattle.entry.proofs.Kept.{sizes, few_records, few_clauses}
 use Rattle.inference.proofs.KeptClauses as kept
-use Rattle.demands.proofs.Standing.{ChainsEnd, InOrder, StateOk, room, held_links}
+use Rattle.demands.proofs.Standing.{ChainsEnd, InOrder, StateOk, held_links}
 use Rattle.demands.proofs.Tabled.{all_bindings_length}
 use Rattle.unify.specs.declared.Unified.{Unified}
 use Rattle.unify.specs.declared.Unified.TheVariants.{Done}

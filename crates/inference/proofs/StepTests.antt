@@ -17,7 +17,7 @@ use Rattle.named_literals.specs.Named.{named_literal, StoredClause}
 use Rattle.derivation.specs.Stored.{Stored}
 use Rattle.fields.specs.Fields.{step_in_range, right_count}
 use Rattle.verdict.specs.Refusal.{Reason, outOfRange, notThere, notRising, wrongSigns, tooLarge, unification, outlines_agree, reason_number, most_literals, most_index, kind_of_record, in_range, literal_in, literal_named, left_of, right_numbers, literals_in, right_of, deleted_of, is_there, equal_signs, all_opposite, rising, on_both, opposite_signs, factor_signs, both_there, resolvent_fits, factor_fits}
-use Rattle.verdict.specs.State.{State, entry, derivations, clause_of, row_of}
+use Rattle.verdict.specs.State.{State, derivations, clause_of, row_of}
 use Rattle.verdict.specs.Step.{refused, require, step, enter_resolvent, enter}
 use Rattle.inference.specs.Stepping.{BeforeStep, AtomOf, ClausesStored, named_answer, signed_atom, pair_answer, ResolveKind, ResolveNamed, FactorNamed, StepRead}
 use Rattle.inference.specs.Rights.{rights_answer, RightsNamed, refusal_of, RightsTested}

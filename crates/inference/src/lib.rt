@@ -13,7 +13,7 @@ use named_literals::NamedLiteral;
 pub mod rights;
 
 // An atom of a clause: the clause's number, and the atom's row and index.
-#[derive(Drop)]
+#[derive(Clone, Copy)]
 pub struct Atom {
     pub clause: u16,
     pub row: u16,
@@ -21,14 +21,14 @@ pub struct Atom {
 }
 
 // A literal of a clause: its sign, true for a positive one, and its atom.
-#[derive(Drop)]
+#[derive(Clone, Copy)]
 pub struct SignedAtom {
     pub positive: bool,
     pub atom: Atom,
 }
 
 // The two literals that a step names; or that one of them does not exist.
-#[derive(Drop)]
+#[derive(Clone, Copy)]
 pub enum NamedPair {
     Both(SignedAtom, SignedAtom),
     Absent,

@@ -2,7 +2,7 @@
 // `Joined` says how the parts of this program go about it.
 #![tactic(auto)]
 
-ghost use Rattle.std.specs.Prelude.{◌≡◌, length};
+ghost use Rattle.std.specs.Prelude.{◌≡◌, ◌++◌, ◌≤◌, length, drop, take};
 ghost use Rattle.record.specs.Record.{records};
 ghost use Rattle.merging.specs.Answer.{after_checks};
 ghost use Rattle.merging.specs.Merging.{merged_file};
@@ -23,6 +23,17 @@ fn too_many(first: &[u8], second: &[u8], symbols: u16, others: u16) -> bool
     4096 + (others as usize) < records
 }
 
+// Writes all of `from` at the start of `to`, of which the rest stays, and tells how many bytes that were.
+fn copy(from: &[u8], to: &mut [u8]) -> usize
+    requires { length from.now ≤ length to.old }
+    ensures count { result ≡ length from.now }
+    ensures bytes { to.new ≡ take (length from.now) from.now ++ drop (length from.now) to.old }
+{
+    let n = from.len();
+    to[..n].copy_from_slice(from);
+    n
+}
+
 // The first file, and behind it the second's records; and the length of both.
 fn write_both(
     first: &[u8],
@@ -35,7 +46,7 @@ fn write_both(
     requires { Joinable first.now second.now symbols rows clauses output.old }
     ensures { FileWritten first.now second.now output.old output.new result }
 {
-    let at = bytes::copy(first, output);
+    let at = copy(first, output);
     write_second(second, symbols, rows, clauses, output, at)
 }
 

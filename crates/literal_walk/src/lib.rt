@@ -12,7 +12,7 @@ use following::nodes::{Origins, part_of};
 use named_literals::{NamedLiteral, left_over, passed_over, passed_rights};
 
 // Where a literal comes from: a clause, the literal's number there, and what is added to its index.
-#[derive(Drop)]
+#[derive(Clone, Copy)]
 struct Place {
     clause: u16,
     number: u16,

@@ -13,7 +13,7 @@ use Rattle.following.specs.Clearing.{Cleared}
 use Rattle.unification.specs.Environment.{follow, Environment, Ends}
 use Rattle.unification.specs.Nodes.{is_variable, HasRow, node_row, NodesOk}
 use Rattle.unification.specs.Row.{Expression, Variable}
-use Rattle.unification.specs.Unification.{most_links, full}
+use Rattle.unification.specs.Unification.{most_links}
 use Rattle.unification.specs.ValueArray.{slot, index_of, InStep, one_link, Models}
 use Rattle.derivation.specs.Derivation.{input, Derivation, resolve, factor, maximum_index, raise_answer, joined, lookup}
 use Rattle.loading.specs.Loaded.{held_value, read_cell, within, BindingsIn, Loaded}

@@ -1,9 +1,9 @@
 -- All records of the second file, shifted and without the symbols that the first has, stand behind those of the first.
-use mathlib.Core.Path.{◌≡◌, refl, sym, ap, ap₂, ◌∙◌, subst}
+use mathlib.Core.Path.{◌≡◌, refl, sym, ap, ◌∙◌, subst}
 use mathlib.Core.Bool.{Bool, true, false, ◌&&◌}
 use mathlib.Core.Option.{Option, none, some}
-use mathlib.Core.List.{List, [], ◌∷◌, ◌++◌, map}
-use Prim.Native.Nat.{ℕ, zero, suc, ◌+◌, ◌≤◌, ◌<◌}
+use mathlib.Core.List.{List, [], ◌∷◌, map}
+use Prim.Native.Nat.{ℕ, suc, ◌+◌, ◌≤◌, ◌<◌}
 use native.Mathlib.Omega.{arith}
 use lib.Dec.{eqb, ltb, ltb→lt}
 use lib.ListN.{length, get_or, drop, length-map, drop_of_length-le}
@@ -13,14 +13,14 @@ use Rattle.record.proofs.Records.{Shaped}
 use Rattle.record.specs.Sorts.{is_symbol, is_step, unless}
 use Rattle.unification.proofs.Tests.{to_t, both_true, true_not_false, some_not_none}
 use Rattle.verdict.specs.Refusal.{kind_of_record}
-use Rattle.verdict.specs.State.{State, with_symbol, arities, rows_of, derivations, arity_of}
+use Rattle.verdict.specs.State.{State, arities, rows_of, derivations}
 use Rattle.verdict.specs.Step.{stands, refused, Result, enter, step, read, all_stand, refused_at}
 use Rattle.demands.proofs.Inversions.{stands_same, step_stands, not_below}
 use Rattle.demands.proofs.RangeTests.{equal, kind_at}
 use Rattle.verdict.proofs.Endings.{ending_stands, stands_not_refused}
-use Rattle.merging.specs.Answer.{first_where, symbol_list, first_other}
+use Rattle.merging.specs.Answer.{first_where, first_other}
 use Rattle.merging.specs.Merging.{shifted, symbols_after, without_symbols}
-use Rattle.merging.proofs.Beside.{Beside, Goes, symbol_dropped, record_goes}
+use Rattle.merging.proofs.Beside.{Beside, symbol_dropped, record_goes}
 use Rattle.merging.proofs.Counting.{step_counted, Listed}
 
 -- ── Searches that found nothing so far ──

@@ -1,35 +1,30 @@
 -- The clauses that reading leaves, written out as terms: those of the records of input clauses, over the rows as the file writes them.
 use mathlib.Core.Path.{◌≡◌, refl, sym, ap, ap₂, ◌∙◌, subst}
 use mathlib.Core.Bool.{Bool, true, false, ◌&&◌}
-use mathlib.Core.Option.{Option, none, some}
+use mathlib.Core.Option.{none, some}
 use mathlib.Core.List.{List, [], ◌∷◌, ◌++◌, map, reverse, append_assoc, append-nil, reverse-cons}
-use Prim.Native.Nat.{ℕ, zero, suc, ◌+◌, ◌≤◌, ◌<◌}
+use Prim.Native.Nat.{ℕ, suc, ◌≤◌, ◌<◌}
 use native.Mathlib.Omega.{arith}
 use lib.Dec.{eqb, leb}
 use lib.ListN.{length}
-use Rattle.record.specs.Record.{pick, Record, records, otherKind, Kind, symbolKind, variableKind, applicationKind, inputKind, resolveKind, factorKind, severalKind, windowKind, field_a}
-use Rattle.record.proofs.Records.{Shaped}
+use Rattle.record.specs.Record.{Record, otherKind, Kind, symbolKind, variableKind, applicationKind, inputKind, resolveKind, factorKind, severalKind, windowKind}
 use Rattle.record.specs.Sorts.{is_step}
-use Rattle.unification.specs.Row.{variable, Row, application}
+use Rattle.unification.specs.Row.{Row}
 use Rattle.unification.specs.Term.{Term}
-use Rattle.unification.specs.Repeated.{IsEarliest}
-use Rattle.unification.proofs.Lists.{Each, map_each, map_map}
+use Rattle.unification.proofs.Lists.{Each}
 use Rattle.unification.proofs.Repeats.{earliest_equal_lem}
 use Rattle.unification.proofs.Rows.{eqb_below}
 use Rattle.unification.proofs.Tests.{true_not_false}
-use Rattle.derivation.specs.Derivation.{literals, input, Literal, RowLiteral, input_literals, Derivation}
-use Rattle.derivation.proofs.Known.{KnownLiteral, KnownRows, known_literals}
+use Rattle.derivation.specs.Derivation.{literals, input, RowLiteral, input_literals, Derivation}
 use Rattle.verdict.specs.Refusal.{kind_of_record, is_input}
-use Rattle.demands.specs.Repeats.{with_written, written_after, written_rows, term_by_numbers, number_term}
-use Rattle.verdict.specs.State.{State, empty_state, rows_of, derivations, earliest_of, next_clause}
+use Rattle.demands.specs.Repeats.{with_written, written_after, term_by_numbers}
+use Rattle.verdict.specs.State.{State, rows_of, derivations, earliest_of, next_clause}
 use Rattle.verdict.specs.Step.{stands, refused, Result, new_literals, enter, step, read, all_stand, refused_at}
 use Rattle.demands.proofs.Inversions.{stands_same, step_stands, tests_passed, Passed, rows_below}
 use Rattle.demands.proofs.RangeTests.{of_kind_lem}
 use Rattle.verdict.proofs.Endings.{ending_stands, stands_not_refused}
-use Rattle.demands.proofs.Shared.{Shared}
 use Rattle.demands.proofs.WrittenRows.{earliest_term, ReadSame, read_same}
 use Rattle.merging.specs.Answer.{first_where}
-use Rattle.merging.specs.Promised.{clauses_written}
 use Rattle.merging.proofs.Behind.{none_here}
 
 -- ── Clauses as the records write them ──

@@ -1,15 +1,15 @@
 -- The merged file stands, with the clauses, the days and the symbols of both files.
-use mathlib.Core.Path.{◌≡◌, refl, sym, ap, ap₂, ◌∙◌, subst}
+use mathlib.Core.Path.{◌≡◌, refl, sym, ap, ap₂, ◌∙◌}
 use mathlib.Core.Logic.{◌↔◌}
 use mathlib.Core.Bool.{Bool, true, false, ◌&&◌}
 use mathlib.Core.Option.{Option, none, some}
 use mathlib.Core.List.{List, [], ◌∷◌, ◌++◌, map, reverse, append-nil}
-use Prim.Native.Nat.{ℕ, zero, suc, ◌+◌, ◌-◌, ◌*◌, ◌%◌, ◌≤◌, ◌<◌}
-use native.Mathlib.Nat.{zero-add, add-zero}
+use Prim.Native.Nat.{ℕ, zero, suc, ◌+◌, ◌-◌, ◌%◌, ◌≤◌, ◌<◌}
+use native.Mathlib.Nat.{zero-add}
 use native.Mathlib.Omega.{arith}
 use lib.Dec.{eqb, leb, ltb, ltb→lt}
-use lib.ListN.{length, drop, length-map, length-append, drop_of_length-le, take-append-drop}
-use borrow.Author.Tests.{le-leb, lt-leb, eq-eqb}
+use lib.ListN.{length, drop, length-map, drop_of_length-le}
+use borrow.Author.Tests.{le-leb, eq-eqb}
 use Rattle.record.specs.Record.{pick, File, old_file, Record, records}
 use Rattle.record.proofs.Bytes.{file_length, file_records}
 use Rattle.record.proofs.Records.{Shaped, HaveDays, records_shaped, records_days}
@@ -18,8 +18,7 @@ use Rattle.record.specs.declared.Form.TheVariants.{Old}
 use Rattle.unification.specs.Row.{Row, application, no_symbol, row_at}
 use Rattle.unification.specs.Term.{Term, app, nil}
 use Rattle.unification.proofs.Lists.{Each, map_each}
-use Rattle.unification.proofs.Rows.{eqb_below}
-use Rattle.unification.proofs.Tests.{to_t, from_t, both_true, true_not_false, some_not_none}
+use Rattle.unification.proofs.Tests.{to_t, true_not_false, some_not_none}
 use Rattle.derivation.specs.Derivation.{literals, input, resolve, factor, Literal, RowLiteral, Derivation, clause_number}
 use Rattle.derivation.proofs.Literals.{leb_false_lt}
 use Rattle.derivation.proofs.Known.{KnownRows, KnownLiteral, known_literals}
@@ -29,8 +28,8 @@ use Rattle.demands.specs.Demands.{InForce}
 use Rattle.verdict.specs.Force.{window_of, uses_in_force}
 use Rattle.verdict.specs.Refusal.{Reason, is_input, is_application}
 use Rattle.demands.specs.Repeats.{written_after, written_rows, number_term, term_by_numbers}
-use Rattle.verdict.specs.State.{State, Window, empty_state, entry, arities, rows_of, derivations, arity_of, clause_of, row_of}
-use Rattle.verdict.specs.Step.{stands, read, step, all_stand}
+use Rattle.verdict.specs.State.{State, empty_state, rows_of, derivations, clause_of}
+use Rattle.verdict.specs.Step.{read, all_stand}
 use Rattle.verdict.specs.Tables.{Tables, lengths_of}
 use Rattle.verdict.specs.Verdict.{Answer, refusal, check, standing, first_empty, fitting, ending, Stands}
 use Rattle.demands.proofs.Demanded.{long_enough_lem, stands_check}
@@ -38,16 +37,16 @@ use Rattle.demands.proofs.InForceShown.{in_force_lem, of_in_force}
 use Rattle.demands.proofs.Inversions.{entry_some, entry_each, not_below}
 use Rattle.demands.proofs.RangeTests.{not_true, equal, at_most}
 use Rattle.verdict.proofs.Endings.{read_on_lem}
-use Rattle.demands.proofs.Shared.{Shared, shared_start}
+use Rattle.demands.proofs.Shared.{shared_start}
 use Rattle.demands.proofs.Sources.{Sourced, step_sourced, number_of}
 use Rattle.demands.proofs.WrittenRows.{ReadSame, read_same, no_rows}
 use Rattle.merging.specs.Answer.{first_where, symbol_list, first_other}
 use Rattle.merging.specs.Merging.{shifted, symbols_after, without_symbols, merged, merged_file}
-use Rattle.merging.specs.Promised.{longer, clauses_written, window_days, days_in, Merged}
+use Rattle.merging.specs.Promised.{longer, clauses_written, days_in, Merged}
 use Rattle.merging.proofs.Behind.{none_here, Behind, read_behind}
 use Rattle.merging.proofs.Beside.{Beside, raised_window}
 use Rattle.merging.proofs.ClausesRead.{input_clauses, clause_by, written_later, read_clauses, read_inputs}
-use Rattle.merging.proofs.Counting.{CountedAll, stands_counted, Listed, stands_listed}
+use Rattle.merging.proofs.Counting.{stands_counted, stands_listed}
 use Rattle.merging.proofs.ReadKeeps.{stands_keeps}
 use Rattle.merging.proofs.Searches.{Alike, none_alike}
 use Rattle.merging.proofs.Shifts.{shifted_seven}

@@ -3,19 +3,17 @@ use mathlib.Core.Path.{◌≡◌, refl, sym, ap, ap₂, ◌∙◌, subst}
 use mathlib.Core.Logic.{◌⊎◌, inl, inr}
 use mathlib.Core.Bool.{Bool, true, false, ◌&&◌}
 use mathlib.Core.Option.{Option, none, some}
-use mathlib.Core.List.{List, [], ◌∷◌, ◌++◌, append-nil}
-use Prim.Native.Nat.{ℕ, zero, suc, ◌+◌, ◌≤◌, ◌<◌}
+use mathlib.Core.List.{List, [], ◌∷◌, ◌++◌}
+use Prim.Native.Nat.{ℕ, zero, suc, ◌+◌, ◌<◌}
 use native.Mathlib.Nat.{add-zero, add-suc, suc-add}
 use native.Mathlib.Omega.{arith}
 use lib.Dec.{eqb, leb, ltb, eqb_refl, ltb→lt}
 use lib.ListN.{length, get_or, take, drop}
-use borrow.Author.Tests.{le-leb}
 use Rattle.record.specs.Record.{pick, old_file, Record, records}
 use Rattle.record.specs.Sorts.{is_symbol, is_step, how_many}
 use Rattle.unification.proofs.Tests.{to_t, from_t, both_true, true_not_false, some_not_none, some_injective}
 use Rattle.demands.specs.Conditions.{OneOf}
-use Rattle.demands.specs.Demands.{RecordAt}
-use Rattle.demands.proofs.RangeTests.{not_true, equal, unequal, at_most, not_under}
+use Rattle.demands.proofs.RangeTests.{equal, unequal, at_most, not_under}
 use Rattle.merging.specs.Answer.{first_where, symbol_list, first_other}
 use Rattle.merging.specs.Promised.{FirstStep, OtherSymbol, FirstOtherSymbol, Begins}
 

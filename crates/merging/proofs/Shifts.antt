@@ -1,14 +1,14 @@
 -- A shifted record: its arguments, literals and window are those of the record, raised; its other fields are as they were.
 use mathlib.Core.Path.{◌≡◌, refl, sym, ap, ap₂, ◌∙◌}
-use mathlib.Core.Bool.{Bool, true, false, ◌&&◌}
+use mathlib.Core.Bool.{Bool, ◌&&◌}
 use mathlib.Core.List.{List, [], ◌∷◌, map}
 use Prim.Native.Nat.{ℕ, zero, suc, ◌+◌, ◌*◌, ◌/◌, ◌%◌, ◌≤◌, ◌<◌}
-use native.Mathlib.Nat.{add-zero, add-suc, suc-add, zero-add}
+use native.Mathlib.Nat.{add-zero, add-suc, suc-add}
 use native.Mathlib.Omega.{arith}
 use lib.Dec.{eqb, leb, ltb}
 use lib.ListN.{length, get_or, take, drop}
 use borrow.Author.Tests.{le-leb, lt-leb, lt-ltb, le-ltb}
-use Rattle.record.specs.Record.{pick, Record, field_a, field_b, field_c}
+use Rattle.record.specs.Record.{pick, Record, field_a}
 use Rattle.derivation.specs.Derivation.{RowLiteral, literal_of, input_literals}
 use Rattle.verdict.specs.Refusal.{argument_rows}
 use Rattle.demands.proofs.RangeTests.{not_true, equal}

@@ -1,8 +1,8 @@
 -- The rows and the input clauses of shifted records, written out: those of the records themselves, behind the rows of the first file.
 use mathlib.Core.Path.{◌≡◌, refl, sym, ap, ap₂, ◌∙◌}
 use mathlib.Core.Bool.{Bool, true, false, ◌&&◌}
-use mathlib.Core.List.{List, [], ◌∷◌, ◌++◌, map}
-use Prim.Native.Nat.{ℕ, zero, suc, ◌+◌}
+use mathlib.Core.List.{List, [], ◌∷◌, map}
+use Prim.Native.Nat.{ℕ, suc, ◌+◌}
 use native.Mathlib.Nat.{suc-add}
 use lib.Dec.{eqb, ltb}
 use lib.ListN.{length, get_or}

@@ -9,7 +9,7 @@ use clauses::origin_code;
 use following::nodes::{Origins, part_of};
 
 // A literal: its sign, true for a positive one, its atom's row and its index; or that the clause has no such literal.
-#[derive(Drop)]
+#[derive(Clone, Copy)]
 pub enum NamedLiteral {
     Found(bool, u16, u16),
     Absent,

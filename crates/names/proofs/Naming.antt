@@ -1,5 +1,5 @@
 -- A variable's name in every line that goes on from where it was written.
-use mathlib.Core.Path.{◌≡◌, sym, ap, ◌∙◌, subst}
+use mathlib.Core.Path.{◌≡◌, sym, ◌∙◌, subst}
 use mathlib.Core.Bool.{Bool, true, false}
 use mathlib.Core.List.{List, ◌∷◌, ◌++◌}
 use Prim.Native.Nat.{ℕ, suc, ◌≤◌}
@@ -7,13 +7,10 @@ use native.Mathlib.Omega.{arith}
 use lib.Dec.{eqb}
 use Rattle.record.specs.Record.{pick}
 use Rattle.unification.specs.Nodes.{part}
-use Rattle.unification.specs.Row.{Row, Variable}
-use Rattle.appearance.specs.Appearance.{noted, position}
-use Rattle.verdict.specs.Text.{decimal, variable_number}
+use Rattle.unification.specs.Row.{Variable}
+use Rattle.verdict.specs.Text.{decimal}
 use Rattle.text.specs.Buffer.{Wrote}
 use Rattle.numbering.specs.Numbering.{count_after, NumberReady, TakesNumber}
-use Rattle.appearance.specs.Growing.{Longer}
-use Rattle.numbering.specs.declared.Naming.{Naming}
 use Rattle.numbering.specs.declared.Naming.TheVariants.{ByIndex, ByAppearance}
 use Rattle.appearance.proofs.Positions.{noted_position}
 use Rattle.names.specs.Names.{NameReady, WritesName}

@@ -9,7 +9,7 @@ use numbering::{Naming, count_after, number};
 use text::{TextBuffer, put_numbered_variable, put_variable};
 
 // The position after what was written, and how many variables of the line have numbers then.
-#[derive(Drop)]
+#[derive(Clone, Copy)]
 pub struct Place {
     pub end: usize,
     pub count: u16,

@@ -10,7 +10,7 @@ ghost use Rattle.naming.specs.Naming.{named_in};
 
 use record::{count, kind};
 
-#[derive(Drop)]
+#[derive(Clone, Copy)]
 pub enum Named {
     Nothing,
     Symbol,

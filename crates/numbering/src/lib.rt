@@ -9,7 +9,7 @@ ghost use Rattle.numbering.specs.Numbering.{number_cell, has_number, count_after
 use following::nodes::{Nodes, part_of};
 
 // How variables are named: by number and index, or numbered by appearance.
-#[derive(Drop)]
+#[derive(Clone, Copy)]
 pub enum Naming {
     ByIndex,
     ByAppearance,

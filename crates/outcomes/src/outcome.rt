@@ -15,7 +15,7 @@ use numbering::Naming;
 use record::Form;
 
 // The hashes of the four tables.
-#[derive(Drop)]
+#[derive(Clone, Copy)]
 pub struct Hashes {
     pub symbols: u64,
     pub rows: u64,
@@ -24,7 +24,7 @@ pub struct Hashes {
 }
 
 // The answer to a file, the hashes of the tables as the check leaves them, and the length and the hash of both readouts.
-#[derive(Drop)]
+#[derive(Clone, Copy)]
 pub struct Outcome {
     pub answer: Answer,
     pub hashes: Hashes,

@@ -8,7 +8,7 @@ use lib.Dec.{eqb}
 use borrow.Author.Tests.{eq-eqb, ne_eqb}
 use Rattle.record.specs.Record.{pick}
 use Rattle.unification.specs.Nodes.{is_variable, part, node_arity, arguments_from, node_row_if, node_row}
-use Rattle.unification.specs.Outlines.{most_outline_pairs, RowPair, OutlineTurn, agree, differ, argument_row_pairs, opened, after_turn, outline_turn, clash_within, outlines_clash}
+use Rattle.unification.specs.Outlines.{RowPair, agree, differ, argument_row_pairs, opened, after_turn, outline_turn, clash_within, outlines_clash}
 use Rattle.unification.specs.Row.{Row}
 use Rattle.unification.proofs.Outlines.{pairs_4096}
 use Rattle.outlines.specs.Comparing.{smaller, after_compared, NoMorePairs, PairCompared, ArgumentsCompared}

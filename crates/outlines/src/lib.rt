@@ -14,7 +14,7 @@ use following::nodes::{Nodes, arity_of, is_variable, part_of};
 const MOST_PAIRS: u16 = 4096;
 
 // The pairs taken up hold a clash; or they agree, and so many more may be taken up.
-#[derive(Drop)]
+#[derive(Clone, Copy)]
 pub enum Compared {
     Clash,
     Agree(u16),

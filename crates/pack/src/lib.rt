@@ -6,14 +6,14 @@ ghost use Rattle.pack.specs.Pack.{entry_at, number_at, RightCount};
 
 // What stands at a place of a pack: a whole file, with the place of its first byte and the place behind its last; or the rest is
 // too short.
-#[derive(Drop)]
+#[derive(Clone, Copy)]
 pub enum Entry {
     File(usize, usize),
     Short,
 }
 
 // How many files a pack holds, or that its last one is cut short.
-#[derive(Drop)]
+#[derive(Clone, Copy)]
 pub enum Counted {
     Files(usize),
     Cut,

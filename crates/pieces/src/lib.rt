@@ -16,7 +16,7 @@ use units::{unit_count, write_unit};
 
 // What comes after a piece: nothing, all is written; the clause that the next piece begins with; or there was no room for the line of
 // this clause, with which the piece was to begin.
-#[derive(Drop)]
+#[derive(Clone, Copy)]
 pub enum Rest {
     Complete,
     GoOn(u16),
@@ -24,7 +24,7 @@ pub enum Rest {
 }
 
 // How many bytes were written, and what comes after them.
-#[derive(Drop)]
+#[derive(Clone, Copy)]
 pub struct Piece {
     pub written: usize,
     pub rest: Rest,

@@ -5,7 +5,7 @@ ghost use Rattle.std.specs.Prelude.{◌≡◌, ◌≤◌};
 ghost use Rattle.program_input.specs.Input.{day_of, file_part, InputsRead};
 
 // Where the file of an input stands: its first byte, and the place behind its last.
-#[derive(Drop)]
+#[derive(Clone, Copy)]
 pub struct Part {
     pub first: usize,
     pub end: usize,

@@ -5,7 +5,7 @@ ghost use Rattle.std.specs.Prelude.{◌≡◌};
 ghost use Rattle.read_answer.specs.Reading.{read_of, taken_of};
 
 // What the answer of a read says: how many bytes came, that the input is at its end, or that the read failed.
-#[derive(Drop)]
+#[derive(Clone, Copy)]
 pub enum Read {
     Bytes(usize),
     End,
@@ -13,14 +13,14 @@ pub enum Read {
 }
 
 // How many bytes an input has that was read to its end or filled its space; or that a read of it failed.
-#[derive(Drop)]
+#[derive(Clone, Copy)]
 pub enum Input {
     Whole(usize),
     Broken,
 }
 
 // What a read means to the loop over reads: so many bytes more, or what became of the input.
-#[derive(Drop)]
+#[derive(Clone, Copy)]
 pub enum Turn {
     More(usize),
     Ended(Input),

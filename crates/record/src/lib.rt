@@ -6,7 +6,7 @@ ghost use Rattle.std.specs.Prelude.{◌≡◌, get_or};
 ghost use Rattle.record.specs.Record.{old_file, new_file, in_form, record_count, record_part, kind_of, count_of, field_of};
 
 // The form of a file: sixteen bytes a record, or twenty with the days beside a clause.
-#[derive(Drop)]
+#[derive(Clone, Copy)]
 pub enum Form {
     Old,
     New,

@@ -8,7 +8,7 @@ ghost use Rattle.record_fields.specs.Reader.{clause_literals};
 use record::{Form, count, field, kind, record_part};
 
 // An input clause as it is read out: byte 1, which is how many literals it has, and fields a to g as the file has them.
-#[derive(Drop)]
+#[derive(Clone, Copy)]
 pub struct ClauseLiterals {
     pub count: u8,
     pub numbers: [u16; 7],

@@ -8,7 +8,7 @@ ghost use Rattle.resolvent_size.specs.Size.{Sizeable, size_of};
 use clauses::{index_cell, literals_cell};
 
 // The number of literals and the maximum index; or one of them is past its limit.
-#[derive(Drop)]
+#[derive(Clone, Copy)]
 pub enum Size {
     Fits(u16, u16),
     TooLarge,

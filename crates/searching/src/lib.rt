@@ -10,14 +10,14 @@ ghost use Rattle.searching.specs.Searching.{found_given, Moved};
 use record::{Form, count, kind, record_part};
 
 // The record of a number, or none.
-#[derive(Drop)]
+#[derive(Clone, Copy)]
 pub enum Found {
     At(u16),
     Nothing,
 }
 
 // Where a comparison goes on, in the first file and in the second; or that it has ended without a difference, or with one.
-#[derive(Drop)]
+#[derive(Clone, Copy)]
 enum Move {
     To(usize, u16),
     Ended,

@@ -14,7 +14,7 @@ use numbering::Naming;
 use text::{TextBuffer, put_byte, put_symbol};
 
 // The position after the term, how many occurrences may still be written, and how many variables of the line have numbers; or there are too many.
-#[derive(Drop)]
+#[derive(Clone, Copy)]
 pub enum Written {
     Done(usize, u16, u16),
     TooMany,

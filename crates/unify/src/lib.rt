@@ -7,7 +7,7 @@
 pub mod bindings;
 
 // The work left and the number of bindings held; or the reason for the refusal, 10 to 13.
-#[derive(Drop)]
+#[derive(Clone, Copy)]
 pub enum Unified {
     Done(u16, u16),
     Refused(u8),
@@ -15,7 +15,7 @@ pub enum Unified {
 
 // What is to be done with two followed sides: a variable is bound to the other side, first row and index the variable's; nothing; the
 // symbols clash; or the arguments of two applications, of which there are some, are unified, the rows with their indices.
-#[derive(Drop)]
+#[derive(Clone, Copy)]
 pub enum Meeting {
     Bind(u16, u16, u16, u16),
     Nothing,

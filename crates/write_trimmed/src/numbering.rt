@@ -8,7 +8,7 @@ ghost use Rattle.write_trimmed.specs.Places.{next_of, Growing, After};
 use record::kind;
 
 // Where the next record goes, and the numbers that the next symbol, row and clause get.
-#[derive(Drop)]
+#[derive(Clone, Copy)]
 pub struct Place {
     pub at: usize,
     pub symbol: u16,

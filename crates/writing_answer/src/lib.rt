@@ -8,7 +8,7 @@ ghost use Rattle.writing_answer.specs.Given.{writing_given, refusal_given};
 use answer::Verdict;
 
 // Written, with the length of the file; or refused: a number, the input file that it is about, 0 for none, and a record.
-#[derive(Drop)]
+#[derive(Clone, Copy)]
 pub enum WritingOutcome {
     Written(u32),
     Refused(u8, u8, u16),

@@ -1,7 +1,5 @@
 use native.Mathlib.Omega.{arith}
 use Rattle.loading.proofs.Putting.{input_loaded, own_puttable, to_parent, factor_loaded, to_left, left_loaded, to_right, both_loaded}
-use borrow.Author.Rules.{rules}
-use Prim.Native.Nat.{ℕ, ◌<◌}
 use Rattle.loading.proofs.+load_clause.Goals as goal
 
 pub origin_code-code-requires : goal.origin_code-code-requires

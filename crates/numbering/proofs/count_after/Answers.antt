@@ -4,7 +4,6 @@ use Prim.Native.Nat.{suc}
 use native.Mathlib.Numerals.{add-one}
 use borrow.Author.Tests.{eq-eqb, ne_eqb}
 use Rattle.record.specs.Record.{pick}
-use borrow.Author.Rules.{rules}
 use Rattle.numbering.proofs.count_after.Goals as goal
 
 pub returns-then-n-count : goal.returns-then-n-count

@@ -4,7 +4,6 @@ use lib.Dec.{eqb}
 use lib.ListN.{get_or}
 use borrow.Author.Tests.{lt-ltb, le-ltb}
 use Rattle.record.specs.Record.{pick}
-use borrow.Author.Rules.{rules}
 use Rattle.numbering.proofs.has_number.Goals as goal
 
 pub returns-then-n-count : goal.returns-then-n-count

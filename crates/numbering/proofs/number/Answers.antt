@@ -2,7 +2,6 @@
 use mathlib.Core.Path.{refl, sym, ◌∙◌}
 use native.Mathlib.Omega.{arith}
 use Rattle.numbering.proofs.Taking.{cell_inside, number_found, number_new}
-use borrow.Author.Rules.{rules}
 use Rattle.numbering.proofs.number.Goals as goal
 
 pub bounds-cells-cell : goal.bounds-cells-cell

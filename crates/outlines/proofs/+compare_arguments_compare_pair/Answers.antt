@@ -1,9 +1,6 @@
 use native.Mathlib.Omega.{arith}
 use mathlib.Core.Path.{sym, ◌∙◌}
-use Prim.Native.Nat.{◌+◌, ◌-◌, ◌*◌, ◌≤◌}
-use Rattle.outlines.proofs.Walk.{pair_spent, pair_same, pair_left_variable, pair_right_variable, pair_clash, pair_opened, ArgumentsLeft, arguments_first, arguments_next, arguments_clash, arguments_agree}
-use borrow.Author.Rules.{rules}
-use Prim.Native.Nat.{ℕ, ◌<◌}
+use Rattle.outlines.proofs.Walk.{pair_spent, pair_same, pair_left_variable, pair_right_variable, pair_clash, pair_opened, arguments_first, arguments_next, arguments_clash, arguments_agree}
 use Rattle.outlines.proofs.+compare_arguments_compare_pair.Goals as goal
 
 pub compare_arguments-loop-n-init : goal.compare_arguments-loop-n-init

@@ -1,10 +1,6 @@
 -- The measure is twice the pairs left, and one more for the arguments. Each way out is one law of `Walk`.
-use native.Mathlib.Omega.{arith}
-use mathlib.Core.Path.{sym, ◌∙◌}
-use Prim.Native.Nat.{◌+◌, ◌-◌, ◌*◌, ◌≤◌}
-use Rattle.outlines.proofs.Walk.{pair_spent, pair_same, pair_left_variable, pair_right_variable, pair_clash, pair_opened, ArgumentsLeft, arguments_first, arguments_next, arguments_clash, arguments_agree}
-use borrow.Author.Rules.{rules}
-use Prim.Native.Nat.{ℕ, ◌<◌}
+use Prim.Native.Nat.{◌+◌, ◌-◌, ◌*◌}
+use Rattle.outlines.proofs.Walk.{ArgumentsLeft}
 use Rattle.outlines.proofs.+compare_arguments_compare_pair.Given as goal
 
 abbrev pub decreases-compare_arguments : goal.decreases-compare_arguments
@@ -14,7 +10,7 @@ abbrev pub decreases-compare_pair : goal.decreases-compare_pair
 decreases-compare_pair l = 2 * l.pairs
 
 abbrev pub invariant-compare_arguments-loop-n : goal.invariant-compare_arguments-loop-n
-invariant-compare_arguments-loop-n l =    ArgumentsLeft l.nodes l.r l.q l.pairs l.most l.left l.n
+invariant-compare_arguments-loop-n l = ArgumentsLeft l.nodes l.r l.q l.pairs l.most l.left l.n
 
 abbrev pub decreases-compare_arguments-loop-n : goal.decreases-compare_arguments-loop-n
-decreases-compare_arguments-loop-n l =    l.most - l.n
+decreases-compare_arguments-loop-n l = l.most - l.n

@@ -1,6 +1,5 @@
 use native.Mathlib.Omega.{arith}
 use Rattle.outlines.proofs.Walk.{smaller_left, smaller_right}
-use borrow.Author.Rules.{rules}
 use Rattle.outlines.proofs.common_arity.Goals as goal
 
 pub returns-then-left-right : goal.returns-then-left-right

@@ -1,5 +1,4 @@
 use Rattle.outlines.proofs.Walk.{compared_clash, compared_agree}
-use borrow.Author.Rules.{rules}
 use Rattle.outlines.proofs.outlines_clash.Goals as goal
 
 pub returns-in-Clash : goal.returns-in-Clash

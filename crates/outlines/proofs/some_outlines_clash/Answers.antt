@@ -1,11 +1,6 @@
-use mathlib.Core.Path.{◌≡◌}
-use Prim.Native.Nat.{◌-◌, ◌≤◌}
 use native.Mathlib.Omega.{arith}
-use Rattle.unification.specs.Listed.{listed_from}
 use Rattle.unification.specs.Nodes.{node_row}
-use Rattle.outlines.specs.Comparing.{some_clash}
 use Rattle.outlines.proofs.Each.{clash_found_here, clash_not_here, no_clash, all_clashes}
-use borrow.Author.Rules.{rules}
 use Rattle.outlines.proofs.some_outlines_clash.Goals as goal
 
 pub loop-j-init : goal.loop-j-init

@@ -1,6 +1,5 @@
 use native.Mathlib.Omega.{arith}
 use Rattle.resolvent_size.proofs.Sizes.{too_many_lem, too_high, fitting}
-use borrow.Author.Rules.{rules}
 use Rattle.resolvent_size.proofs.resolvent_size.Goals as goal
 
 pub overflow_add-literals : goal.overflow_add-literals

@@ -1,8 +1,5 @@
-use mathlib.Core.Path.{◌≡◌, ◌∙◌}
-use Prim.Native.Nat.{◌-◌, ◌≤◌}
+use mathlib.Core.Path.{◌∙◌}
 use native.Mathlib.Omega.{arith}
-use lib.ListN.{length, take}
-use Rattle.text.specs.Buffer.{Wrote}
 use Rattle.text.proofs.Positions.{wrote_nothing, wrote_next, wrote_whole}
 use Rattle.text.proofs.put_word.Goals as goal
 

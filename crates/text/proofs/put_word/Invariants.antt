@@ -1,9 +1,7 @@
-use mathlib.Core.Path.{◌≡◌, ◌∙◌}
+use mathlib.Core.Path.{◌≡◌}
 use Prim.Native.Nat.{◌-◌, ◌≤◌}
-use native.Mathlib.Omega.{arith}
 use lib.ListN.{length, take}
 use Rattle.text.specs.Buffer.{Wrote}
-use Rattle.text.proofs.Positions.{wrote_nothing, wrote_next, wrote_whole}
 use Rattle.text.proofs.put_word.Given as goal
 
 abbrev pub invariant-loop-n : goal.invariant-loop-n

@@ -1,4 +1,4 @@
-use Rattle.std.proofs.Common.{refl, arith, rules}
+use Rattle.std.proofs.Common.{refl, arith}
 use Rattle.following.specs.Walks.{TestLeavesLess}
 use Rattle.unify.proofs.BindingsAdded.{added_none, added_as_below, added_by}
 use Rattle.unify.proofs.PairWalk.{bound_yes, bound_spent, bound_full, bound_done, target_followable}

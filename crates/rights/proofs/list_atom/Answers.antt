@@ -1,0 +1,6 @@
+use Rattle.inference.proofs.RightLaws.{atom_listed}
+use Rattle.rights.proofs.list_atom.Goals as goal
+
+pub returns : goal.returns
+returns c =
+    atom_listed _ _ _ _ c.requires.listed_len c.requires.j_bound
