@@ -1,10 +1,8 @@
-use mathlib.Core.Path.{◌≡◌, refl, ◌∙◌}
-use mathlib.Core.List.{◌++◌}
-use Prim.Native.Nat.{◌+◌, ◌*◌, ◌-◌, ◌≤◌}
+use mathlib.Core.Path.{refl, ◌∙◌}
 use native.Mathlib.Omega.{arith}
-use lib.ListN.{length, take, drop, set, length-set}
+use lib.ListN.{set, length-set}
 use lib.Seq.{lt-length-set}
-use Rattle.raising.proofs.Raising.{sixteen, tail_room, begun, field_written, all_written}
+use Rattle.raising.proofs.Raising.{tail_room, begun, field_written, all_written}
 use Rattle.raising.proofs.put_shifted.Goals as goal
 
 pub bounds-output-1 : goal.bounds-output-1

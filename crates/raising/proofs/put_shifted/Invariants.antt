@@ -1,11 +1,9 @@
 -- After i turns the first i fields are written.
-use mathlib.Core.Path.{◌≡◌, refl, ◌∙◌}
+use mathlib.Core.Path.{◌≡◌}
 use mathlib.Core.List.{◌++◌}
 use Prim.Native.Nat.{◌+◌, ◌*◌, ◌-◌, ◌≤◌}
-use native.Mathlib.Omega.{arith}
-use lib.ListN.{length, take, drop, set, length-set}
-use lib.Seq.{lt-length-set}
-use Rattle.raising.proofs.Raising.{sixteen, tail_room, begun, field_written, all_written}
+use lib.ListN.{length, take, drop}
+use Rattle.raising.proofs.Raising.{sixteen}
 use Rattle.raising.proofs.put_shifted.Given as goal
 
 abbrev pub invariant-loop-i : goal.invariant-loop-i
