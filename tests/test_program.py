@@ -11,7 +11,7 @@ import unittest
 from pathlib import Path
 
 ROOT = Path(__file__).resolve().parent.parent
-PROGRAMS = ROOT / "target" / "bin"
+CRATES = ROOT / "crates"
 FILE = ROOT / "examples" / "permit.proof"
 READOUT = (ROOT / "examples" / "permit.txt").read_bytes()
 
@@ -44,7 +44,7 @@ class Program(unittest.TestCase):
 
     @property
     def program(self):
-        return PROGRAMS / self.name
+        return CRATES / self.name / "out" / self.name
 
     def proofread(self, *arguments, given=INPUT):
         """Runs the program on bytes."""
@@ -177,7 +177,7 @@ class Output(Program):
 class Script(unittest.TestCase):
     """The script examples/verdict."""
 
-    def run_script(self, file, day="0", readout=None, program=PROGRAMS / "proofread"):
+    def run_script(self, file, day="0", readout=None, program=CRATES / "proofread" / "out" / "proofread"):
         """What the script says, with its exit status, and what it leaves as the readout where an earlier run has left an accepted one."""
         with tempfile.TemporaryDirectory() as folder:
             left = Path(folder, "READOUT")
