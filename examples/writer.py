@@ -25,8 +25,7 @@ def neg(row):
 
 
 class ProofFile:
-    """Each method but the last returns the number that names what it has written. Only that a clause has a literal
-    is checked: the rest is the checker's work."""
+    """Each method but the last returns the number that names what it has written. Nothing is checked: that is the checker's work."""
 
     def __init__(self):
         self.bytes = b""
@@ -43,8 +42,6 @@ class ProofFile:
         return self._row(3, len(arguments), symbol, *arguments)
 
     def clause(self, *literals):
-        if not literals:
-            raise ValueError("a clause without literals is refused: write two, such as +grounded and -grounded, and resolve them")
         return self._write(self.clauses, 4, len(literals), *literals)
 
     def resolve(self, left, left_literal, right, right_literal):

@@ -4,9 +4,8 @@
 # of 4.5 MiB; the program of the first readout under 4.
 set -eu
 cd "$(dirname "$0")/.."
-rt staticlib checker_c
-rt check proofread
-rt check proofread_canonical
+tools/static-library
+for program in proofread proofread_canonical; do (cd "crates/$program" && rt run <stdin >/dev/null); done
 cargo build --quiet --offline --profile measured --manifest-path rust/Cargo.toml -p yestrwyn-second -p yestrwyn-comparison -p yestrwyn-desk --bins
 built=rust/target/measured
 "$built/performance"
@@ -15,10 +14,10 @@ trap 'rm -rf "$folder"' EXIT
 "$built/files_per_second" "$folder" "$built/yestrwyn"
 (ulimit -s 4608 && "$built/deepest")
 (ulimit -s 4608 && "$built/deepest" canonical)
-"$built/readouts" "$folder" target/bin/proofread "$built/readout" target/bin/proofread_canonical "$built/canonical"
+"$built/readouts" "$folder" crates/proofread/out/proofread "$built/readout" crates/proofread_canonical/out/proofread_canonical "$built/canonical"
 deep() { # PROGRAM KIB
     for file in "$folder"/deep-*; do
-        (ulimit -s "$2" && "target/bin/$1" <"$file" >/dev/null) || { echo "$1 fails on $(basename "$file")" && exit 1; }
+        (ulimit -s "$2" && "crates/$1/out/$1" <"$file" >/dev/null) || { echo "$1 fails on $(basename "$file")" && exit 1; }
     done
     echo "$1 ends on every deep file under a stack of $2 KiB"
 }

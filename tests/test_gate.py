@@ -9,7 +9,7 @@ import unittest
 from pathlib import Path
 
 ROOT = Path(__file__).resolve().parent.parent
-PROVED = "mkdir -p target/must-fail target/rlib target/stamp"
+PROVED = "echo rt: checker_c proved"
 
 
 def script(path, text):
@@ -35,7 +35,7 @@ def gate(
     with tempfile.TemporaryDirectory() as folder:
         top = Path(folder)
         shutil.copytree(ROOT / ".ci", top / ".ci")
-        for name in ("crates", "docs", "examples", "rust", "tests"):
+        for name in ("crates", "docs", "examples", "rust", "target", "tests"):
             (top / name).mkdir()
         for name in ("README.md", "crates.txt"):
             (top / name).touch()
@@ -70,6 +70,24 @@ class Gate(unittest.TestCase):
 
     def test_a_failed_must_fail_edit_or_program(self):
         self.ends(gate(rt=f"{PROVED}; echo 2 passed, 1 failed; exit 1"), 1, "failed: the proofs")
+
+    def test_proofs_and_edits_that_were_kept(self):
+        kept = "echo rt: checker_c is kept: an earlier run proved it; echo 'rt: ok; must-fail edits: 467 refused; done in this run: 0'"
+        self.ends(gate(rt=f"{kept}; echo 3 passed, 0 failed"), 0, "3 passed, 0 failed")
+
+    def test_a_bad_must_fail_edit(self):
+        for told in ("467 refused, 2 bad", "467 refused, 3 of them only by a limit, 12 bad"):
+            ok = f"echo 'rt: ok; handles allowed: none; must-fail edits: {told}; every proof and must-fail edit was done in this run'"
+            run = gate(rt=f"{PROVED}; {ok}; echo 3 passed, 0 failed")
+            self.ends(run, 1, "failed: must-fail edits that are bad")
+
+    def test_a_last_line_without_a_count(self):
+        self.ends(gate(rt=f"{PROVED}; echo 3 passed, 0 failed; echo more"), 1, "failed: the proofs")
+
+    def test_plain_proofs_in_the_clone_as_it_stands(self):
+        # `rt` gets the one word `ci`, at the top, where everything still lies that lay there, and nothing on standard input.
+        here = '[ "$*" = ci ] && [ -d target ] && [ -f crates.txt ] && [ -d .ci ] && ! read -r line'
+        self.ends(gate(rt=f"{here} || exit 1; {PROVED}; echo 3 passed, 0 failed"), 0, "3 passed, 0 failed")
 
     def test_proofs_that_end_early(self):
         for early in ("exit 2", "echo 0 passed, 1 failed; exit 1", "exit 0"):

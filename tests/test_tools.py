@@ -19,8 +19,6 @@ class Folder:
         shutil.copytree(ROOT / "tools", self.top / "tools")
         shutil.copytree(ROOT / "crates" / "tables", self.top / "crates" / "tables")
         (self.top / "crates.txt").write_text("tables:\n")
-        for name in ("rlib", "stamp"):
-            (self.top / "target" / name).mkdir(parents=True)
         return self
 
     def __exit__(self, *_):
@@ -37,10 +35,10 @@ class Folder:
         )
 
     def proof(self, name):
-        return self.top / "crates" / "tables" / "proofs" / name / "Proof.antt"
+        return self.top / "crates" / "tables" / "proofs" / name / "Answers.antt"
 
     def answers(self, name):
-        return self.top / "work" / "tables" / "answers" / f"{name}.txt"
+        return self.top / "work" / "tables" / "answers" / name / "Answers.antt"
 
 
 class Prove(unittest.TestCase):
@@ -49,17 +47,18 @@ class Prove(unittest.TestCase):
             for arguments in ([], ["mend"], ["other", "tables"]):
                 run = folder.run("prove", *arguments)
                 self.assertEqual((run.returncode, run.stdout), (1, ""))
-                self.assertIn("tools/prove stubs CRATE", run.stderr)
+                self.assertIn("tools/prove start CRATE FN", run.stderr)
 
     def test_answers_are_those_of_the_page(self):
         page = (ROOT / "docs" / "PROVING.md").read_text()
-        shown = page.split("that of `clear` in the crate tables:\n\n")[1].split("\n\n")[0]
+        shown = page.split("that of `clear` in the crate tables:\n\n")[1].split("\n\n- ")[0]
         with Folder() as folder:
             self.assertEqual(folder.run("prove", "answers", "tables", "clear").returncode, 0)
-            lines = iter(folder.answers("clear").read_text().splitlines())
+            answers = folder.answers("clear")
+            lines = iter("\n".join(file.read_text() for file in (answers.with_name("Invariants.antt"), answers)).splitlines())
             # The page leaves some out, and the order stays.
-            for line in shown.splitlines():
-                self.assertIn(line.strip(), lines)
+            for line in filter(str.strip, shown.splitlines()):
+                self.assertIn(line.strip(), map(str.strip, lines))
 
     def test_a_wrong_name_mends_nothing(self):
         with Folder() as folder:
@@ -74,7 +73,8 @@ class Prove(unittest.TestCase):
             for name in ("clear", "cell"):
                 self.assertFalse(folder.proof(name).exists())
                 self.assertTrue(folder.answers(name).exists())
-            self.assertIn("== Inv-loop\n", folder.answers("clear").read_text())
+            self.assertIn("\nloop-k-preserved c =\n", folder.answers("clear").read_text())
+            self.assertTrue(folder.answers("clear").with_name("Invariants.antt").exists())
             self.assertTrue(folder.proof("set_cell").exists())
 
     def test_errors_are_shortened(self):
@@ -86,13 +86,9 @@ class Prove(unittest.TestCase):
 
 class TryEdits(unittest.TestCase):
     RT = """[ "$1 $2" = "must-fail tables" ] || exit 1
+echo "rt: another line"
 for edit in crates/tables/must-fail/*.edit; do
-    name=$(basename "$edit" .edit)
-    mkdir -p "target/must-fail/tables/$name"
-    echo "note: none
-error: $name does not hold
-error: another" > "target/must-fail/tables/$name/.log"
-    echo "rt: must-fail $name refused"
+    echo "rt: must-fail tables/$(basename "$edit"): refused, as it must be: error: it does not hold"
 done"""
 
     def tried(self, *edits):
@@ -102,8 +98,7 @@ done"""
             return run.stdout
 
     def told(self, edits):
-        first = "".join(f"rt: must-fail {edit} refused\n" for edit in edits)
-        return first + "".join(f"== {edit}\nerror: {edit} does not hold\n" for edit in edits)
+        return "".join(f"rt: must-fail tables/{edit}.edit: refused, as it must be: error: it does not hold\n" for edit in edits)
 
     def test_all_edits_of_a_crate(self):
         edits = sorted(edit.stem for edit in (ROOT / "crates" / "tables" / "must-fail").glob("*.edit"))

@@ -9,7 +9,11 @@ from pathlib import Path
 ROOT = Path(__file__).resolve().parent.parent
 
 
-def attempt(*arguments, toolchain="exit 0"):
+# What `rt run` comes to in a program's folder, where the program has been proved and built.
+RUN = '[ "$*" = run ] && exec "out/$(basename "$PWD")"'
+
+
+def attempt(*arguments, toolchain=RUN):
     """Runs `try` with a stand-in for the toolchain's command."""
     with tempfile.TemporaryDirectory() as folder:
         rt = Path(folder, "rt")

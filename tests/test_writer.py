@@ -210,19 +210,10 @@ class Writer(unittest.TestCase):
 
     def test_days_take_no_number(self):
         file = ProofFile()
-        atom = file.app(file.symbol(0))
-        first = file.clause(pos(atom))
+        first = file.clause()
         self.assertIsNone(file.in_force(first, 258, 65535))
-        self.assertEqual(file.bytes[48:], bytes([8, 0, 0, 0, 2, 1, 255, 255]) + bytes(8))
-        self.assertEqual((first, file.clause(neg(atom))), (0, 1))
-
-    def test_a_clause_has_a_literal(self):
-        file = ProofFile()
-        with self.assertRaisesRegex(ValueError, "without literals"):
-            file.clause()
-        self.assertEqual(file.bytes, b"")
-        # Nothing took a number.
-        self.assertEqual(file.clause(pos(file.app(file.symbol(0)))), 0)
+        self.assertEqual(file.bytes[16:], bytes([8, 0, 0, 0, 2, 1, 255, 255]) + bytes(8))
+        self.assertEqual((first, file.clause()), (0, 1))
 
     def test_rows_are_written_once(self):
         file = ProofFile()

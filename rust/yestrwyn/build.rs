@@ -1,4 +1,4 @@
-//! Links the static library of the proved check, which `rt staticlib checker_c` writes. The folder in which it lies is named by
+//! Links the static library of the proved check, which `rt lib` writes in the folder of the crate checker_c. The folder in which it lies is named by
 //! the environment variable `YESTRWYN_LIB_DIR`; without it, it is looked for where the toolchain puts it in this repository.
 //! Where there is none, nothing is linked: documentation and type checks need no library, and a program fails at its link.
 
@@ -16,7 +16,7 @@ fn main() {
         // A relative name is taken from this package's folder, so the whole one is shown.
         let archive = std::path::absolute(&archive).unwrap_or(archive);
         println!("cargo:warning={} is missing, and programs cannot be linked.", archive.display());
-        println!("cargo:warning=Write it with `rt staticlib checker_c`, or name its folder in {FOLDER}.");
+        println!("cargo:warning=Write it with `rt lib` in crates/checker_c, or name its folder in {FOLDER}.");
         return;
     }
     println!("cargo:rustc-link-search=native={}", folder.display());
@@ -26,5 +26,5 @@ fn main() {
 /// The folder that the toolchain writes to.
 fn in_the_repository() -> PathBuf {
     let package = env::var_os("CARGO_MANIFEST_DIR").unwrap_or_default();
-    Path::new(&package).join("../../target/staticlib")
+    Path::new(&package).join("../../crates/checker_c/out")
 }

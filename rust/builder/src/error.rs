@@ -9,11 +9,6 @@ use yestrwyn_types::limits::{
 };
 use yestrwyn_types::{NameError, Reason};
 
-/// What is said of an input clause without literals.
-const NO_LITERALS: &str =
-    "an input clause without literals, which the check refuses with 4: write two clauses instead, such as \
-                           +grounded and -grounded, and resolve them";
-
 /// Why a record is not written. The file stays as it was.
 #[non_exhaustive]
 #[derive(Clone, Copy, PartialEq, Eq, Debug)]
@@ -33,9 +28,6 @@ pub enum BuildError {
     },
     /// An input clause cannot have so many literals.
     Literals(usize),
-    /// An input clause without literals. Such a rule is retired: with it every quote was declined. What is never to hold is said with
-    /// two clauses, one for it and one against it, from which a step makes the empty clause.
-    NoLiterals,
     /// The atom of a literal is a variable.
     VariableLiteral,
     /// A symbol, row or clause of another builder. It is found only where its number is past what this builder has made,
@@ -102,7 +94,6 @@ impl fmt::Display for BuildError {
                 write!(out, "{given} arguments to a symbol of arity {arity}")
             }
             BuildError::Literals(count) => write!(out, "{count} literals, over {INPUT_LITERALS}"),
-            BuildError::NoLiterals => out.write_str(NO_LITERALS),
             BuildError::VariableLiteral => write!(out, "the atom of a literal is a variable"),
             BuildError::Foreign => write!(out, "a symbol, row or clause of another file"),
             BuildError::NoSymbol { number, symbols } => {

@@ -117,24 +117,8 @@ impl FileBuilder {
         self.row(Record::new(kind::APPLICATION, symbol.arity, &fields))
     }
 
-    /// An input clause of one to seven literals.
-    ///
-    /// ```
-    /// # use yestrwyn_builder::{neg, pos, BuildError, FileBuilder};
-    /// # let mut file = FileBuilder::new();
-    /// # let grounded = file.symbol(0)?;
-    /// # let grounded = file.constant(grounded)?;
-    /// // A rule without literals is none: say what is the case, and what may not be.
-    /// assert_eq!(file.clause(&[]), Err(BuildError::NoLiterals));
-    /// let notice = file.clause(&[pos(grounded)])?;
-    /// let rule = file.clause(&[neg(grounded)])?;
-    /// let empty = file.resolve(notice.literal(1), rule.literal(1))?;
-    /// # Ok::<(), BuildError>(())
-    /// ```
+    /// An input clause of up to seven literals.
     pub fn clause(&mut self, literals: &[Signed]) -> Result<Clause, BuildError> {
-        if literals.is_empty() {
-            return Err(BuildError::NoLiterals);
-        }
         let count = u8::try_from(literals.len()).ok().filter(|&count| count <= INPUT_LITERALS);
         let count = count.ok_or(BuildError::Literals(literals.len()))?;
         let mut fields = Vec::new();

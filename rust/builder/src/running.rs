@@ -110,7 +110,7 @@ impl RunningBuilder {
         self.file.apply(symbol, arguments)
     }
 
-    /// An input clause of one to seven literals.
+    /// An input clause of up to seven literals.
     pub fn clause(&mut self, literals: &[Signed]) -> Result<Clause, BuildError> {
         let clause = self.file.clause(literals)?;
         self.written_input(literals);

@@ -5,10 +5,10 @@ use yestrwyn_builder::{neg, pos, BuildError, FileBuilder, ReadError, Reason, Run
 use yestrwyn_second::{check, merge, readout};
 use yestrwyn_types::limits::RECORD_BYTES;
 use yestrwyn_types::Verdict;
-use yestrwyn_vectors::examples::{cases, days, edges, published, refusals, retired};
+use yestrwyn_vectors::examples::{cases, days, edges, published, refusals};
 use yestrwyn_vectors::merges::random_pair;
 use yestrwyn_vectors::{
-    clashing_several_file, damage, dated_file, random_file, repeating_file, retired_file, several_file,
+    clashing_several_file, damage, dated_file, random_file, repeating_file, several_file,
 };
 
 /// What both builders make of a file: the second reads it if and only if it stands, and otherwise says which record is
@@ -54,9 +54,8 @@ fn same_clauses(name: &str, file: &[u8], running: &RunningBuilder) {
 
 #[test]
 fn named_files() {
-    let examples =
-        [cases::examples(), published(), refusals::examples(), retired::examples(), days::examples()];
-    for example in examples.concat() {
+    let examples = [cases::examples(), published(), refusals::examples(), days::examples()].concat();
+    for example in examples {
         same(&example.name, &example.file);
     }
     for example in edges::examples() {
@@ -90,27 +89,6 @@ fn random_files() {
         }
     }
     assert!(read > 3000 && refused > 2000, "{read} read, {refused} refused");
-}
-
-/// A stored file with an input clause without literals is not read, whichever builder is asked: record and reason are those of the check.
-#[test]
-fn input_clauses_without_literals() {
-    let mut stored = rulebook();
-    let record = (stored.len() / RECORD_BYTES) as u16;
-    stored.extend([&[4][..], &[0; 15]].concat());
-    stored.extend([&[4][..], &[0; 15]].concat());
-    let refused = ReadError::Record { record, reason: Reason::Range };
-    assert_eq!(FileBuilder::from_bytes(&stored).err(), Some(refused));
-    assert_eq!(RunningBuilder::from_bytes(&stored).err(), Some(refused));
-    let text = "record 8 is refused with 4: byte 1 or the variable number is out of its range, or an unused field or day is not zero";
-    assert_eq!(refused.to_string(), text);
-    for example in retired::examples() {
-        let verdict = same(&example.name, &example.file);
-        assert!(matches!(verdict, Verdict::Refused { reason: Reason::Range, .. }), "{}", example.name);
-    }
-    for seed in 0..300 {
-        same(&format!("retired {seed}"), &retired_file(seed).1);
-    }
 }
 
 /// The records of a rulebook: p of one argument and a; x twice, p of the second x, a; -p(x), in force from day 10 to 20.

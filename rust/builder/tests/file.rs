@@ -1,8 +1,8 @@
 //! The file builder: equal terms are one row, what is tested of a record, and numbers that are the
 //! check's.
 
-use yestrwyn_builder::{neg, pos, BuildError, FileBuilder, Form, Row, RunningBuilder};
-use yestrwyn_second::{check, check_form};
+use yestrwyn_builder::{neg, pos, BuildError, FileBuilder, Row};
+use yestrwyn_second::check;
 
 #[test]
 fn equal_terms_are_one_row() {
@@ -75,7 +75,6 @@ fn what_cannot_be_written_is_an_error_and_leaves_the_file() -> Result<(), BuildE
     assert_eq!(file.apply(p, &[]), Err(BuildError::Arguments { arity: 1, given: 0 }));
     assert_eq!(file.apply(p, &[x, q]), Err(BuildError::Arguments { arity: 1, given: 2 }));
     assert_eq!(file.constant(p), Err(BuildError::Arguments { arity: 1, given: 0 }));
-    assert_eq!(file.clause(&[]), Err(BuildError::NoLiterals));
     assert_eq!(file.clause(&[pos(px); 8]), Err(BuildError::Literals(8)));
     assert_eq!(file.clause(&[pos(px); 300]), Err(BuildError::Literals(300)));
     assert_eq!(file.clause(&[pos(x)]), Err(BuildError::VariableLiteral));
@@ -119,30 +118,7 @@ fn days_are_given_to_input_clauses() -> Result<(), BuildError> {
     let verdicts = [9, 10, 19, 20, 21].map(|day| check(day, file.bytes()).verdict.to_string());
     assert_eq!(verdicts, ["open", "open", "open", "accepted 2", "open"]);
     // The clause that comes next has the number it would have had without them.
-    assert_eq!(file.clause(&[pos(p)])?.number(), 3);
-    Ok(())
-}
-
-/// Neither builder writes an input clause without literals, in either form, and the file stays as it was.
-#[test]
-fn no_input_clause_is_without_literals() -> Result<(), BuildError> {
-    for form in Form::ALL {
-        let (mut plain, mut running) = (FileBuilder::with_form(form), RunningBuilder::with_form(form));
-        assert_eq!(plain.clause(&[]), Err(BuildError::NoLiterals));
-        assert_eq!(running.clause(&[]), Err(BuildError::NoLiterals));
-        let symbol = running.symbol(0)?;
-        let grounded = running.constant(symbol)?;
-        let notice = running.clause(&[pos(grounded)])?;
-        let written = running.bytes().to_vec();
-        assert_eq!(running.clause(&[]), Err(BuildError::NoLiterals));
-        assert_eq!((running.bytes(), running.accepted(0)), (&written[..], None));
-        // What such a clause was to say takes two, and a step.
-        let rule = running.clause(&[neg(grounded)])?;
-        let step = running.resolve(notice.literal(1), rule.literal(1))?;
-        assert!(step.is_empty() && running.accepted(0) == Some(step.clause));
-        assert!(check_form(form, 0, running.bytes()).verdict.is_accepted());
-        assert_eq!(plain.bytes(), b"");
-    }
+    assert_eq!(file.clause(&[])?.number(), 3);
     Ok(())
 }
 
@@ -199,11 +175,6 @@ fn errors_say_what_is_wrong() {
         (BuildError::Derived(7), "days for clause 7, which a step has made: only an input clause has days"),
         (BuildError::Days { first: 21, last: 20 }, "day 21 as the first, after the last, 20"),
         (BuildError::RightLiterals(5), "5 right literals, not 1 to 4"),
-        (
-            BuildError::NoLiterals,
-            "an input clause without literals, which the check refuses with 4: write two clauses instead, such as \
-             +grounded and -grounded, and resolve them",
-        ),
         (BuildError::Refused(yestrwyn_builder::Reason::Clash), "refused with 10: two different symbols meet"),
     ];
     for (error, text) in texts {

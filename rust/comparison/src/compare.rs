@@ -10,7 +10,7 @@ use yestrwyn_vectors::random::SplitMix64;
 use yestrwyn_vectors::repeating::rows_at_random;
 use yestrwyn_vectors::{clashing_file, clashing_several_file, covering_file, damage, dated_file};
 use yestrwyn_vectors::{
-    hiding_file, random_file, random_file_of, repeating_file, retired_file, several_file, several_file_of,
+    hiding_file, random_file, random_file_of, repeating_file, several_file, several_file_of,
 };
 
 use crate::services::Services;
@@ -143,8 +143,8 @@ pub(crate) fn differ<T: Copy + PartialEq + Into<u32>>(
     Err(Difference { part, cell, proved: proved[cell].into(), second: second[cell].into() })
 }
 
-/// The day and the file of a number within a run: a file with windows on a day near their ends, one that stood with input
-/// clauses without literals, or any other file, at times with windows put in, on any day.
+/// The day and the file of a number within a run: a file with windows on a day near their ends, or any other file, at
+/// times with windows put in, on any day.
 pub fn day_and_file_of(seed: u64) -> (u16, Vec<u8>) {
     let mut random = SplitMix64::new(seed ^ 0xda75_0000_0000_0000);
     let (own, day) = (random.next_u64(), random.next_u64() as u16);
@@ -155,7 +155,6 @@ pub fn day_and_file_of(seed: u64) -> (u16, Vec<u8>) {
             (day, damage(&file, random.next_u64()))
         }
         5 | 6 => (day, with_windows(&file_of(seed), day, own)),
-        7 => retired_file(own),
         _ => (day, file_of(seed)),
     }
 }

@@ -30,45 +30,6 @@ pub fn measured() -> Vec<Example> {
     ]
 }
 
-/// Proofs in which each step goes on from the clause before it, at three lengths each: a count, whose terms grow, so that step k has an occurrence test
-/// of k units; a derivation backward from a goal, whose terms stay small; and the same with a factor after each resolve.
-pub fn linear() -> Vec<Example> {
-    let counts = [1000, 2000, 4000].map(|steps| {
-        Example::new(&format!("a count to {steps}, growing parent left"), deep::derivation(steps))
-    });
-    let goals = [750, 1500, 3000]
-        .map(|steps| Example::new(&format!("{steps} steps backward from a goal"), backward(steps)));
-    let factors = [1000, 2000, 4000]
-        .map(|steps| Example::new(&format!("{steps} resolves and factors in turn"), in_turn(steps / 2)));
-    counts.into_iter().chain(goals).chain(factors).collect()
-}
-
-/// A goal resolved with a rule that exchanges its arguments, again and again.
-fn backward(steps: u16) -> Vec<u8> {
-    let mut file = Sketch::new();
-    let q = file.symbol(2);
-    let mut goal = file.clause(&[neg(app(q, [var(0), var(1)]))]);
-    let rule = file.clause(&[pos(app(q, [var(0), var(1)])), neg(app(q, [var(1), var(0)]))]);
-    for _ in 0..steps {
-        goal = file.resolve(goal, 1, rule, 1);
-    }
-    file.finish()
-}
-
-/// The same with a rule that leaves the goal twice, of which a factor makes one.
-fn in_turn(pairs: u16) -> Vec<u8> {
-    let mut file = Sketch::new();
-    let q = file.symbol(2);
-    let mut goal = file.clause(&[neg(app(q, [var(0), var(1)]))]);
-    let left = || neg(app(q, [var(1), var(0)]));
-    let rule = file.clause(&[pos(app(q, [var(0), var(1)])), left(), left()]);
-    for _ in 0..pairs {
-        goal = file.resolve(goal, 1, rule, 1);
-        goal = file.factor(goal, 1, 2);
-    }
-    file.finish()
-}
-
 /// The stored examples of proofs that a planner writes, and case A.
 pub fn ordinary() -> Vec<Example> {
     let example = |name: &str| Example::new(&format!("`{name}`"), stored(name));

@@ -5,12 +5,12 @@
 use std::fs;
 
 use yestrwyn::exported::check_numbers;
-use yestrwyn::{check, check_into, Cells, Tables, Verdict, Workspace, LENGTHS};
+use yestrwyn::{check, check_into, Cells, Tables, Workspace, LENGTHS};
 use yestrwyn_comparison::compare::{compare, day_and_file_of, lengths_of, Lengths, Pair};
 use yestrwyn_types::record::kind;
-use yestrwyn_vectors::examples::{cases, days, heavy, retired, Example};
+use yestrwyn_vectors::examples::{cases, days, heavy, Example};
 use yestrwyn_vectors::stored::{day_and_file, groups, pack_path, unpack};
-use yestrwyn_vectors::{damage, dated_file, random_file, retired_file};
+use yestrwyn_vectors::{damage, dated_file, random_file};
 
 /// The days and files of every stored pack.
 fn stored() -> Vec<(u16, Vec<u8>)> {
@@ -164,40 +164,6 @@ fn files_with_windows_on_several_days() {
             on_days(day, &damage(&file, seed), &[]);
         }
         assert!(kinds.iter().all(|&count| count > 500), "{kinds:?} open, accepted and refused");
-    });
-}
-
-/// Files that stood while an input clause could have no literals, plain and damaged.
-#[test]
-fn input_clauses_without_literals() {
-    with_stack(|| {
-        let mut pair = Pair::default();
-        for Example { file, .. } in retired::examples() {
-            for day in [0, 10, 20, 21] {
-                assert_eq!(same_on(&mut pair, day, &file, Lengths::longer(1)), Some(2));
-            }
-        }
-        for seed in 0..1000 {
-            let (day, file) = retired_file(seed);
-            assert_eq!(same_on(&mut pair, day, &file, Lengths::longer(1)), Some(2));
-            same_on(&mut pair, day, &damage(&file, seed), Lengths::longer(1));
-        }
-    });
-}
-
-/// An accepted clause has a maximum index of 2 at least, by the proved check alone.
-#[test]
-fn accepted_clauses_have_two_uses() {
-    with_stack(|| {
-        let (mut workspace, mut accepted) = (Workspace::new(), 0);
-        for (day, file) in stored().into_iter().chain((0..2000).map(dated_file)) {
-            if let Verdict::Accepted(clause) = workspace.check_here(day, &file).verdict {
-                let cells = &workspace.cells().clauses[5 * usize::from(clause)..][..3];
-                assert!(cells[1] == 0 && cells[2] >= 2, "{cells:?}");
-                accepted += 1;
-            }
-        }
-        assert!(accepted > 700, "{accepted}");
     });
 }
 

@@ -130,7 +130,7 @@ fn compiled(name: &str) -> PathBuf {
         .args(["-std=c99", "-Wall", "-Wextra", "-Werror", "-pedantic", "-O2", "-I"])
         .arg(path("crates/checker_c"))
         .arg(path(&format!("rust/comparison/snippets/{name}.c")))
-        .arg(path("target/staticlib/libchecker_c.a"))
+        .arg(path("crates/checker_c/out/libchecker_c.a"))
         .arg("-o")
         .arg(&program)
         .status();

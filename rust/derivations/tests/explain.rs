@@ -78,24 +78,6 @@ fn a_clash_and_an_occurrence_are_shown_with_their_places() {
     assert!(text("E").contains("argument 1 has s2 in the one and s3 in the\n  other"));
 }
 
-/// 4 comes first of all that is wrong with an input clause without literals, and is mended as the format's page says.
-#[test]
-fn an_input_clause_without_literals() {
-    let text = |file: Vec<u8>| {
-        let checked = Checked::new(&Example::new("a clause without literals", file));
-        explain(&checked.model(), &Names::none(), None)
-    };
-    let alone = [4, 0, 0, 0, 0, 0, 0, 0, 0, 0, 0, 0, 0, 0, 0, 0];
-    let mut unused = alone;
-    unused[2] = 7;
-    for record in [alone, unused] {
-        let text = text(record.to_vec());
-        assert!(text.starts_with("refused 4 at 0\n"), "{text}");
-        assert!(text.contains("  Byte 1 is 0, and must be 1 to 7.\n"), "{text}");
-        assert!(text.contains("\nhow to mend it:\n  An input clause must have a literal"), "{text}");
-    }
-}
-
 #[test]
 fn files_of_both_forms() {
     let names = Names::none();

@@ -107,7 +107,7 @@ fn last_children_by_hand() {
     assert_eq!(children("kind-7"), [2, 2, 0]);
     assert_eq!(children("one-parent-in-common"), [4, 3, 4, 0, 0]);
     assert_eq!(children("with-itself"), [3, 4, 5, 4, 5, 0]);
-    assert_eq!(children("no-step"), [0; 4]);
+    assert_eq!(children("empty-input-clauses"), [0, 0, 0]);
     let many = children("4091-steps");
     assert_eq!((many.len(), &many[..2]), (4093, &[4092, 4092][..]));
     assert!(many[2..].iter().all(|&child| child == 0));
@@ -484,7 +484,7 @@ fn by_the_rule(file: &[u8], clauses: &[u16], before: &[u16], after: &[u16], plac
 /// As many clauses as there can be, and derivations as long.
 #[test]
 fn long_derivations() {
-    for name in ["4094-input-clauses", "4091-steps", "three-hundred-steps"] {
+    for name in ["4096-input-clauses", "4091-steps", "three-hundred-steps"] {
         let Script { day, file, calls, .. } = named(name);
         // Afresh, every derivation is walked: some calls are enough.
         let script = Script::new(name, day, file, &calls[..3]);
@@ -503,17 +503,13 @@ fn long_derivations() {
 #[test]
 fn windows_are_no_clauses() {
     let mut file = Sketch::new();
-    let p = app(file.symbol(0), []);
-    let one = file.clause(&[pos(p.clone())]);
-    file.window(one, 3, 3);
-    let other = file.clause(&[neg(p)]);
-    file.window(other, 3, 3);
-    file.resolve(one, 1, other, 1);
-    let kinds: Vec<u8> = file.bytes().iter().step_by(RECORD_BYTES).skip(2).copied().collect();
-    assert_eq!(kinds, [kind::INPUT, kind::WINDOW, kind::INPUT, kind::WINDOW, kind::RESOLVE]);
-    let calls = [Call::Withdraw(3), Call::Withdraw(1)];
+    let clause = file.clause(&[]);
+    file.window(clause, 3, 3);
+    let kinds: Vec<u8> = file.bytes().iter().step_by(RECORD_BYTES).copied().collect();
+    assert_eq!(kinds, [kind::INPUT, kind::WINDOW]);
+    let calls = [Call::Withdraw(1), Call::Withdraw(0)];
     assert_eq!(
         answers(&Script::new("window", 3, file.finish(), &calls)),
-        ["clause 2", "refused 20 at 0", "none"]
+        ["clause 0", "refused 20 at 0", "none"]
     );
 }

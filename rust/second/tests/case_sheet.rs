@@ -1,8 +1,6 @@
 //! The case sheet of the format description, A to K, with tables and works. Case L is in published.rs.
 
-use yestrwyn_vectors::examples::cases::{
-    case_a, case_f, case_g, case_h, case_i, case_j, case_k, examples, with_bad_record,
-};
+use yestrwyn_vectors::examples::cases::{case_a, case_f, case_g, case_h, case_i, case_j, case_k, examples};
 use yestrwyn_vectors::outcome::{outcome, Outcome};
 use yestrwyn_vectors::sketch::{app, neg, pos, Sketch};
 
@@ -53,14 +51,6 @@ fn a_cells_after_the_used_ones_are_zero() {
 }
 
 #[test]
-fn a_with_a_bad_record_after_it_is_refused() {
-    let (a, bad) = (outcome(&case_a()), outcome(&with_bad_record(case_a())));
-    assert_eq!(bad.answer.numbers(), [2, 3, 16, 3, 8, 5, 1]);
-    assert_eq!(bad.tables(), a.tables());
-    assert_eq!(text(&bad), text(&a).replace("accepted 4", "refused 3 at 16"));
-}
-
-#[test]
 fn b_the_empty_file_is_open() {
     let b = outcome(&[]);
     assert_eq!(b.answer.numbers(), [0; 7]);
@@ -103,12 +93,13 @@ fn f_the_right_side_is_followed_before_the_occurrence_test() {
 
 #[test]
 fn g_an_input_clause_without_literals() {
-    for file in [case_g(), with_bad_record(case_g())] {
-        let g = outcome(&file);
-        assert_eq!(g.answer.numbers(), [2, 4, 0, 0, 0, 0, 0]);
-        assert!(g.tables().into_iter().flatten().all(|&cell| cell == 0));
-        assert_eq!(text(&g), "refused 4 at 0\n");
-    }
+    let g = outcome(&case_g(false));
+    assert_eq!(g.answer.numbers(), [1, 0, 0, 0, 0, 1, 0]);
+    assert_eq!(g.used()[2], [0, 0, 1, 0, 0]);
+    assert_eq!(text(&g), "accepted 0\n0 1\n");
+    let bad = outcome(&case_g(true));
+    assert_eq!(bad.answer.numbers(), [2, 3, 1, 0, 0, 1, 0]);
+    assert_eq!(text(&bad), "refused 3 at 1\n0 1\n");
 }
 
 #[test]

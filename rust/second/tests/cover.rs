@@ -7,7 +7,7 @@ use covering::{by_building, by_trees};
 use reference::{From, Reference};
 use yestrwyn_second::checker::Checker;
 use yestrwyn_second::cover::compare;
-use yestrwyn_second::{check, check_into, covers, covers_into};
+use yestrwyn_second::{check_into, covers, covers_into};
 use yestrwyn_types::limits::RECORD_BYTES;
 use yestrwyn_types::{Covering, Outcome, Tables, LENGTHS};
 use yestrwyn_vectors::random::SplitMix64;
@@ -53,7 +53,7 @@ fn constant(number: u16) -> Term {
     (0..around).fold(app(A + first, []), |term, _| s(term))
 }
 
-/// The literals chosen with a yes, none with a no.
+/// The literals chosen with a yes, none with a no; where the first clause has none, an empty list.
 fn chosen(general: &[SignedTerm], special: &[SignedTerm]) -> Option<Vec<u16>> {
     let mut file = symbols();
     let [c, d] = [general, special].map(|literals| file.clause(literals));
@@ -153,16 +153,10 @@ fn signs_count() {
 }
 
 #[test]
-fn with_a_clause_without_literals_no_clauses_are_compared() {
-    let mut file = symbols();
-    let clauses = [pos(p(var(0))), pos(p(app(A, [])))].map(|literal| file.clause(&[literal]));
-    let [general, special] = clauses;
-    assert!(covers(file.bytes(), general, special).is_yes());
-    let none = file.clause(&[]);
-    let file = file.finish();
-    for (c, d) in [(general, special), (none, special), (general, none), (none, none)] {
-        assert_eq!(covers(&file, c, d).numbers(), REFUSED, "{c} and {d}");
-    }
+fn a_clause_without_literals_covers_every_clause() {
+    assert_eq!(chosen(&[], &[pos(p(var(0)))]), Some(vec![]));
+    assert_eq!(chosen(&[], &[]), Some(vec![]));
+    assert_eq!(chosen(&[pos(p(var(0)))], &[]), None);
 }
 
 #[test]
@@ -294,30 +288,19 @@ fn the_file_must_stand() {
     let good = file.clone().finish();
     assert!(covers(&good, clause, clause).is_yes());
     // A refused record after the clauses, of several reasons; a length that does not fit.
-    let records = [
-        (0, 0, [0; 3]),
-        (1, 0, [1, 0, 0]),
-        (4, 1, [40, 0, 0]),
-        (4, 0, [0; 3]),
-        (5, 0, [0, 1, 0]),
-        (6, 0, [0, 1, 1]),
-    ];
-    for (kind, count, given) in records {
+    let records = [(0, [0; 3]), (1, [1, 0, 0]), (4, [40, 0, 0]), (5, [0, 1, 0]), (6, [0, 1, 1])];
+    for (kind, given) in records {
         let mut bad = file.clone();
-        bad.fields(kind, count, &given);
-        assert_eq!(covers(&bad.finish(), clause, clause).numbers(), REFUSED, "kind {kind}, {count}");
+        bad.fields(kind, u8::from(kind == 4), &given);
+        assert_eq!(covers(&bad.finish(), clause, clause).numbers(), REFUSED, "kind {kind}");
     }
     let long = [good.as_slice(), &[0; 15]].concat();
     assert_eq!(covers(&long, clause, clause).numbers(), REFUSED);
     assert_eq!(covers(&vec![1; 65_552], clause, clause).numbers(), REFUSED);
-    // An accepted file stands: the empty clause alters nothing, and is no input clause.
-    let no = file.clause(&[neg(p(var(1)))]);
-    let empty = file.resolve(clause, 1, no, 1);
+    // An accepted file stands: the empty clause alters nothing.
+    let empty = file.clause(&[]);
     let accepted = file.finish();
-    assert!(check(0, &accepted).verdict.is_accepted());
-    assert!(covers(&accepted, clause, clause).is_yes() && !covers(&accepted, clause, no).is_yes());
-    assert_eq!(covers(&accepted, empty, clause).numbers(), REFUSED);
-    assert_eq!(covers(&accepted, clause, empty).numbers(), REFUSED);
+    assert!(covers(&accepted, empty, clause).is_yes() && !covers(&accepted, clause, empty).is_yes());
 }
 
 /// Four tables of marks, each longer than it must be by so many cells, or shorter.

@@ -73,15 +73,14 @@ fn the_lowest_empty_clause_in_force_is_accepted() {
         verdicts("none-of-two", &[0, 10, 25, 30, 50]),
         ["open", "accepted 4", "open", "accepted 5", "open"]
     );
-}
-
-#[test]
-fn an_input_clause_without_literals_is_refused_on_every_day() {
-    for (name, record) in [("with-days", 0), ("twice-with-days", 0), ("after-the-empty-clause-with-days", 5)]
-    {
-        let refused = format!("refused 4 at {record}");
-        assert_eq!(verdicts(&format!("4-empty-input-{name}"), &[9, 10, 20, 21, 31]), [refused.as_str(); 5]);
-    }
+    assert_eq!(
+        verdicts("empty-input-clause", &[9, 10, 20, 21]),
+        ["open", "accepted 0", "accepted 0", "open"]
+    );
+    assert_eq!(
+        verdicts("two-empty-input-clauses", &[9, 10, 21, 30, 31]),
+        ["open", "accepted 0", "accepted 1", "accepted 1", "open"]
+    );
 }
 
 #[test]
@@ -97,17 +96,17 @@ fn the_last_record_counts_wherever_it_stands() {
     assert_eq!(verdicts("window-between-two-steps", &[15, 30, 35]), [no, yes, yes]);
     assert_eq!(verdicts("window-after-all-steps", &[15, 35, 55]), [no, no, yes]);
     assert_eq!(verdicts("windows-in-turn", &[12, 18, 25, 30, 40, 41]), [no, no, no, yes, yes, no]);
-    assert_eq!(verdicts("window-in-every-record-left", &[4090, 4091]), [no, yes]);
+    assert_eq!(verdicts("window-in-every-record", &[4094, 4095]), [no, "accepted 0"]);
 }
 
-/// One file has a window between records of every two of the kinds 1 to 7. Days 15 to 20 are those that the two parents of clause 6
-/// have in common, 30 to 40 those of clause 10.
+/// One file has a window between records of every two of the kinds 1 to 7. Days 10 to 20 are those of its empty input clause, 30
+/// to 40 those that the two parents of clause 6 have in common.
 #[test]
 fn windows_between_all_kinds() {
     let on_days = |days: &[u16]| verdicts("window-between-all-kinds", days);
-    assert_eq!(on_days(&[0, 10, 14, 21, 29, 41, 65_535]), ["open"; 7]);
-    assert_eq!(on_days(&[15, 20]), ["accepted 6"; 2]);
-    assert_eq!(on_days(&[30, 40]), ["accepted 10"; 2]);
+    assert_eq!(on_days(&[0, 9, 21, 29, 41, 65_535]), ["open"; 6]);
+    assert_eq!(on_days(&[10, 15, 20]), ["accepted 0"; 3]);
+    assert_eq!(on_days(&[30, 40]), ["accepted 6"; 2]);
     let all = days::examples();
     let Example { file, .. } =
         all.iter().find(|example| example.name == "window-between-all-kinds-on-30").expect("it");
@@ -118,8 +117,7 @@ fn windows_between_all_kinds() {
             assert!(met, "no window between kinds {one} and {other}");
         }
     }
-    // The first clause is record 3.
-    assert!(kinds.iter().skip(4).step_by(2).all(|&kind| kind == kind::WINDOW));
+    assert!(kinds.iter().skip(1).step_by(2).all(|&kind| kind == kind::WINDOW));
 }
 
 /// Each name begins with the reason, or with "stands"; a good record comes after the one that it is about.

@@ -24,7 +24,7 @@ fn clauses_by_hand() {
     let factor = file.factor(other, 1, 2);
     file.resolve(one, 1, factor, 1);
     file.window(other, 30, 40);
-    let last = file.clause(&[pos(app(p, [])), neg(app(p, []))]);
+    let last = file.clause(&[]);
     let standing = file.bytes().to_vec();
     // Symbol, row, two clauses, a window, two steps, a window, a clause.
     let clause = |clause, record, literals: &[u16], days| InputClause {
@@ -33,11 +33,8 @@ fn clauses_by_hand() {
         literals: literals.to_vec(),
         days,
     };
-    let right = [
-        clause(one, 2, &[1], None),
-        clause(other, 3, &[0, 0], Some(30..=40)),
-        clause(last, 8, &[1, 0], None),
-    ];
+    let right =
+        [clause(one, 2, &[1], None), clause(other, 3, &[0, 0], Some(30..=40)), clause(last, 8, &[], None)];
     assert_eq!(checked(0, &standing).2, right);
     assert_eq!([29, 30, 40, 41].map(|day| right[1].in_force(day)), [false, true, true, false]);
     assert!(right[0].in_force(0) && right[0].in_force(65_535));

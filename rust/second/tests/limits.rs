@@ -37,8 +37,6 @@ fn ranges() {
         ("variable-256", 4),
         ("arguments-6", 0),
         ("arguments-7", 4),
-        ("literals-0", 4),
-        ("literals-1", 0),
         ("literals-7", 0),
         ("literals-8", 4),
         ("literals-255", 4),
@@ -236,10 +234,9 @@ fn as_many_as_the_records_allow() {
     // Row 4,093 = 64 × 63 + 61 is s0 applied 63 times to variable 61: 64 occurrences, which are written.
     let atom = format!("{}v61.1{}", "s0(".repeat(63), ")".repeat(63));
     assert_eq!(String::from_utf8_lossy(&clause.readout), format!("open\n0 1 +{atom} -{atom}\n"));
-    // A clause has a literal, for which there are a row and a symbol.
-    let clauses = named(&all, "clauses-4094");
-    assert_eq!(clauses.answer.numbers(), [1, 2, 0, 1, 1, 4094, 0]);
-    assert_eq!(clauses.used()[2][5 * 4092..], [4094, 0, 2, 0, 0, 4095, 1, 1, 0, 0]);
+    let empty = named(&all, "empty-clauses-4096");
+    assert_eq!(empty.answer.numbers(), [1, 0, 0, 0, 0, 4096, 0]);
+    assert_eq!(empty.used()[2][5 * 4095..], [4095, 0, 1, 0, 0]);
 }
 
 #[test]

@@ -156,7 +156,7 @@ fn the_largest_numbers() {
     assert_eq!(merged[4095], Record::new(3, 1, &[0, 4092]));
     let clauses = named("largest-clause-number");
     let merged = records(&merge(&clauses.first, &clauses.second).expect("it is written"));
-    assert_eq!(merged[4095], Record::new(8, 0, &[4091, 258, 515]));
+    assert_eq!(merged[4095], Record::new(8, 0, &[4094, 258, 515]));
 }
 
 #[test]
@@ -338,11 +338,17 @@ fn compare(pair: &Merge, met: &mut Met) {
     same_answers(pair, &merged);
 }
 
-/// The merged file is open on every day, since it holds no step, and its readout is the first's, then the second's.
+/// The merged file stands on every day, and its readout is the first's, then the second's.
 fn same_answers(Merge { name, first, second }: &Merge, merged: &[u8]) {
+    let clauses = check(0, first).clauses;
     for day in [0, 1, 5, 11, 15, 20, 255, 256, u16::MAX] {
-        let verdicts = [first, second, merged].map(|file| check(day, file).verdict);
-        assert_eq!(verdicts, [Verdict::Open; 3], "{name} on day {day}");
+        let answers = [first, second].map(|file| check(day, file).verdict);
+        let right = match answers {
+            [Verdict::Accepted(clause), _] => Verdict::Accepted(clause),
+            [_, Verdict::Accepted(clause)] => Verdict::Accepted(clauses + clause),
+            _ => Verdict::Open,
+        };
+        assert_eq!(check(day, merged).verdict, right, "{name} on day {day}");
     }
     let lines = |file: &[u8]| -> Vec<String> {
         let text = String::from_utf8(readout(0, file)).expect("text");

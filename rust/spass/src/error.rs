@@ -110,7 +110,7 @@ impl Fault {
     /// Faults that are about a limit of the format, or of the search.
     fn limit(&self, out: &mut fmt::Formatter<'_>) -> fmt::Result {
         match self {
-            Fault::EmptyInput => write!(out, "an input clause without literals, and it must have one"),
+            Fault::EmptyInput => write!(out, "an input clause without literals, which is not converted"),
             Fault::Literals(count) => {
                 write!(out, "an input clause of {count} literals, over {INPUT_LITERALS}: give some of them a word of their own")
             }

@@ -18,7 +18,7 @@ pub const NEW_FILE_BYTES: usize = NEW_RECORDS * NEW_RECORD_BYTES;
 pub const ARITY: u8 = 6;
 /// Variable numbers run from 0 to one below this.
 pub const VARIABLES: usize = 64;
-/// Most literals of an input clause, which has at least one.
+/// Most literals of an input clause.
 pub const INPUT_LITERALS: u8 = 7;
 /// Most right literals that one step can resolve with a left one.
 pub const RIGHT_LITERALS: u8 = 4;

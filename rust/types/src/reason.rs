@@ -15,7 +15,7 @@ pub enum Reason {
     /// Kind not 1 to 8; in the new form not 1 to 7.
     Kind,
     /// Byte 1 or a variable number out of its range, or an unused field not zero; in the new form also days that are not zero
-    /// beside a record that is no input clause. An input clause without literals is out of its range, which is 1 to 7.
+    /// beside a record that is no input clause.
     Range,
     /// A symbol, row, clause or literal that does not exist, an argument count that is not the arity, or days for a clause
     /// that is not an input clause.

@@ -114,11 +114,12 @@ impl Maker {
         }
     }
 
-    /// An input clause of one to three literals, mostly of one; at times of seven.
+    /// An input clause of one to three literals, mostly of one; at times of none or of seven.
     fn clause(&mut self) {
         let count = match self.random.below(32) {
-            0 => 7,
-            1..=17 => 1,
+            0 => 0,
+            1 => 7,
+            2..=17 => 1,
             18..=26 => 2,
             _ => 3,
         };

@@ -139,10 +139,11 @@ impl Clauses {
         row
     }
 
-    /// A clause of literals drawn at random: mostly two to four, seldom one or seven.
+    /// A clause of literals drawn at random: mostly two to four, seldom none or seven.
     fn drawn(&mut self) {
         let count = match self.random.below(20) {
-            0..=3 => 1,
+            0 => 0,
+            1..=3 => 1,
             4..=15 => self.random.between(2, 4),
             _ => self.random.between(5, 7),
         };
@@ -214,10 +215,10 @@ impl Clauses {
     fn alter(&mut self, literals: &mut Literals) {
         let place = self.random.below(literals.len());
         match self.random.below(8) {
-            0 if literals.len() > 1 => drop(literals.remove(place)),
-            1 => literals.push(literals[place]),
-            2 => literals[place].0 ^= true,
-            3 | 4 => literals[place].1 = self.other_argument(literals[place].1),
+            0 if !literals.is_empty() => drop(literals.remove(place)),
+            1 if !literals.is_empty() => literals.push(literals[place]),
+            2 if !literals.is_empty() => literals[place].0 ^= true,
+            3 | 4 if !literals.is_empty() => literals[place].1 = self.other_argument(literals[place].1),
             _ => literals.push(self.literal()),
         }
     }
@@ -255,8 +256,7 @@ impl Clauses {
         images[top]
     }
 
-    /// In one of eight files a derived clause, if some step stands; in one of twenty a record that is refused: of no kind, or an
-    /// input clause without literals.
+    /// In one of eight files a derived clause, if some step stands; in one of twenty a record that is refused.
     fn ending(&mut self) {
         if self.random.one_in(8) {
             let steps: Vec<Sketch> = (0..20).map(|_| self.with_step()).collect();
@@ -267,8 +267,7 @@ impl Clauses {
             }
         }
         if self.random.one_in(20) {
-            let kind = if self.random.one_in(2) { kind::INPUT } else { 0 };
-            self.file.fields(kind, 0, &[]);
+            self.file.fields(0, 0, &[]);
         }
     }
 

@@ -160,15 +160,11 @@ impl Part {
         atoms.get(self.random.below(atoms.len())).map(|&row| row as u16)
     }
 
-    /// An input clause of mostly one to three literals, seldom of seven. Where there is no atom yet, one is made first if it can be.
+    /// An input clause of mostly one to three literals, seldom of none or of seven.
     fn clause(&mut self) {
-        if !self.rows.contains(&true) {
-            self.symbol();
-            self.variable();
-            self.application();
-        }
         let count = match self.random.below(12) {
-            0 => 7,
+            0 => 0,
+            1 => 7,
             drawn => 1 + drawn % 3,
         };
         let literals: Option<Vec<(bool, u16)>> =
@@ -236,9 +232,8 @@ impl Part {
     /// A record that does not stand, for one of several reasons.
     fn refused(&mut self) {
         let [rows, clauses] = [self.rows.len() as u16, self.clauses as u16];
-        match self.random.below(7) {
+        match self.random.below(6) {
             0 => self.file.fields(9, 0, &[]),
-            6 => self.file.clause(&[]),
             1 => self.file.symbol(7),
             2 => self.file.clause_of_rows(&[(true, rows)]),
             3 => self.file.fields(kind::WINDOW, 0, &[clauses, 1, 2]),

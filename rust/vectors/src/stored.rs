@@ -8,7 +8,7 @@ use yestrwyn_types::{Cells, Form};
 
 use crate::clashing::{clashing_file, clashing_several_file};
 use crate::dated::dated_file;
-use crate::examples::{cases, days, deep, edges, published, refusals, retired, Example};
+use crate::examples::{cases, days, deep, edges, published, refusals, Example};
 use crate::outcome::{outcome_on, Outcome};
 use crate::random::{damage, random_file, random_file_of, several_file, several_file_of};
 use crate::repeating::repeating_file;
@@ -67,7 +67,7 @@ pub fn groups() -> Vec<Group> {
         Group::plain("cases", cases::examples()),
         Group::plain("published", published()),
         Group::plain("edges", edges::examples()),
-        Group::plain("refused", refused_examples()),
+        Group::plain("refused", refusals::examples()),
         Group::plain("deep", deep::examples()),
         Group::plain("random", random_examples()),
         Group::plain("long", long_examples()),
@@ -94,13 +94,6 @@ pub fn listing_path() -> PathBuf {
 fn repository() -> &'static Path {
     let package = Path::new(env!("CARGO_MANIFEST_DIR"));
     package.ancestors().nth(2).unwrap_or(package)
-}
-
-/// Files refused for each reason, then files that stood while an input clause could have no literals.
-fn refused_examples() -> Vec<Example> {
-    let mut all = refusals::examples();
-    all.extend(retired::examples());
-    all
 }
 
 /// Random files, then files made to clash, then files with repeated rows, then files with steps on several literals.

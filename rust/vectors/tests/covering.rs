@@ -40,15 +40,14 @@ fn count(met: &mut Met, file: &[u8], answer: &Answer, c: u16, d: u16) {
 
 #[test]
 fn all_answers_are_met() {
-    let (mut met, mut meant) = (Met::default(), Vec::new());
+    let mut met = Met::default();
     for seed in 0..500 {
         let file = covering_file(seed);
         assert_eq!(file, covering_file(seed), "seed {seed}");
         let answer = check(0, &file);
         if let Verdict::Refused { reason, record } = answer.verdict {
             // Only a record that is meant to be refused is, and it is the last.
-            assert_eq!(usize::from(record) + 1, file.len() / 16, "seed {seed}");
-            meant.push(reason);
+            assert_eq!((reason, usize::from(record) + 1), (Reason::Kind, file.len() / 16), "seed {seed}");
         }
         for (c, d) in (0..answer.clauses).flat_map(|c| (0..answer.clauses).map(move |d| (c, d))) {
             if c != d {
@@ -57,10 +56,6 @@ fn all_answers_are_met() {
         }
     }
     assert!(met.yes > 2000 && met.no > 5000 && met.crossed > 1000, "{met:?}");
-    // A record of no kind, or an input clause without literals.
-    let of = |wanted: Reason| meant.iter().filter(|&&reason| reason == wanted).count();
-    let [kinds, empty] = [of(Reason::Kind), of(Reason::Range)];
-    assert!(kinds > 5 && empty > 5 && kinds + empty == meant.len(), "{meant:?}");
     assert!(met.refused.iter().all(|&refused| refused > 200), "{met:?}");
     assert!(met.deep[0] > 80 && met.deep[1] > 300, "{met:?}");
 }

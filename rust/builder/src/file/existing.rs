@@ -169,7 +169,7 @@ pub(crate) fn well_formed(form: Form, dated: &Dated) -> Result<(), Reason> {
         kind::SYMBOL => (record.count <= ARITY, 0),
         kind::VARIABLE => (record.count == 0 && usize::from(record.fields[0]) < VARIABLES, 1),
         kind::APPLICATION => (record.count <= ARITY, 1 + count),
-        kind::INPUT => ((1..=INPUT_LITERALS).contains(&record.count), count),
+        kind::INPUT => (record.count <= INPUT_LITERALS, count),
         kind::RESOLVE => (record.count == 0, 4),
         kind::WINDOW if form == Form::New => return Err(Reason::Kind),
         kind::FACTOR | kind::WINDOW => (record.count == 0, 3),

@@ -3,7 +3,7 @@
 //! without any, all are made:
 //!
 //! ```text
-//! performance [check] [linear] [services] [calls] [covers] [merge] [convert] [trim] [board]
+//! performance [check] [services] [calls] [covers] [merge] [convert] [trim] [board]
 //! ```
 
 use std::env;
@@ -14,7 +14,7 @@ use std::time::{Duration, Instant};
 
 use yestrwyn::{Board, BoardRefusal, Workspace};
 use yestrwyn_comparison::clock::own_time;
-use yestrwyn_comparison::files::{called, converted, linear, measured, merged, ordinary, trimmed, Called};
+use yestrwyn_comparison::files::{called, converted, measured, merged, ordinary, trimmed, Called};
 use yestrwyn_comparison::questions::{questions, Question};
 use yestrwyn_comparison::rounds::Rounds;
 use yestrwyn_types::limits::{FILE_BYTES, RECORD_BYTES};
@@ -34,9 +34,8 @@ const LONG_ENOUGH: Duration = Duration::from_millis(5);
 type Table = fn() -> io::Result<()>;
 
 /// The tables by name.
-const TABLES: [(&str, Table); 9] = [
+const TABLES: [(&str, Table); 8] = [
     ("check", check_table),
-    ("linear", linear_table),
     ("services", services_table),
     ("calls", calls_table),
     ("covers", covers_table),
@@ -50,7 +49,7 @@ fn main() -> io::Result<()> {
     let asked: Vec<String> = env::args().skip(1).collect();
     if asked.iter().any(|name| TABLES.iter().all(|(table, _)| table != name)) {
         return Err(io::Error::other(
-            "the tables are check, linear, services, calls, covers, merge, convert, trim and board",
+            "the tables are check, services, calls, covers, merge, convert, trim and board",
         ));
     }
     let tables =
@@ -69,17 +68,6 @@ fn check_table() -> io::Result<()> {
     println!("| file | proved | second | ratio | over ten rounds |");
     println!("|---|---|---|---|---|");
     yestrwyn::with_stack(on_lent_tables)
-}
-
-/// The check on proofs in which each step goes on from the clause before it, at growing lengths.
-fn linear_table() -> io::Result<()> {
-    println!("| linear proof | proved | second | ratio | over ten rounds |");
-    println!("|---|---|---|---|---|");
-    yestrwyn::with_stack(|| {
-        for example in linear() {
-            check_line(example.name, &[(0, &example.file)]);
-        }
-    })
 }
 
 /// The check for services.

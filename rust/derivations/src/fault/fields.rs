@@ -6,7 +6,7 @@ use yestrwyn_types::Dated;
 
 use super::{require, Fault};
 
-/// Byte 1, the variable number, and what must be zero. A clause without literals is no input clause.
+/// Byte 1, the variable number, and what must be zero.
 pub fn test(dated: &Dated) -> Result<(), Fault> {
     let record = &dated.record;
     let found = record.count;
@@ -25,7 +25,7 @@ pub fn test(dated: &Dated) -> Result<(), Fault> {
 pub fn bounds(of: u8) -> (u8, u8) {
     match of {
         kind::SYMBOL | kind::APPLICATION => (0, ARITY),
-        kind::INPUT => (1, INPUT_LITERALS),
+        kind::INPUT => (0, INPUT_LITERALS),
         kind::RESOLVE_SEVERAL => (1, RIGHT_LITERALS),
         _ => (0, 0),
     }

@@ -189,11 +189,10 @@ impl Checker {
         self.nodes.push(node);
     }
 
-    /// Kind 4: an input clause of at least one literal, each of them on the earliest row, with its days.
+    /// Kind 4: an input clause, of which each literal is on the earliest row, with its days.
     fn input(&mut self, record: &Record, [first, last]: [u16; 2]) -> Result<(), Reason> {
         let count = usize::from(record.count);
-        let in_range = (1..=INPUT_LITERALS).contains(&record.count);
-        require(in_range && record.zero_from(count), Reason::Range)?;
+        require(record.count <= INPUT_LITERALS && record.zero_from(count), Reason::Range)?;
         let mut codes = record.fields;
         for code in &mut codes[..count] {
             *code = 2 * self.earliest.of(*code / 2).ok_or(Reason::Missing)? + *code % 2;

@@ -1,7 +1,7 @@
 //! A slow check by the words of the format description, which shares no code with the library: every
 //! variable is looked up by recursion through the parents, literals are listed by recursion, and so are
 //! outlines compared. Rows are kept as the file has them; what each is taken as is found where it is used. It
-//! can also check without outlines, and by the old rule for input clauses without literals, for what these alter.
+//! can also check without outlines, for what these alter.
 #![allow(dead_code)]
 
 mod days;
@@ -34,8 +34,6 @@ pub struct Clause {
 pub struct Reference {
     /// Are steps unified at once, as if they had no outlines?
     only_unify: bool,
-    /// Does an input clause without literals stand, as it did before such clauses were retired?
-    empty_inputs: bool,
     pub symbols: Vec<(u16, u8)>,
     /// Rows as written, each with its record and the earliest row that equals it.
     pub rows: Vec<(u16, Row, u16)>,
@@ -70,27 +68,13 @@ impl Reference {
         Reference { only_unify: true, ..Reference::default() }.read(file)
     }
 
-    /// The same where an input clause may have no literals, as it once might.
-    pub fn check_by_the_old_rule(file: &[u8]) -> Reference {
-        Reference { empty_inputs: true, ..Reference::default() }.read(file)
-    }
-
     /// Reads a whole file of the new form.
     pub fn check_new(file: &[u8]) -> Reference {
-        Reference::default().read_new(file)
-    }
-
-    /// The same by the old rule.
-    pub fn check_new_by_the_old_rule(file: &[u8]) -> Reference {
-        Reference { empty_inputs: true, ..Reference::default() }.read_new(file)
+        Reference::default().read_records(file, 20, 65_520)
     }
 
     fn read(self, file: &[u8]) -> Reference {
         self.read_records(file, 16, 65_536)
-    }
-
-    fn read_new(self, file: &[u8]) -> Reference {
-        self.read_records(file, 20, 65_520)
     }
 
     fn read_records(self, file: &[u8], width: usize, most: usize) -> Reference {
@@ -166,7 +150,7 @@ impl Reference {
 
     fn input(&mut self, at: u16, bytes: &[u8]) -> Result<(), u16> {
         let count = usize::from(bytes[1]);
-        if count > 7 || count == 0 && !self.empty_inputs || !unused_zero(bytes, count) {
+        if count > 7 || !unused_zero(bytes, count) {
             return Err(4);
         }
         let literals: Vec<(bool, u16)> =

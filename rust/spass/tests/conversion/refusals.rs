@@ -88,7 +88,7 @@ fn an_inference_that_is_none() {
 fn limits_of_an_input_clause() {
     assert_eq!(
         why("1[0:Inp] ||  -> ."),
-        "line 2, step 1 (Inp): an input clause without literals, and it must have one"
+        "line 2, step 1 (Inp): an input clause without literals, which is not converted"
     );
     assert_eq!(
         why("1[0:Inp] || a b c d -> e f g h."),

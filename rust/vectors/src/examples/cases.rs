@@ -1,7 +1,6 @@
 //! The case sheet of the format description, under its letters; then more files like case J, and files with steps
 //! on several right literals.
 
-use yestrwyn_types::limits::RECORD_BYTES;
 use yestrwyn_types::record::kind;
 
 use super::{repeats, several, Example};
@@ -19,7 +18,6 @@ pub fn examples() -> Vec<Example> {
 pub(super) fn sheet() -> Vec<Example> {
     vec![
         Example::new("A", case_a()),
-        Example::new("A-bad-record-after", with_bad_record(case_a())),
         Example::new("B", Vec::new()),
         Example::new("C-15-bytes", vec![0; 15]),
         Example::new(
@@ -28,8 +26,8 @@ pub(super) fn sheet() -> Vec<Example> {
         ),
         Example::new("E", two_units(1, pos(app(0, [app(2, [])])), neg(app(0, [app(3, [])])))),
         Example::new("F", case_f()),
-        Example::new("G", case_g()),
-        Example::new("G-bad-record-after", with_bad_record(case_g())),
+        Example::new("G", case_g(false)),
+        Example::new("G-bad-record-after", case_g(true)),
         Example::new("H", case_h()),
         Example::new("I", case_i()),
         Example::new("J", case_j()),
@@ -82,17 +80,14 @@ pub fn case_f() -> Vec<u8> {
     file.finish()
 }
 
-/// G: one input clause without literals.
-pub fn case_g() -> Vec<u8> {
+/// G: one input clause without literals, and a bad record after it or none.
+pub fn case_g(bad: bool) -> Vec<u8> {
     let mut file = Sketch::new();
     file.clause(&[]);
+    if bad {
+        file.fields(0, 0, &[]);
+    }
     file.finish()
-}
-
-/// A file with a record more, of no kind.
-pub fn with_bad_record(mut file: Vec<u8>) -> Vec<u8> {
-    file.extend([0; RECORD_BYTES]);
-    file
 }
 
 /// H: a step that names literal 0.

@@ -4,7 +4,6 @@ use yestrwyn_types::limits::BINDINGS;
 use yestrwyn_types::record::kind;
 
 use super::cases::case_k;
-use super::refutations::refuted;
 use super::{outlines, repeats, several, Example};
 use crate::sketch::{app, apply, neg, pos, var, SignedTerm, Sketch, Term};
 
@@ -39,8 +38,6 @@ fn ranges() -> Vec<Example> {
         Example::new("variable-256", one(kind::VARIABLE, 0, &[256])),
         Example::new("arguments-6", arguments(6)),
         Example::new("arguments-7", arguments(7)),
-        Example::new("literals-0", literals(0)),
-        Example::new("literals-1", literals(1)),
         Example::new("literals-7", literals(7)),
         Example::new("literals-8", literals(8)),
         Example::new("literals-255", literals(255)),
@@ -59,12 +56,12 @@ fn arguments(count: u8) -> Vec<u8> {
     file.finish()
 }
 
-/// An input clause with a count in byte 1 and as many literals, seven at most.
+/// An input clause with a count in byte 1 and seven literals.
 fn literals(count: u8) -> Vec<u8> {
     let mut file = Sketch::new();
     let a = file.symbol(0);
     let row = file.application(a, &[]);
-    file.fields(kind::INPUT, count, &vec![2 * row + 1; usize::from(count)]);
+    file.fields(kind::INPUT, count, &[2 * row + 1; 7]);
     file.finish()
 }
 
@@ -285,7 +282,7 @@ fn many_bindings(steps: usize, last: &[Step]) -> Vec<u8> {
     file.finish()
 }
 
-/// The parents of each last step, in the order of the steps; the last is a factor of the first one, and does not use the second.
+/// The parents of each last step, in the order of the steps; the last is a factor of the first one.
 fn last_parents([_, f, q, r, a, b]: [u16; 6]) -> [[Vec<SignedTerm>; 2]; 6] {
     let [a, b] = [a, b].map(|symbol| move || app(symbol, []));
     let six: Vec<Term> = (0..6).map(var).collect();
@@ -296,7 +293,7 @@ fn last_parents([_, f, q, r, a, b]: [u16; 6]) -> [[Vec<SignedTerm>; 2]; 6] {
         [with_rest(pos(app(r, [var(0), var(1)]))), vec![neg(app(r, [a(), b()]))]],
         [with_rest(pos(app(r, [a(), var(0)]))), vec![neg(app(r, [b(), a()]))]],
         [with_rest(pos(app(r, [var(0), a()]))), vec![neg(app(r, [a(), b()]))]],
-        [vec![pos(app(r, [var(0), var(0)])), pos(app(r, [var(0), apply(f, &six)]))], vec![neg(a())]],
+        [vec![pos(app(r, [var(0), var(0)])), pos(app(r, [var(0), apply(f, &six)]))], vec![]],
     ]
 }
 
@@ -404,7 +401,7 @@ fn counts() -> Vec<Example> {
         Example::new("symbols-4096", many_symbols()),
         Example::new("rows-4095", many_rows(4095).finish()),
         Example::new("clause-on-the-last-of-4094-rows", clause_on_last_row()),
-        Example::new("clauses-4094", many_clauses()),
+        Example::new("empty-clauses-4096", empty_clauses()),
     ]
 }
 
@@ -437,13 +434,11 @@ fn clause_on_last_row() -> Vec<u8> {
     file.finish()
 }
 
-/// +p and -p, then in turn the empty clause of them and +p again.
-fn many_clauses() -> Vec<u8> {
-    let mut file = refuted(1);
-    while file.records() < 4095 {
-        file.clause(&[pos(app(0, []))]);
-        file.resolve(0, 1, 1, 1);
+/// Nothing but clauses without literals.
+fn empty_clauses() -> Vec<u8> {
+    let mut file = Sketch::new();
+    for _ in 0..4096 {
+        file.clause(&[]);
     }
-    file.clause(&[neg(app(0, []))]);
     file.finish()
 }

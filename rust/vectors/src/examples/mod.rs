@@ -17,7 +17,6 @@ pub mod refusals;
 mod refutations;
 pub mod repeats;
 pub mod resolution_rules;
-pub mod retired;
 pub mod several;
 pub mod structure_sharing;
 pub mod trims;

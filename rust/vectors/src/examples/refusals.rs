@@ -20,9 +20,9 @@ pub fn examples() -> Vec<Example> {
     all
 }
 
-/// Numbers in the standing file: symbols p(·,·), f(·), a, b; rows; six clauses.
+/// Numbers in the standing file: symbols p(·,·), f(·), a, b; rows; five clauses.
 /// Rows: 0 v0, 1 v1, 2 p(v0,v1), 3 f(v0), 4 p(v1,f(v0)), 5 a, 6 b, 7 p(a,b), 8 p(v0,v0).
-/// Clauses: 0 +2 -4; 1 -7; 2 +7 +7 -2; 3 +8; 4 -4; 5 empty, of 3 and 4.
+/// Clauses: 0 +2 -4; 1 -7; 2 +7 +7 -2; 3 +8; 4 -4; 5 empty.
 fn standing() -> Sketch {
     let mut file = Sketch::new();
     let [p, f, a, b] = [2, 1, 0, 0].map(|arity| file.symbol(arity));
@@ -34,9 +34,9 @@ fn standing() -> Sketch {
     file.clause(&[pos(xy.clone()), neg(yf.clone())]);
     file.clause(&[neg(ab.clone())]);
     file.clause(&[pos(ab.clone()), pos(ab), neg(xy)]);
-    let equal = file.clause(&[pos(app(p, [v0.clone(), v0]))]);
-    let not_f = file.clause(&[neg(yf)]);
-    file.resolve(equal, 1, not_f, 1);
+    file.clause(&[pos(app(p, [v0.clone(), v0]))]);
+    file.clause(&[neg(yf)]);
+    file.clause(&[]);
     file
 }
 
@@ -93,13 +93,9 @@ fn clauses() -> Vec<Example> {
     vec![
         with("stands-clause", INPUT, 2, [4, 17, 0, 0, 0, 0, 0]),
         with("stands-clause-on-functions", INPUT, 2, [7, 10, 0, 0, 0, 0, 0]),
-        with("4-clause-of-none", INPUT, 0, [0; 7]),
-        with("4-clause-of-none-with-fields", INPUT, 0, [4, 17, 0, 0, 0, 0, 0]),
-        with("4-before-5-clause-of-none", INPUT, 0, [99, 0, 0, 0, 0, 0, 0]),
-        with("4-before-7-clause-of-none", INPUT, 0, [1, 0, 0, 0, 0, 0, 0]),
-        with("stands-clause-of-one", INPUT, 1, [4, 0, 0, 0, 0, 0, 0]),
         with("4-clause-8-literals", INPUT, 8, [4; 7]),
         with("4-clause-unused", INPUT, 1, [4, 1, 0, 0, 0, 0, 0]),
+        with("4-clause-unused-of-none", INPUT, 0, [1, 0, 0, 0, 0, 0, 0]),
         with("4-before-5-clause", INPUT, 1, [99, 0, 0, 0, 0, 0, 1]),
         with("5-clause-row", INPUT, 1, [18, 0, 0, 0, 0, 0, 0]),
         with("5-clause-row-32767", INPUT, 7, [4, 4, 4, 4, 4, 4, 65_535]),

@@ -225,7 +225,7 @@ impl Maker {
         }
     }
 
-    /// An input clause of mostly one to three literals, seldom seven; very seldom one without literals, which is refused.
+    /// An input clause of mostly one to three literals, seldom none or seven.
     fn clause(&mut self) {
         if !self.room() || self.atoms.is_empty() {
             return;
@@ -241,8 +241,7 @@ impl Maker {
         if self.several {
             self.more_alike(&mut codes);
         }
-        let keep = codes.is_empty() && self.keep(2);
-        self.write(kind::INPUT, codes.len() as u8, &codes, keep);
+        self.write(kind::INPUT, codes.len() as u8, &codes, false);
     }
 
     /// A literal's code: some atom with some sign.

@@ -2,7 +2,7 @@
 
 use super::{each, Call, Script};
 use crate::examples::refutations::{opposites, refuted};
-use crate::examples::{cases, refusals, retired};
+use crate::examples::{cases, refusals};
 use crate::sketch::{app, neg, pos, Sketch};
 
 /// All of them.
@@ -69,7 +69,6 @@ fn refused_files() -> Vec<Script> {
         Script::new("1-too-long", 0, too_long, &[]),
         Script::new("1-cut", 0, cut, &[]),
     ];
-    all.extend(retired::short().into_iter().map(|old| Script::new(&old.name, 10, old.file, &[])));
     let refused = refusals::examples().into_iter().filter(|example| !example.name.starts_with("stands"));
     all.extend(
         refused

@@ -10,6 +10,7 @@ use crate::sketch::{app, neg, pos, var, Sketch};
 pub fn examples() -> Vec<Script> {
     let mut all = uses();
     all.extend(several_empty());
+    all.extend(empty_inputs());
     all.extend(days());
     all.extend(long());
     all
@@ -128,6 +129,33 @@ fn several_empty() -> Vec<Script> {
     ]
 }
 
+/// Input clauses without literals, which are empty clauses themselves.
+fn empty_inputs() -> Vec<Script> {
+    let mut file = Sketch::new();
+    for _ in 0..3 {
+        file.clause(&[]);
+    }
+    let mut mixed = refuted(1);
+    let empty = mixed.clause(&[]);
+    mixed.window(empty, 10, 20);
+    let mixed = mixed.finish();
+    vec![
+        Script::new("empty-input-clauses", 0, file.finish(), &[each(0..3), all_of(&[0, 1, 2])].concat()),
+        Script::new(
+            "an-empty-input-clause-in-force",
+            10,
+            mixed.clone(),
+            &[each([0, 3]), all_of(&[1, 3])].concat(),
+        ),
+        Script::new(
+            "an-empty-input-clause-out-of-force",
+            21,
+            mixed,
+            &[each([0, 3]), all_of(&[1, 3])].concat(),
+        ),
+    ]
+}
+
 /// Days: clauses that are present and out of force, windows that a later record supersedes, days at the ends of windows.
 fn days() -> Vec<Script> {
     let mut one = refuted(2);
@@ -162,18 +190,17 @@ fn long() -> Vec<Script> {
     let last = 2u16;
     let chain = deep::derivation(300);
     let mut many = Sketch::new();
-    let p = many.symbol(0);
-    for _ in 0..4094 {
-        many.clause(&[pos(app(p, []))]);
+    for _ in 0..4096 {
+        many.clause(&[]);
     }
-    let ends = [each([0, 4093, 4092]), all_of(&[0, 1, 2]), vec![Call::Withdraw(4094)]].concat();
+    let ends = [each([0, 4095, 4094]), all_of(&[0, 1, 2]), vec![Call::Withdraw(4096)]].concat();
     let mut steps = opposites(1);
     for _ in 0..4091 {
         steps.resolve(0, 1, 1, 1);
     }
     vec![
         Script::new("three-hundred-steps", 0, chain, &each(0..last)),
-        Script::new("4094-input-clauses", 7, many.finish(), &ends),
+        Script::new("4096-input-clauses", 7, many.finish(), &ends),
         Script::new("4091-steps", 0, steps.finish(), &[each([0, 1]), each([2, 4092, 4093])].concat()),
     ]
 }

@@ -4,19 +4,17 @@ mod orders;
 mod refusals;
 mod windows;
 
-use super::refutations::refuted;
-use super::{cases, deep, retired, Example};
+use super::{cases, deep, Example};
 use crate::sketch::Sketch;
 
-/// All of them: windows and the days at their ends, windows superseded and clauses out of force, refused records, files without
-/// windows on other days, and input clauses without literals.
+/// All of them: windows and the days at their ends, windows superseded and clauses out of force, refused records, and old
+/// files on other days.
 pub fn examples() -> Vec<Example> {
     let mut all = windows::examples();
     all.extend(orders::examples());
     all.extend(refusals::examples());
     all.extend(old_files());
     all.extend(long_files());
-    all.extend(retired_files());
     all
 }
 
@@ -29,24 +27,19 @@ fn old_files() -> Vec<Example> {
     [0, 1, 256, 21_000, 65_535].into_iter().flat_map(on).collect()
 }
 
-/// Three hundred steps from two clauses, of which the first is out of force; and a clause with as many windows as there is room
-/// for, of which the last counts.
+/// Three hundred steps from two clauses, of which the first is out of force; and a clause with as many windows as there are
+/// records, of which the last counts.
 fn long_files() -> Vec<Example> {
     let mut steps = deep::derivation(300);
     steps.extend_from_slice(&window_bytes(0, 10, 20));
     let mut all = on_days("three-hundred-steps", &steps, &[9, 10, 20, 21]);
-    let mut file = refuted(1);
-    for day in 1..=4091 {
-        file.window(0, day, day);
+    let mut file = Sketch::new();
+    let clause = file.clause(&[]);
+    for day in 1..=4095 {
+        file.window(clause, day, day);
     }
-    all.extend(on_days("window-in-every-record-left", &file.finish(), &[4090, 4091]));
+    all.extend(on_days("window-in-every-record", &file.finish(), &[4094, 4095]));
     all
-}
-
-/// Input clauses without literals, on days on which some of them were in force and others not: no day alters the refusal.
-fn retired_files() -> Vec<Example> {
-    let dated = retired::short().into_iter().filter(|example| example.name.ends_with("with-days"));
-    dated.flat_map(|example| on_days(&example.name, &example.file, &[9, 10, 20, 21, 31])).collect()
 }
 
 /// One file on several days.

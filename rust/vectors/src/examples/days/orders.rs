@@ -81,18 +81,19 @@ fn places() -> Vec<Example> {
     }
     let all = [
         on_days("window-after-each-record", &everywhere, &[14, 15, 20, 21]),
-        on_days("window-between-all-kinds", &all_kinds(), &[0, 10, 14, 15, 20, 21, 29, 30, 40, 41, 65_535]),
+        on_days("window-between-all-kinds", &all_kinds(), &[0, 9, 10, 15, 20, 21, 29, 30, 40, 41, 65_535]),
     ];
     all.concat()
 }
 
-/// A window between every two records from the first clause on, and after the last; each of kinds 1 to 7 comes after each, itself
-/// among them. Windows are of +p(x), of +p(x) again and of -p(x) -p(y) in turn: days 10 to 20, 30 to 60 and 15 to 40 by the last
-/// of each, and a day later for every one before it. The first empty clause is made of clauses 0 and 2, the second of 1 and 2.
+/// A window between every two records, and after the last; each of kinds 1 to 7 comes after each, itself among them. Windows are
+/// of the empty clause 0, of +p(x) and of -p(x) -p(y) in turn: days 10 to 20, 15 to 40 and 30 to 60 by the last of each,
+/// and a day later for every one before it.
 fn all_kinds() -> Vec<u8> {
     let mut plain = Sketch::new();
+    let _empty = plain.clause(&[]);
     let p = plain.symbol(1);
-    let units = [0; 2].map(|_| plain.clause(&[pos(app(p, [var(0)]))]));
+    let unit = plain.clause(&[pos(app(p, [var(0)]))]);
     let rule = plain.clause(&[neg(app(p, [var(0)])), neg(app(p, [var(1)]))]);
     for (place, kind) in (0..).zip(each_after_each()) {
         match kind {
@@ -101,18 +102,17 @@ fn all_kinds() -> Vec<u8> {
             // Of the first four rows, also a row again and a row of a row.
             kind::APPLICATION => plain.fields(kind, 1, &[p, place % 4]),
             kind::INPUT => plain.clause(&[pos(app(p, [var(1)])), neg(app(p, [var(0)]))]),
-            kind::RESOLVE => plain.resolve(units[0], 1, rule, 2),
+            kind::RESOLVE => plain.resolve(unit, 1, rule, 2),
             kind::FACTOR => plain.factor(rule, 1, 2),
-            _ => plain.resolve_several(units[usize::from(place % 2)], 1, rule, &[1, 2]),
+            _ => plain.resolve_several(unit, 1, rule, &[1, 2]),
         };
     }
     let (mut file, mut clauses) = (Vec::new(), 0);
     for (place, record) in plain.bytes().chunks_exact(RECORD_BYTES).enumerate() {
         file.extend_from_slice(record);
         clauses += usize::from(record[0] == kind::INPUT);
-        let Some(newest) = clauses.checked_sub(1) else { continue };
-        let clause = (place % 3).min(newest);
-        let (first, last) = [(10, 20), (30, 60), (15, 40)][clause];
+        let clause = (place % 3).min(clauses - 1);
+        let (first, last) = [(10, 20), (15, 40), (30, 60)][clause];
         let later = (usize::from(plain.records()) - 1 - place) as u16 / 3;
         file.extend(window_bytes(clause as u16, first + later, last + later));
     }

@@ -19,24 +19,23 @@ pub fn examples() -> Vec<Example> {
     all
 }
 
-/// In the standing file clauses 0 to 4 are input clauses, 5 is the empty clause, and there are no others.
+/// In the standing file clauses 0 to 5 are input clauses, and there are no others.
 fn records() -> Vec<Example> {
     let window = |name: &str, fields: [u16; 7]| with(name, WINDOW, 0, fields);
     vec![
         window("stands-window", [0, 10, 20, 0, 0, 0, 0]),
-        window("stands-window-of-the-last-input-clause", [4, 10, 20, 0, 0, 0, 0]),
+        window("stands-window-of-the-empty-clause", [5, 10, 20, 0, 0, 0, 0]),
         window("stands-window-of-a-day", [0, 10, 10, 0, 0, 0, 0]),
         window("4-window-field-d", [0, 10, 20, 1, 0, 0, 0]),
         with("4-window-count", WINDOW, 1, [0, 10, 20, 0, 0, 0, 0]),
         with("4-before-5-window", WINDOW, 1, [6, 10, 20, 0, 0, 0, 0]),
         window("4-before-5-window-field-g", [6, 10, 20, 0, 0, 0, 1]),
         window("4-before-16-window", [0, 20, 10, 0, 0, 0, 1]),
-        window("5-window-of-the-empty-clause", [5, 10, 20, 0, 0, 0, 0]),
         window("5-window-of-the-next-clause", [6, 10, 20, 0, 0, 0, 0]),
         window("5-window-of-clause-65535", [65_535, 10, 20, 0, 0, 0, 0]),
         window("5-before-16-window", [6, 20, 10, 0, 0, 0, 0]),
         window("16-window", [0, 20, 10, 0, 0, 0, 0]),
-        window("16-window-by-a-day", [4, 16, 15, 0, 0, 0, 0]),
+        window("16-window-by-a-day", [5, 16, 15, 0, 0, 0, 0]),
         window("16-window-from-the-last-day", [0, 65_535, 0, 0, 0, 0, 0]),
         window("16-window-low-bytes-not-crossed", [0, 256, 255, 0, 0, 0, 0]),
         with("3-window-of-kind-9", 9, 0, [0, 10, 20, 0, 0, 0, 0]),
@@ -52,10 +51,8 @@ fn derived() -> Vec<Example> {
     };
     let first_record = example("5-window-before-any-clause", Sketch::new(), 0, 10, 20);
     let mut later = Sketch::new();
-    let p = later.symbol(0);
-    let atom = later.application(p, &[]);
     later.window(0, 10, 20);
-    later.clause_of_rows(&[(true, atom)]);
+    later.clause(&[]);
     let mut again = refuted(1);
     again.window(0, 10, 20);
     vec![

@@ -9,7 +9,7 @@ pub fn examples() -> Vec<Example> {
     let mut all = ends();
     all.extend(uses());
     all.extend(several_empty());
-    all.extend(without_steps());
+    all.extend(input_clauses());
     all
 }
 
@@ -102,11 +102,23 @@ fn several_empty() -> Vec<Example> {
     all.concat()
 }
 
-/// Windows without a step, so without an empty clause.
-fn without_steps() -> Vec<Example> {
+/// Windows without a step: of empty input clauses, and in files without any empty clause.
+fn input_clauses() -> Vec<Example> {
+    let mut empty = Sketch::new();
+    let clause = empty.clause(&[]);
+    empty.window(clause, 10, 20);
+    let mut two = Sketch::new();
+    let first = two.clause(&[]);
+    let second = two.clause(&[]);
+    two.window(second, 15, 30);
+    two.window(first, 10, 20);
     let mut open = opposites(1);
     open.window(0, 10, 20);
-    let all =
-        [on_days("no-empty-clause", &open.finish(), &[9, 15]), on_days("no-record", &[], &[0, 1, 65_535])];
+    let all = [
+        on_days("empty-input-clause", &empty.finish(), &[9, 10, 20, 21]),
+        on_days("two-empty-input-clauses", &two.finish(), &[9, 10, 15, 20, 21, 30, 31]),
+        on_days("no-empty-clause", &open.finish(), &[9, 15]),
+        on_days("no-record", &[], &[0, 1, 65_535]),
+    ];
     all.concat()
 }

@@ -4,7 +4,6 @@ use yestrwyn_types::record::{kind, Record};
 use yestrwyn_types::{Dated, Form};
 
 use super::Formed;
-use crate::examples::{retired, Example};
 use crate::sketch::{app, neg, pos, var, Sketch};
 use crate::widening::widened;
 
@@ -14,7 +13,6 @@ pub fn examples() -> Vec<Formed> {
     all.extend(kinds());
     all.extend(orders());
     all.extend(crossed());
-    all.extend(empty_inputs());
     all
 }
 
@@ -119,26 +117,6 @@ fn orders() -> Vec<Formed> {
         after("7-always", input(1, &[2 * X]), Dated::ALWAYS),
         after("7-third-literal", input(3, &[2 * P_OF_X, 2 * P_OF_X + 1, 2 * X + 1]), [0, 0]),
     ]
-}
-
-/// An input clause without literals, with any days beside it and with fields not zero; and files of both forms that stood with
-/// such clauses.
-fn empty_inputs() -> Vec<Formed> {
-    let none = |name: &str, fields: &[u16], days| after(name, Record::new(kind::INPUT, 0, fields), days);
-    let mut all = vec![
-        none("4-input-of-none-always", &[], Dated::ALWAYS),
-        none("4-input-of-none-with-days", &[], [10, 20]),
-        none("4-input-of-none-with-zeros", &[], [0, 0]),
-        none("4-before-16-input-of-none", &[], [20, 10]),
-        none("4-input-of-none-with-a-field", &[2 * P_OF_X], Dated::ALWAYS),
-        none("4-before-5-input-of-none", &[2 * MISSING], Dated::ALWAYS),
-        none("4-before-7-and-16-input-of-none", &[2 * X], [20, 10]),
-    ];
-    for Example { name, file, .. } in retired::short() {
-        all.push(Formed::on(Form::New, 15, &format!("{name}-new"), widened(&file)));
-        all.push(Formed::on(Form::Old, 15, &format!("{name}-old"), file));
-    }
-    all
 }
 
 /// Days that are crossed by one, by their high bytes, or not at all.

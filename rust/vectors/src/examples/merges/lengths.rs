@@ -23,7 +23,7 @@ pub fn examples() -> Vec<Merge> {
         Merge::new("4096-symbols-twice", marked(4096, 0), marked(4096, 0)),
         Merge::new("4096-symbols-and-a-row", marked(4096, 0), marked(4095, 1)),
         Merge::new("largest-row-number", many_rows(4090).finish(), last_rows()),
-        Merge::new("largest-clause-number", clauses(4090), last_clauses()),
+        Merge::new("largest-clause-number", clauses(4093), last_clauses()),
     ]
 }
 
@@ -46,24 +46,20 @@ fn last_rows() -> Vec<u8> {
     file.finish()
 }
 
-/// A symbol without arguments, its row, and so many clauses on it.
-fn units(count: usize) -> Sketch {
-    let mut file = of_symbols(&[0]);
-    let atom = file.application(0, &[]);
-    for _ in 0..count {
-        file.clause_of_rows(&[(true, atom)]);
-    }
-    file
-}
-
-/// So many clauses.
+/// So many clauses without literals.
 fn clauses(count: usize) -> Vec<u8> {
-    units(count).finish()
+    let mut file = Sketch::new();
+    for _ in 0..count {
+        file.clause(&[]);
+    }
+    file.finish()
 }
 
-/// Two clauses, and the days of the second, which after 4,090 clauses is number 4,091.
+/// Two clauses without literals, and the days of the second.
 fn last_clauses() -> Vec<u8> {
-    let mut file = units(2);
-    file.window(1, 258, 515);
+    let mut file = Sketch::new();
+    file.clause(&[]);
+    let last = file.clause(&[]);
+    file.window(last, 258, 515);
     file.finish()
 }

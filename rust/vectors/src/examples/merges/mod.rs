@@ -104,21 +104,17 @@ fn missing_parts() -> Vec<Merge> {
         file.application(P, &[x]);
         file
     };
-    let variables_alone = || {
-        let mut file = Sketch::new();
-        for number in [0, 63, 0] {
-            file.fields(2, 0, &[number]);
-        }
-        file
-    };
+    let mut empty_clause = Sketch::new();
+    let clause = empty_clause.clause(&[]);
+    empty_clause.window(clause, 3, 4);
     let pair = |name: &str, first: Sketch, second: Sketch| Merge::new(name, first.finish(), second.finish());
     vec![
         pair("both-empty", Sketch::new(), Sketch::new()),
         pair("first-empty", Sketch::new(), trip(4)),
         pair("second-empty", rulebook(5), Sketch::new()),
-        pair("second-without-symbols", rulebook(5), variables_alone()),
-        pair("first-without-symbols", variables_alone(), rulebook(5)),
-        pair("neither-with-symbols", variables_alone(), variables_alone()),
+        pair("second-without-symbols", rulebook(5), empty_clause.clone()),
+        pair("first-without-symbols", empty_clause.clone(), rulebook(5)),
+        pair("neither-with-symbols", empty_clause.clone(), empty_clause),
         pair("second-without-rows", rulebook(5), of_symbols(&ARITIES)),
         pair("second-without-clauses", rulebook(5), rows_alone()),
         pair("first-without-clauses", rows_alone(), rulebook(5)),

@@ -2,13 +2,11 @@
 //! begin with the reason and the file.
 
 use super::{of_symbols, rulebook, trip, Merge, ARITIES, P};
-use crate::examples::{retired, Example};
 use crate::sketch::Sketch;
 
 /// All of them.
 pub fn examples() -> Vec<Merge> {
     let mut all = own_refusals();
-    all.extend(empty_inputs());
     all.extend(steps());
     all.extend(differing_symbols());
     all.extend(orders());
@@ -57,25 +55,6 @@ fn late_symbol() -> Sketch {
     file.symbol(6);
     file.symbol(6);
     file
-}
-
-/// An input clause without literals in either file, also where the other is refused later, or holds a step.
-fn empty_inputs() -> Vec<Merge> {
-    let marked = |file: Sketch| faulty(file, 4, 0, &[]);
-    let mut all = vec![
-        pair("4-file-1-empty-input", marked(rulebook(5)), trip(4)),
-        pair("4-file-2-empty-input", rulebook(5), marked(trip(4))),
-        pair("4-file-1-empty-input-in-both", marked(rulebook(5)), marked(trip(4))),
-        pair("4-file-2-empty-input-after-a-step", stepping(rulebook(5), 5), marked(trip(4))),
-        pair("4-file-1-empty-input-and-a-step", stepping(marked(rulebook(5)), 7), trip(4)),
-        pair("4-file-2-empty-input-and-other-symbols", rulebook(5), marked(other_symbol(0))),
-    ];
-    for Example { name, file, .. } in retired::short() {
-        let what = name.trim_start_matches("4-");
-        all.push(Merge::new(&format!("4-file-1-{what}"), file.clone(), trip(4).finish()));
-        all.push(Merge::new(&format!("4-file-2-{what}"), rulebook(5).finish(), file));
-    }
-    all
 }
 
 /// The reason of a check in either file, or in both.

@@ -3,7 +3,7 @@
 use yestrwyn_types::record::{kind, read, Record};
 
 use super::on;
-use crate::examples::refutations::{factored, refuted, several, with_itself};
+use crate::examples::refutations::{factored, opposites, refuted, several, with_itself};
 use crate::examples::Example;
 use crate::sketch::{app, neg, pos, var, Sketch};
 
@@ -109,6 +109,7 @@ fn clauses() -> Vec<Example> {
         on(7, "unused-steps-between", unused_steps()),
         on(7, "a-step-on-the-empty-clauses-parents-again", again()),
         on(7, "six-arguments-and-seven-literals", full_records()),
+        on(7, "an-empty-input-clause", empty_input()),
     ]
 }
 
@@ -184,6 +185,14 @@ fn again() -> Sketch {
     let mut file = refuted(1);
     file.resolve(0, 1, 1, 1);
     file.resolve(1, 1, 0, 1);
+    file
+}
+
+/// An input clause without literals among others: all that is kept is its record.
+fn empty_input() -> Sketch {
+    let mut file = opposites(1);
+    file.clause(&[]);
+    file.resolve(0, 1, 1, 1);
     file
 }
 

@@ -5,15 +5,13 @@ use yestrwyn_types::record::{kind, Record};
 
 use super::on;
 use crate::examples::refutations::{factored, opposites, refuted};
-use crate::examples::{retired, Example};
+use crate::examples::Example;
 use crate::sketch::{app, pos, var, Sketch};
 
 /// All of them.
 pub fn examples() -> Vec<Example> {
     let mut all = not_accepted();
     all.extend(own());
-    // On day 15 each of these was accepted.
-    all.extend(retired::short().into_iter().map(|old| Example { day: 15, ..old }));
     all
 }
 
