@@ -1,5 +1,5 @@
 -- What a record does depends on a state only through its arities, rows, clauses and total of bindings: not on the records that they are of, and not on windows.
-use mathlib.Core.Path.{◌≡◌, refl, sym, ap, ◌∙◌}
+use mathlib.Core.Path.{◌≡◌, refl, ap}
 use mathlib.Core.Bool.{◌&&◌, not}
 use mathlib.Core.Option.{Option}
 use mathlib.Core.List.{List, [], ◌∷◌, map}

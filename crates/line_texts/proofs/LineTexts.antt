@@ -11,7 +11,7 @@ use lib.ListN.{length, drop, length-append, length-map}
 use Rattle.record.specs.Record.{pick, File}
 use Rattle.following.specs.Clearing.{Cleared}
 use Rattle.unification.specs.Environment.{Environment}
-use Rattle.unification.specs.Row.{Row, Variable, written_out}
+use Rattle.unification.specs.Row.{Row, Variable}
 use Rattle.unification.specs.Term.{Term}
 use Rattle.unification.specs.ValueArray.{InStep, Models}
 use Rattle.derivation.specs.Derivation.{literals, Literal, Derivation, numbered, maximum_index, lookup}

@@ -1,5 +1,4 @@
 use Rattle.naming.proofs.NamedKinds.{of_kind_lem, of_no_kind}
-use borrow.Author.Rules.{rules}
 use Rattle.naming.proofs.named_in.Goals as goal
 
 pub returns-then-k-eq3 : goal.returns-then-k-eq3

@@ -1,8 +1,5 @@
-use mathlib.Core.Path.{◌≡◌, refl, sym, ◌∙◌}
-use Prim.Native.Nat.{◌+◌, ◌-◌, ◌≤◌}
+use mathlib.Core.Path.{refl, sym, ◌∙◌}
 use native.Mathlib.Omega.{arith}
-use Rattle.record.specs.Record.{old_file, record_count}
-use Rattle.searching.specs.Searching.{others_from}
 use Rattle.searching.proofs.SearchSteps.{first_ended, goes_on, goes_on_whole, ends_without, ends_with}
 use Rattle.searching.proofs.first_other.Goals as goal
 

@@ -1,10 +1,8 @@
 -- What is left of both files has the same answer as the whole of them.
-use mathlib.Core.Path.{◌≡◌, refl, sym, ◌∙◌}
+use mathlib.Core.Path.{◌≡◌}
 use Prim.Native.Nat.{◌+◌, ◌-◌, ◌≤◌}
-use native.Mathlib.Omega.{arith}
 use Rattle.record.specs.Record.{old_file, record_count}
 use Rattle.searching.specs.Searching.{others_from}
-use Rattle.searching.proofs.SearchSteps.{first_ended, goes_on, goes_on_whole, ends_without, ends_with}
 use Rattle.searching.proofs.first_other.Given as goal
 
 abbrev pub invariant-loop-i : goal.invariant-loop-i

@@ -1,8 +1,6 @@
 use mathlib.Core.Path.{refl}
-use Prim.Native.Nat.{◌-◌, ◌≤◌}
 use native.Mathlib.Omega.{arith}
-use Rattle.record.specs.Record.{old_file, record_count}
-use Rattle.searching.proofs.SearchSteps.{Same, no_step_left, step_here, step_later}
+use Rattle.searching.proofs.SearchSteps.{no_step_left, step_here, step_later}
 use Rattle.searching.proofs.first_step.Goals as goal
 
 pub loop-k-init : goal.loop-k-init

@@ -1,9 +1,7 @@
 -- What is left of the file has the same first step as the whole.
-use mathlib.Core.Path.{refl}
 use Prim.Native.Nat.{◌-◌, ◌≤◌}
-use native.Mathlib.Omega.{arith}
 use Rattle.record.specs.Record.{old_file, record_count}
-use Rattle.searching.proofs.SearchSteps.{Same, no_step_left, step_here, step_later}
+use Rattle.searching.proofs.SearchSteps.{Same}
 use Rattle.searching.proofs.first_step.Given as goal
 
 abbrev pub invariant-loop-k : goal.invariant-loop-k

@@ -1,8 +1,6 @@
 use mathlib.Core.Path.{sym, ◌∙◌}
 use native.Mathlib.Omega.{arith}
 use Rattle.collecting.proofs.CollectedLiterals.{to_first, first_room, from_first, to_second, to_rights, from_both}
-use borrow.Author.Rules.{rules}
-use Prim.Native.Nat.{ℕ, ◌<◌}
 use Rattle.collecting.proofs.literals.+collect.Goals as goal
 
 pub origin_code-code-requires : goal.origin_code-code-requires
@@ -11,7 +9,7 @@ origin_code-code-requires t c =
 
 pub collect_input-requires : goal.collect_input-requires
 collect_input-requires t c =
-    (c.requires.list_len, (c.requires.collectable, sym c.origin_code-code.ensures ∙ c.if-code-eq1.true))
+    record { list_len = c.requires.list_len; collectable = c.requires.collectable; c_value = sym c.origin_code-code.ensures ∙ c.if-code-eq1.true }
 
 pub returns-then-code-eq1 : goal.returns-then-code-eq1
 returns-then-code-eq1 t c =
@@ -33,7 +31,7 @@ collect-all-requires t c =
 pub delete-requires : goal.delete-requires
 delete-requires t c =
     let d = first_room c.requires.collectable c.origin_code-code.ensures c.if-code-eq1.false c.part_of-left.ensures c.part_of-second.ensures c.collect-all.ensures in
-    (c.collect-all.ensures.room, (d.0, d.1))
+    record { list_len = c.collect-all.ensures.room; base_le_end = d.0; end_bound = d.1 }
 
 pub returns-then-code-eq2 : goal.returns-then-code-eq2
 returns-then-code-eq2 t c =
@@ -46,7 +44,7 @@ part_of-requires t c =
 pub delete-kept-requires : goal.delete-kept-requires
 delete-kept-requires t c =
     let d = first_room c.requires.collectable c.origin_code-code.ensures c.if-code-eq1.false c.part_of-left.ensures c.part_of-second.ensures c.collect-all.ensures in
-    (c.collect-all.ensures.room, (d.0, d.1))
+    record { list_len = c.collect-all.ensures.room; base_le_end = d.0; end_bound = d.1 }
 
 pub overflow_add-above : goal.overflow_add-above
 overflow_add-above t c =

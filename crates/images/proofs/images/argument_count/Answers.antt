@@ -1,6 +1,5 @@
 use native.Mathlib.Omega.{arith}
 use Rattle.unification.specs.Nodes.{node_arity}
-use borrow.Author.Rules.{rules}
 use Rattle.images.proofs.images.argument_count.Goals as goal
 
 pub returns-then-a-gt2 : goal.returns-then-a-gt2

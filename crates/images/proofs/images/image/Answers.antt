@@ -1,7 +1,6 @@
 use mathlib.Core.Path.{sym}
 use native.Mathlib.Omega.{arith}
 use lib.ListN.{get_or-eq_default}
-use borrow.Author.Rules.{rules}
 use Rattle.images.proofs.images.image.Goals as goal
 
 pub returns-else-x-lt4096 : goal.returns-else-x-lt4096

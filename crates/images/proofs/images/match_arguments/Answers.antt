@@ -1,12 +1,5 @@
-use mathlib.Core.Path.{◌≡◌}
-use Prim.Native.Nat.{◌+◌, ◌-◌, ◌≤◌}
 use native.Mathlib.Omega.{arith}
-use lib.ListN.{length}
-use borrow.Author.Tests.{not-true, not-false}
-use Rattle.unification.specs.Nodes.{node_arity}
-use Rattle.images.specs.Matching.{arguments_imaged}
 use Rattle.images.proofs.ImageSteps.{arguments_first, argument_taken, argument_refused, arguments_taken}
-use borrow.Author.Rules.{rules}
 use Rattle.images.proofs.images.match_arguments.Goals as goal
 
 pub loop-n-init : goal.loop-n-init

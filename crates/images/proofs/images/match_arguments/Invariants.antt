@@ -1,13 +1,9 @@
 -- The arguments that are left give the same answer as all.
 use mathlib.Core.Path.{◌≡◌}
 use Prim.Native.Nat.{◌+◌, ◌-◌, ◌≤◌}
-use native.Mathlib.Omega.{arith}
 use lib.ListN.{length}
-use borrow.Author.Tests.{not-true, not-false}
 use Rattle.unification.specs.Nodes.{node_arity}
 use Rattle.images.specs.Matching.{arguments_imaged}
-use Rattle.images.proofs.ImageSteps.{arguments_first, argument_taken, argument_refused, arguments_taken}
-use borrow.Author.Rules.{rules}
 use Rattle.images.proofs.images.match_arguments.Given as goal
 
 abbrev pub invariant-loop-n : goal.invariant-loop-n

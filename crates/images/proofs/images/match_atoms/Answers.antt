@@ -1,7 +1,6 @@
 use Prim.Native.Nat.{ℕ}
 use lib.ListN.{replicate}
 use Rattle.images.proofs.ImageSteps.{atoms_matched_lem}
-use borrow.Author.Rules.{rules}
 use Rattle.images.proofs.images.match_atoms.Goals as goal
 
 pub returns : goal.returns

@@ -1,5 +1,4 @@
 use Rattle.images.proofs.ImageSteps.{rows_from}
-use borrow.Author.Rules.{rules}
 use Rattle.images.proofs.images.match_from.Goals as goal
 
 pub returns : goal.returns

@@ -1,5 +1,4 @@
 use Rattle.images.proofs.ImageSteps.{row_noted, row_opened, row_refused}
-use borrow.Author.Rules.{rules}
 use Rattle.images.proofs.images.match_row.Goals as goal
 
 pub returns-then-code_at-eq1 : goal.returns-then-code_at-eq1

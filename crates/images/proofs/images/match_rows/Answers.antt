@@ -1,11 +1,5 @@
-use mathlib.Core.Path.{◌≡◌}
-use Prim.Native.Nat.{suc, ◌+◌, ◌≤◌}
 use native.Mathlib.Omega.{arith}
-use lib.ListN.{length}
-use borrow.Author.Tests.{not-true, not-false}
-use Rattle.images.specs.Matching.{rows_matched}
 use Rattle.images.proofs.ImageSteps.{rows_first, row_passed, row_matched_lem, row_unmatched, rows_matched_lem}
-use borrow.Author.Rules.{rules}
 use Rattle.images.proofs.images.match_rows.Goals as goal
 
 pub loop-r-init : goal.loop-r-init

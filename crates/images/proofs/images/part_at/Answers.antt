@@ -1,5 +1,4 @@
 use Rattle.unification.specs.Nodes.{part}
-use borrow.Author.Rules.{rules}
 use Rattle.images.proofs.images.part_at.Goals as goal
 
 pub returns : goal.returns

@@ -1,5 +1,4 @@
 use Rattle.images.proofs.ImageSteps.{heads_compared, heads_differ}
-use borrow.Author.Rules.{rules}
 use Rattle.images.proofs.images.same_head.Goals as goal
 
 pub returns-then-code_at : goal.returns-then-code_at

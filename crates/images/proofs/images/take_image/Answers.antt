@@ -1,5 +1,4 @@
 use Rattle.images.proofs.ImageSteps.{new_image, outside_image, old_image}
-use borrow.Author.Rules.{rules}
 use Rattle.images.proofs.images.take_image.Goals as goal
 
 pub returns-then-x-lt4096 : goal.returns-then-x-lt4096

@@ -1,6 +1,5 @@
 use Rattle.naming.proofs.NamedRecords.{told_named}
 use Rattle.naming.specs.declared.Named.TheVariants.{Symbol, Row, Literal, Clause}
-use borrow.Author.Rules.{rules}
 use Rattle.naming.proofs.recorded.record_named.Goals as goal
 
 pub returns-in-Symbol : goal.returns-in-Symbol

@@ -1,5 +1,4 @@
 -- The cell that was read.
-use borrow.Author.Rules.{rules}
 use Rattle.naming.proofs.recorded.row_record.Goals as goal
 
 pub returns : goal.returns

@@ -1,0 +1,7 @@
+use Rattle.heading.proofs.VerdictTexts.{verdict_written}
+use borrow.Author.Rules.{rules}
+use Rattle.heading.proofs.write_verdict.Goals as goal
+
+pub returns : goal.returns
+returns c =
+    verdict_written _ _ _ _ _ _ _ c.requires c.put_verdict-last.ensures c.put_byte.ensures
