@@ -3,13 +3,13 @@ use mathlib.Core.Path.{◌≡◌, refl, sym, ap, ◌∙◌, subst}
 use mathlib.Core.Bool.{Bool, true, false, ◌&&◌}
 use mathlib.Core.Option.{Option, none, some}
 use mathlib.Core.List.{List, [], ◌∷◌, ◌++◌}
-use Prim.Native.Nat.{ℕ, ◌+◌, ◌*◌, ◌%◌, ◌≤◌}
+use Prim.Native.Nat.{ℕ, ◌+◌, ◌*◌, ◌≤◌}
 use native.Mathlib.Omega.{arith}
-use lib.Dec.{eqb, leb, ltb}
+use lib.Dec.{ltb}
 use lib.ListN.{length, get_or, length-map}
 use borrow.Author.Tests.{le-ltb}
 use Rattle.record.specs.Record.{pick, File, records}
-use Rattle.record.proofs.Records.{records_length, records_shaped}
+use Rattle.record.proofs.Records.{records_shaped}
 use Rattle.unification.proofs.Lists.{Each}
 use Rattle.unification.proofs.Tests.{both_true}
 use Rattle.derivation.specs.Derivation.{Derivation, Use, uses, literals}
@@ -27,7 +27,6 @@ use Rattle.demands.proofs.Demanded.{demand1, long_enough_lem, refutation_of, sta
 use Rattle.demands.proofs.InForceShown.{uses_in_force_lem, of_uses_in_force}
 use Rattle.verdict.proofs.Endings.{reading_records}
 use Rattle.demands.proofs.Reading.{few_records, stands_ok}
-use Rattle.demands.proofs.RangeTests.{at_most}
 use Rattle.demands.proofs.Standing.{inputs_of}
 use Rattle.demands.proofs.TableCells.{size_of, read_size}
 use Rattle.boards.specs.Board.{Presence, all_present, changed, stands_with, answer_afresh, Answer, answered, refused_with, Call, after_call, after_calls}

@@ -8,7 +8,7 @@ use Prim.Native.Nat.{ℕ, suc}
 use native.Mathlib.Omega.{arith}
 use lib.Dec.{eqb}
 use lib.ListN.{length, drop, length-drop, length-map, get_or}
-use Rattle.record.specs.Record.{pick, record_at, File, Record, records, record_part, decoded, kind_of, field_of, field_a, field_c}
+use Rattle.record.specs.Record.{pick, record_at, File, Record, records, record_part, kind_of, field_of, field_a, field_c}
 use Rattle.record.proofs.Records.{decoded_fields, decoded_kind, Shaped, records_length, records_shaped, record_numbered}
 use Rattle.unification.proofs.Lists.{Each}
 use Rattle.unification.proofs.Tests.{some_not_none, some_injective}

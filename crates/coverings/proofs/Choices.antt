@@ -2,7 +2,7 @@
 use mathlib.Core.Path.{◌≡◌, refl, sym, ap, ap₂, ◌∙◌, subst}
 use mathlib.Core.Logic.{◌⊎◌, inl, inr}
 use mathlib.Core.Bool.{Bool, true, false, ◌&&◌}
-use mathlib.Core.Option.{none, some}
+use mathlib.Core.Option.{some}
 use mathlib.Core.List.{List, [], ◌∷◌}
 use Prim.Native.Nat.{ℕ, zero, suc, ◌+◌, ◌-◌, ◌*◌, ◌/◌, ◌%◌, ◌≤◌, ◌<◌}
 use native.Mathlib.Omega.{arith}
@@ -19,7 +19,7 @@ use Rattle.demands.proofs.ExistenceTests.{numbered_within}
 use Rattle.coverings.specs.Choosing.{numbers_from}
 use Rattle.coverings.specs.Covering.{Substitution, Turns, Works, NotAfter}
 use Rattle.matching.specs.Pairs.{bit, is_pair, left_number, right_number, Pairs, agree_at, agree_from, go_together, table_filled}
-use Rattle.matching.specs.Searching.{pair_chosen, fits_from, fits, searched}
+use Rattle.matching.specs.Searching.{pair_chosen, fits_from, searched}
 use Rattle.coverings.proofs.Earliest.{NotAfterFrom, FitFrom, Came, search_came}
 use Rattle.coverings.proofs.PairLaws.{together, AllCame}
 use Rattle.coverings.proofs.Solutions.{TermsOf}

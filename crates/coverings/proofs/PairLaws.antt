@@ -5,14 +5,14 @@ use mathlib.Core.Bool.{Bool, true, false, ◌&&◌}
 use mathlib.Core.List.{List}
 use Prim.Native.Nat.{ℕ, zero, suc, ◌+◌, ◌-◌, ◌*◌, ◌/◌, ◌%◌, ◌≤◌, ◌<◌}
 use native.Mathlib.Omega.{arith}
-use lib.Dec.{eqb, leb, ltb, eqb_refl, leb→le, ltb→lt}
+use lib.Dec.{eqb, leb, ltb, leb→le, ltb→lt}
 use lib.ListN.{length, get_or, set, length-set}
 use lib.Seq.{get_or-set_same, get_or-set_other}
 use borrow.Author.Tests.{eqb-true, eqb-false, eq-eqb}
 use Rattle.record.specs.Record.{pick}
 use Rattle.unification.specs.Nodes.{part, HasRow}
 use Rattle.unification.specs.Term.{Term}
-use Rattle.unification.proofs.Tests.{to_t, from_t, both_true, true_not_false}
+use Rattle.unification.proofs.Tests.{to_t, both_true, true_not_false}
 use Rattle.derivation.specs.Derivation.{literal_of}
 use Rattle.coverings.specs.Covering.{Substitution, Turns}
 use Rattle.images.specs.Matching.{atoms_matched}

@@ -16,7 +16,7 @@ use Rattle.unification.specs.Term.{apply_all}
 use Rattle.unification.proofs.Lists.{Each}
 use Rattle.unification.proofs.Repeats.{one_earliest}
 use Rattle.unification.proofs.Rows.{below_other, row_there}
-use Rattle.derivation.specs.Derivation.{literals, input, RowLiteral, literal_of, Derivation, numbered, placed}
+use Rattle.derivation.specs.Derivation.{input, RowLiteral, literal_of, Derivation, numbered, placed}
 use Rattle.derivation.specs.Ground.{Ground, argument_count, WellFormed, AllWellFormed}
 use Rattle.derivation.specs.Stored.{origin_code, origin_numbers, literals_cell, Stored, stored_input, stored_resolve, stored_factor}
 use Rattle.derivation.proofs.Literals.{map_numbered, each_numbered}

@@ -1,27 +1,24 @@
 -- The bytes that are written are those of the merged file, and its records are counted without it.
-use mathlib.Core.Path.{◌≡◌, refl, sym, ap, ap₂, ◌∙◌, subst}
+use mathlib.Core.Path.{◌≡◌, refl, sym, ap, ap₂, ◌∙◌}
 use mathlib.Core.Bool.{Bool, true, false, ◌&&◌}
 use mathlib.Core.Option.{Option, none, some}
 use mathlib.Core.List.{List, [], ◌∷◌, ◌++◌, map, append_assoc}
-use Prim.Native.Nat.{ℕ, zero, suc, ◌+◌, ◌-◌, ◌*◌, ◌/◌, ◌%◌, ◌≤◌, ◌<◌, min}
-use native.Mathlib.Nat.{add-zero}
+use Prim.Native.Nat.{ℕ, suc, ◌+◌, ◌-◌, ◌*◌, ◌/◌, ◌%◌, ◌≤◌, ◌<◌, min}
 use native.Mathlib.Omega.{arith}
-use lib.Dec.{eqb, leb, ltb, ltb→lt, lt→ltb}
-use lib.ListN.{length, get_or, take, drop, length-map, length-append, length-drop, length-take, take-append-drop}
-use lib.Seq.{take_at, drop_at, drop-drop, drop-append-le}
+use lib.Dec.{eqb, leb, ltb, ltb→lt}
+use lib.ListN.{length, get_or, take, drop, length-map, length-append, length-drop, length-take}
+use lib.Seq.{take_at, drop_at, drop-drop}
 use Rattle.record.specs.Bytes.{file_bytes, Fits, AllFit, Bytes}
-use Rattle.record.specs.Record.{pick, old_file, Record, records, record_count}
+use Rattle.record.specs.Record.{pick, old_file, Record, records}
 use Rattle.record.specs.declared.Form.TheVariants.{Old}
 use Rattle.record.proofs.Bytes.{file_length, file_joined, file_rewritten}
-use Rattle.record.proofs.Records.{Shaped, records_length, records_shaped}
+use Rattle.record.proofs.Records.{records_length}
 use Rattle.record.specs.Sorts.{is_symbol, is_row, is_clause, is_step, how_many, unless}
-use Rattle.unification.specs.Row.{Row}
-use Rattle.unification.proofs.Tests.{to_t, from_t, both_true, true_not_false}
-use Rattle.derivation.specs.Derivation.{Derivation}
-use Rattle.verdict.specs.State.{State, empty_state}
-use Rattle.verdict.specs.Verdict.{fitting_length, Stands}
+use Rattle.unification.proofs.Tests.{to_t, both_true}
+use Rattle.verdict.specs.State.{State}
+use Rattle.verdict.specs.Verdict.{Stands}
 use Rattle.demands.proofs.Inversions.{not_below}
-use Rattle.demands.proofs.RangeTests.{not_true, equal, at_most}
+use Rattle.demands.proofs.RangeTests.{equal, at_most}
 use Rattle.writing.specs.Writing.{Writing, written, refused_with, writing_numbers, output_left}
 use Rattle.merging.specs.Answer.{first_where, symbol_list, first_other, room_for, after_checks}
 use Rattle.merging.specs.Merging.{shifted, symbols_after, without_symbols, merged, merged_file}

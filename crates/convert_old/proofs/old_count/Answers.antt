@@ -1,10 +1,10 @@
 use mathlib.Core.Path.{refl, ap, ◌∙◌}
-use Prim.Native.Nat.{ℕ, ◌+◌, ◌-◌, ◌≤◌}
+use Prim.Native.Nat.{ℕ, ◌+◌}
 use native.Mathlib.Omega.{arith}
 use Rattle.record.specs.Record.{new_file, decoded_in, records}
 use Rattle.record.specs.declared.Form.TheVariants.{New}
 use Rattle.converting.specs.Converting.{is_dated}
-use Rattle.placing.proofs.Counting.{at_most_one, Counted, one_counted, all_counted}
+use Rattle.placing.proofs.Counting.{at_most_one, one_counted, all_counted}
 use Rattle.convert_old.proofs.DatedRecords.{all_dated}
 use Rattle.record.specs.Sorts.{how_many}
 use Rattle.convert_old.proofs.old_count.Goals as goal

@@ -1,6 +1,5 @@
 use Rattle.heading.proofs.VerdictTexts.{given_written}
 use Rattle.answer.specs.declared.Verdict.TheVariants.{Open, Accepted, Refused}
-use borrow.Author.Rules.{rules}
 use Rattle.heading.proofs.put_verdict.Goals as goal
 
 pub returns-in-Open : goal.returns-in-Open

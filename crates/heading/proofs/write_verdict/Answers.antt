@@ -1,5 +1,4 @@
 use Rattle.heading.proofs.VerdictTexts.{verdict_written}
-use borrow.Author.Rules.{rules}
 use Rattle.heading.proofs.write_verdict.Goals as goal
 
 pub returns : goal.returns

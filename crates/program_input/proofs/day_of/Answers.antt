@@ -1,5 +1,4 @@
 use Rattle.program_input.proofs.Inputs.{short_day, whole_day}
-use borrow.Author.Rules.{rules}
 use Rattle.program_input.proofs.day_of.Goals as goal
 
 pub returns-then-input-lt2 : goal.returns-then-input-lt2

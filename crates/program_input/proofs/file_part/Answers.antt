@@ -1,5 +1,4 @@
 use Rattle.program_input.proofs.Inputs.{short_part, whole_part, inputs_read}
-use borrow.Author.Rules.{rules}
 use Rattle.program_input.proofs.file_part.Goals as goal
 
 pub returns-then-n-lt2 : goal.returns-then-n-lt2

@@ -1,5 +1,4 @@
 use Rattle.board_cells.proofs.CellSteps.{of_parts}
-use borrow.Author.Rules.{rules}
 use Rattle.board_cells.proofs.cells.from_parents.Goals as goal
 
 pub returns : goal.returns

@@ -1,6 +1,5 @@
 use Rattle.record.specs.Record.{old_file}
 use Rattle.board_cells.proofs.CellSteps.{own_cell, parents_cell}
-use borrow.Author.Rules.{rules}
 use Rattle.board_cells.proofs.cells.new_cell.Goals as goal
 
 pub returns-then-k-eq4 : goal.returns-then-k-eq4

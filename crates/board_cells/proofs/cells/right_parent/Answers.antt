@@ -1,5 +1,4 @@
 use Rattle.board_cells.proofs.CellSteps.{left_again, other_parent}
-use borrow.Author.Rules.{rules}
 use Rattle.board_cells.proofs.cells.right_parent.Goals as goal
 
 pub returns-then-k-eq6 : goal.returns-then-k-eq6

@@ -1,5 +1,4 @@
 use Rattle.board_cells.proofs.AnswerSteps.{cell_decides, no_answer}
-use borrow.Author.Rules.{rules}
 use Rattle.board_cells.proofs.lowest.is_answer.Goals as goal
 
 pub returns-then-cell-eq0 : goal.returns-then-cell-eq0

@@ -1,8 +1,6 @@
-use mathlib.Core.Path.{◌≡◌, refl}
-use Prim.Native.Nat.{◌-◌, ◌≤◌}
+use mathlib.Core.Path.{refl}
 use native.Mathlib.Omega.{arith}
-use Rattle.board_cells.proofs.AnswerSteps.{Same, found, not_found, nothing}
-use borrow.Author.Rules.{rules}
+use Rattle.board_cells.proofs.AnswerSteps.{found, not_found, nothing}
 use Rattle.board_cells.proofs.lowest.lowest_answer.Goals as goal
 
 pub loop-n-init : goal.loop-n-init

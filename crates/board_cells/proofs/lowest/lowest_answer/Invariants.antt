@@ -1,8 +1,5 @@
-use mathlib.Core.Path.{◌≡◌, refl}
 use Prim.Native.Nat.{◌-◌, ◌≤◌}
-use native.Mathlib.Omega.{arith}
-use Rattle.board_cells.proofs.AnswerSteps.{Same, found, not_found, nothing}
-use borrow.Author.Rules.{rules}
+use Rattle.board_cells.proofs.AnswerSteps.{Same}
 use Rattle.board_cells.proofs.lowest.lowest_answer.Given as goal
 
 abbrev pub invariant-loop-n : goal.invariant-loop-n

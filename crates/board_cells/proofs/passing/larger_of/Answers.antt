@@ -1,5 +1,4 @@
 use Rattle.board_cells.proofs.PassSteps.{larger_first, larger_second}
-use borrow.Author.Rules.{rules}
 use Rattle.board_cells.proofs.passing.larger_of.Goals as goal
 
 pub returns-then-a-b : goal.returns-then-a-b

@@ -1,11 +1,8 @@
-use mathlib.Core.Path.{◌≡◌, refl, sym, ◌∙◌}
+use mathlib.Core.Path.{◌≡◌}
 use Prim.Native.Nat.{◌-◌, ◌≤◌}
-use native.Mathlib.Omega.{arith}
 use lib.ListN.{length}
 use Rattle.record.specs.Record.{old_file}
 use Rattle.boards.specs.Cells.{passed}
-use Rattle.board_cells.proofs.PassSteps.{pass_ends, pass_goes, pass_done}
-use borrow.Author.Rules.{rules}
 use Rattle.board_cells.proofs.passing.pass.Given as goal
 
 abbrev pub invariant-loop-n : goal.invariant-loop-n

@@ -1,6 +1,5 @@
-use Prim.Native.Nat.{◌-◌}
 use native.Mathlib.Omega.{arith}
-use Rattle.convert_old.proofs.OldWritten.{OldGoing, old_first, few_clauses, next_writable, old_more, old_end}
+use Rattle.convert_old.proofs.OldWritten.{old_first, few_clauses, next_writable, old_more, old_end}
 use Rattle.convert_old.proofs.writing.write_old.Goals as goal
 
 pub loop-k-init : goal.loop-k-init

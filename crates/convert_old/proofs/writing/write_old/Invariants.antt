@@ -1,7 +1,6 @@
 -- What is left of the file, placed behind what is written, comes to the same as the whole.
 use Prim.Native.Nat.{◌-◌}
-use native.Mathlib.Omega.{arith}
-use Rattle.convert_old.proofs.OldWritten.{OldGoing, old_first, few_clauses, next_writable, old_more, old_end}
+use Rattle.convert_old.proofs.OldWritten.{OldGoing}
 use Rattle.convert_old.proofs.writing.write_old.Given as goal
 
 abbrev pub invariant-loop-k : goal.invariant-loop-k

@@ -1,7 +1,5 @@
-use Prim.Native.Nat.{◌-◌}
 use native.Mathlib.Omega.{arith}
-use lib.ListN.{length}
-use Rattle.shifting.proofs.Placing.{Reached, reached_first, next_writable, reached_more, reached_end}
+use Rattle.shifting.proofs.Placing.{reached_first, next_writable, reached_more, reached_end}
 use Rattle.raising.proofs.Raising.{tail_lent}
 use Rattle.shifting.proofs.writing.write_second.Goals as goal
 

@@ -1,9 +1,7 @@
 -- What is left of the second file, placed in what is written, comes to the same as the whole placed in the output.
 use Prim.Native.Nat.{◌-◌}
-use native.Mathlib.Omega.{arith}
 use lib.ListN.{length}
-use Rattle.shifting.proofs.Placing.{Reached, reached_first, next_writable, reached_more, reached_end}
-use Rattle.raising.proofs.Raising.{tail_lent}
+use Rattle.shifting.proofs.Placing.{Reached}
 use Rattle.shifting.proofs.writing.write_second.Given as goal
 
 abbrev pub invariant-loop-from : goal.invariant-loop-from
