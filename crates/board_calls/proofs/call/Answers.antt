@@ -1,9 +1,5 @@
 use Rattle.record.specs.Record.{old_file}
-use borrow.Author.Tests.{not-true, not-false}
 use Rattle.board_calls.proofs.CallSteps.{inside, too_short, no_input_lem, already, gone_through}
-use borrow.Author.Rules.{rules}
-use Rattle.std.proofs.Common.{ap}
-use Rattle.std.proofs.Common.{not}
 use Rattle.board_calls.proofs.call.Goals as goal
 
 pub returns-then-board-lt4097 : goal.returns-then-board-lt4097

@@ -1,12 +1,6 @@
-use mathlib.Core.Path.{◌≡◌, ap, ◌∙◌}
-use mathlib.Core.Logic.{⊎_elim}
-use Prim.Native.Nat.{ℕ, suc, ◌-◌, ◌≤◌, ◌<◌}
 use native.Mathlib.Omega.{arith}
-use lib.ListN.{length, length-set}
-use Rattle.matching.specs.Searching.{searched}
-use Rattle.matching.proofs.SearchSteps.{left_to_try, search_none, search_begins, number_unfit, number_found, number_passed, numbers_spent}
-use borrow.Author.Rules.{rules}
-use Prim.Native.Nat.{ℕ, ◌<◌}
+use lib.ListN.{length-set}
+use Rattle.matching.proofs.SearchSteps.{search_none, search_begins, number_unfit, number_found, number_passed, numbers_spent}
 use Rattle.choosing.proofs.+search.Goals as goal
 use Rattle.choosing.proofs.+search.Goals.{then-fits_before+else-search, else-fits_before}
 
@@ -39,12 +33,15 @@ loop-n-smaller t c =
     omega (arith, c.loop-n-test.true)
 
 pub loop-n-preserved : goal.loop-n-preserved
-loop-n-preserved t c =
-    (omega arith, omega (arith, c.loop-n-test.true), c.if-fits_before.array_long,
-    elim c.if-fits_before.branch [
-      then-fits_before+else-search w ↦ number_passed c.args.table.now c.args.rights c.args.left c.args.i c.loop-n.n c.loop-n.choice c.loop-n.invariant.3 c.fits_before.ensures c.loop-n-test.true w.if-fits_before.true w.search.ensures.0 w.if-search.false w.choice-is
+loop-n-preserved t c = (
+  omega arith,
+  omega (arith, c.loop-n-test.true),
+  c.if-fits_before.array_long,
+  elim c.if-fits_before.branch [
+    | then-fits_before+else-search w ↦ number_passed c.args.table.now c.args.rights c.args.left c.args.i c.loop-n.n c.loop-n.choice c.loop-n.invariant.3 c.fits_before.ensures c.loop-n-test.true w.if-fits_before.true w.search.ensures.0 w.if-search.false w.choice-is
     | else-fits_before w ↦ number_unfit c.args.table.now c.args.rights c.args.left c.args.i c.loop-n.n c.loop-n.choice c.loop-n.invariant.3 c.fits_before.ensures c.loop-n-test.true w.if-fits_before.false w.choice-is
-    ])
+  ],
+)
 
 pub returns : goal.returns
 returns t c =

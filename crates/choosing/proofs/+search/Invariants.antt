@@ -1,13 +1,9 @@
 -- The measure is how many literals are left. What is left to be tried gives the same as the whole.
-use mathlib.Core.Path.{◌≡◌, ap, ◌∙◌}
-use mathlib.Core.Logic.{⊎_elim}
-use Prim.Native.Nat.{ℕ, suc, ◌-◌, ◌≤◌, ◌<◌}
-use native.Mathlib.Omega.{arith}
-use lib.ListN.{length, length-set}
+use mathlib.Core.Path.{◌≡◌}
+use Prim.Native.Nat.{suc, ◌-◌, ◌≤◌}
+use lib.ListN.{length}
 use Rattle.matching.specs.Searching.{searched}
-use Rattle.matching.proofs.SearchSteps.{left_to_try, search_none, search_begins, number_unfit, number_found, number_passed, numbers_spent}
-use borrow.Author.Rules.{rules}
-use Prim.Native.Nat.{ℕ, ◌<◌}
+use Rattle.matching.proofs.SearchSteps.{left_to_try}
 use Rattle.choosing.proofs.+search.Given as goal
 
 abbrev pub decreases-search : goal.decreases-search

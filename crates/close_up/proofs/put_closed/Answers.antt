@@ -26,7 +26,7 @@ put_fields-requires-2 c =
 
 pub overflow_add-at-3 : goal.overflow_add-at-3
 overflow_add-at-3 c =
-    let h = c.requires in let k = c.well-formed in omega (arith, h, k)
+    let h = c.requires in let k = c.well_formed in omega (arith, h, k)
 
 pub put_fields-requires-3 : goal.put_fields-requires-3
 put_fields-requires-3 c =
