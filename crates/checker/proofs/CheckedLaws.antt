@@ -14,7 +14,6 @@ use Rattle.entry.specs.Progress.{node_table_of}
 use Rattle.inference.proofs.KeptClauses.{nodes_room, origins_room}
 use Rattle.verdict.specs.Tables.{Tables, lengths_of, tables_after}
 use Rattle.verdict.specs.Verdict.{check, answer_numbers, long_enough, fitting, Reading, untouched, read_to, reading}
-use Rattle.verdict.specs.Verdict as verdicts
 use Rattle.demands.proofs.OutlinesShown.{outlines_shown}
 use Rattle.demands.proofs.RepeatsShown.{repeats_shown}
 use Rattle.demands.proofs.SeveralShown.{several_shown}
@@ -26,7 +25,6 @@ use Rattle.demands.proofs.Demanded.{check_length, check_tables, check_reads, tab
 use borrow.Author.Tests.{not-false, not-true}
 use Rattle.record.specs.Record.{File}
 use Rattle.answer.specs.declared.Answer.{Answer}
-use Rattle.answer.specs.declared.Verdict.TheVariants as verdict
 
 module _ (day : ℕ) (F : File) (t : Tables) (a : Answer) (here : Tables) (isAnswer : answer_given a ≡ answer_numbers (check day F (lengths_of t))) (isTables : here ≡ tables_after F t) where
   pub checked : Checked day F t a here

@@ -3,7 +3,7 @@ use mathlib.Core.Path.{◌≡◌, refl, sym, ap, ap₂, ◌∙◌, subst}
 use mathlib.Core.Bool.{Bool, true, false, ◌&&◌}
 use mathlib.Core.Option.{Option, none, some}
 use mathlib.Core.List.{List, [], ◌∷◌, ◌++◌, map, append_assoc}
-use Prim.Native.Nat.{ℕ, suc, ◌+◌, ◌-◌, ◌≤◌, ◌<◌}
+use Prim.Native.Nat.{ℕ, suc, ◌+◌, ◌-◌}
 use native.Mathlib.Omega.{arith}
 use lib.Dec.{eqb}
 use lib.ListN.{length, get_or, drop, replicate, length-map}
@@ -18,7 +18,7 @@ use Rattle.entry.specs.Progress.{node_table_of, counts_of, ReadTo, tables_with}
 use Rattle.reading.specs.Reader.{Begun, EndsAs, EndedWith, Readable, FileRead, FileReadWith}
 use Rattle.verdict.specs.Refusal.{Reason, reason_number}
 use Rattle.verdict.specs.Force.{uses_in_force}
-use Rattle.verdict.specs.State.{State, entry, derivations, clause_of}
+use Rattle.verdict.specs.State.{State, entry, clause_of}
 use Rattle.verdict.specs.Step.{Ending, all_stand, refused_at, state_of}
 use Rattle.verdict.specs.Tables.{Tables, cells_of_clause, clause_cells, filled_tables, bindings_of}
 use Rattle.verdict.specs.Verdict.{verdict_numbers, answer_numbers, is_empty, first_empty, standing, verdict_of, answer_of, ending}

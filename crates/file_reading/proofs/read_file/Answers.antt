@@ -2,7 +2,6 @@
 use mathlib.Core.Path.{refl}
 use Prim.Native.Nat.{ℕ}
 use lib.ListN.{length-replicate}
-use borrow.Author.Rules.{rules}
 use Rattle.file_reading.proofs.read_file.Goals as goal
 
 pub read_tables-requires : goal.read_tables-requires

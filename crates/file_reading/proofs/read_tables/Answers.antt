@@ -2,7 +2,6 @@
 use native.Mathlib.Omega.{arith}
 use Rattle.inference.proofs.KeptClauses.{origins_room}
 use Rattle.file_reading.proofs.CheckLaws.{table_sizes, begun, file_read_with}
-use borrow.Author.Rules.{rules}
 use Rattle.file_reading.proofs.read_tables.Goals as goal
 
 pub clear-requires : goal.clear-requires
