@@ -1,6 +1,5 @@
 -- What is known of a read and of an input.
-use Rattle.std.specs.Prelude.{◌≡◌, List, ℕ, ◌≤◌, ℤ, pos, negsuc}
-use Rattle.io.specs.Counts.{IsPrefixLen}
+use Rattle.std.specs.Prelude.{◌≡◌, List, ℕ, ◌≤◌, ℤ, pos, negsuc, length, take}
 use Rattle.read_answer.specs.declared.Read.{Read}
 use Rattle.read_answer.specs.declared.Read.TheVariants.{Bytes, End, Failed}
 use Rattle.read_answer.specs.declared.Input.{Input}
@@ -16,6 +15,10 @@ abbrev pub Room : Read → ℕ → Type 0
 Room (Bytes n) room = (1 ≤ n) × (n ≤ room)
 Room End room = Unit {0}
 Room Failed room = Unit {0}
+
+-- n bytes stand at the start of a space.
+abbrev pub IsPrefixLen : ℕ → List ℕ → Type 0
+IsPrefixLen n space = (n ≤ length space) × (n ≡ length (take n space))
 
 -- The bytes of an input stand at the start of the space that it was read into.
 abbrev pub Inside : Input → List ℕ → Type 0

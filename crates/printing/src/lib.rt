@@ -18,9 +18,7 @@ pub fn run<R: io::Input + Print + Eprint + Alloc>(rt: &R, naming: Naming) {
     let mut space = [0u8; 65539];
     let mut source = Source::new(rt.reader());
     let Input::Whole(n) = read_input(&mut source, &mut space) else {
-        if let Some(error) = source.failure {
-            unread(rt, naming, error);
-        }
+        unread(rt, naming, source.failure.unwrap());
         return;
     };
     print_readout(rt, &space, n, naming);
