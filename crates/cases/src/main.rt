@@ -5,8 +5,7 @@
 
 mod print;
 
-ghost use Rattle.std.specs.Prelude.{◌≤◌, length};
-ghost use Rattle.io.specs.Counts.{IsPrefixLen};
+ghost use Rattle.std.specs.Prelude.{◌≡◌, ◌≤◌, length, take};
 
 use outcomes::outcome::{Outcome, outcome_of};
 use pack::{Counted, Entry, count_files, entry_at};
@@ -77,7 +76,8 @@ fn print_group<R: Print>(rt: &R, path: &str, pack: &[u8], has_days: bool) -> boo
 
 // Reads into the start of `space` until it is full, the file ends or a read fails. How many bytes came.
 fn read_full<F: io::Read>(file: &mut F, space: &mut [u8]) -> usize
-    ensures { IsPrefixLen result space.new }
+    ensures within { result ≤ length space.new }
+    ensures prefix { result ≡ length (take result space.new) }
 {
     let mut done = 0;
     while done < space.len() {
@@ -91,7 +91,8 @@ fn read_full<F: io::Read>(file: &mut F, space: &mut [u8]) -> usize
 
 // Reads a file into the start of `space`. How many bytes there are: 0 where the file cannot be opened or read.
 fn read_file<R: Files>(rt: &R, path: &str, space: &mut [u8]) -> usize
-    ensures { IsPrefixLen result space.new }
+    ensures within { result ≤ length space.new }
+    ensures prefix { result ≡ length (take result space.new) }
 {
     let Ok(mut file) = fs::open(rt, path) else {
         return 0;
