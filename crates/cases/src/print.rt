@@ -1,64 +1,61 @@
-// Lines on standard output.
+// Lines on standard output. What standard output does not take is lost.
 use answer::numbers::verdict_numbers;
 use digests::Digest;
-use libc::STDOUT_FILENO;
 use outcomes::outcome::{Hashes, Outcome};
 
 // Bytes as they are.
-pub fn text(t: &[u8]) {
-    io::write_all(STDOUT_FILENO, t);
+pub fn text<R: Print>(rt: &R, t: &[u8]) {
+    let _ = rt.write_all(t);
 }
 
 // A number after a blank.
-pub fn number(n: u16) {
-    text(b" ");
-    io::print_decimal(STDOUT_FILENO, n as u64);
+pub fn number<R: Print>(rt: &R, n: u16) {
+    let _ = print!(rt; " {n}");
 }
 
 // A place or a count, in decimal digits.
-pub fn count(n: usize) {
-    io::print_decimal(STDOUT_FILENO, n as u64);
+pub fn count<R: Print>(rt: &R, n: usize) {
+    let _ = rt.print(n);
 }
 
 // A hash after a blank, in 16 hexadecimal digits.
-fn hash(h: u64) {
-    text(b" ");
-    io::print_hex(STDOUT_FILENO, h, 16);
+fn hash<R: Print>(rt: &R, h: u64) {
+    let _ = print!(rt; " {h:016x}");
 }
 
 // The four hashes, each after a blank.
-fn hashes(h: Hashes) {
-    hash(h.symbols);
-    hash(h.rows);
-    hash(h.clauses);
-    hash(h.bindings);
+fn hashes<R: Print>(rt: &R, h: Hashes) {
+    hash(rt, h.symbols);
+    hash(rt, h.rows);
+    hash(rt, h.clauses);
+    hash(rt, h.bindings);
 }
 
 // The length and the hash of a readout, each after a blank.
-fn digest(d: Digest) {
-    text(b" ");
-    count(d.length);
-    hash(d.hash);
+fn digest<R: Print>(rt: &R, d: Digest) {
+    text(rt, b" ");
+    count(rt, d.length);
+    hash(rt, d.hash);
 }
 
 // The line of a file: its place in the pack, the seven numbers of the answer, the hashes, and the length and the hash of each readout.
-pub fn line(place: usize, o: Outcome) {
+pub fn line<R: Print>(rt: &R, place: usize, o: Outcome) {
     let a = o.answer;
     let v = a.verdict;
     let n = verdict_numbers(v);
-    count(place);
-    number(n.kind);
-    number(n.what);
-    number(n.record);
-    number(a.symbols);
-    number(a.rows);
-    number(a.clauses);
-    number(a.bindings);
+    count(rt, place);
+    number(rt, n.kind);
+    number(rt, n.what);
+    number(rt, n.record);
+    number(rt, a.symbols);
+    number(rt, a.rows);
+    number(rt, a.clauses);
+    number(rt, a.bindings);
     let h = o.hashes;
-    hashes(h);
+    hashes(rt, h);
     let d = o.readout;
-    digest(d);
+    digest(rt, d);
     let e = o.canonical;
-    digest(e);
-    text(b"\n");
+    digest(rt, e);
+    text(rt, b"\n");
 }

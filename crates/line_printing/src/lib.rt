@@ -14,7 +14,8 @@ use output::write_all;
 use units::{unit_count, write_unit};
 
 // Prints line after line, the first one with that of clause 0.
-pub fn print_lines(
+pub fn print_lines<R: Print + Eprint + Alloc>(
+    rt: &R,
     clauses: &[u16],
     bindings: &[u16],
     nodes: &Nodes,
@@ -34,7 +35,7 @@ pub fn print_lines(
         let end = write_unit(
             clauses, bindings, nodes, origins, values, &mut text, naming, cells, order, a, n,
         );
-        if !write_all(&text[..end], naming) {
+        if !write_all(rt, &text[..end], naming) {
             return;
         }
         n += 1;

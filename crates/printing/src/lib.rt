@@ -3,21 +3,23 @@
 // endless one ends. Where the input cannot be read it prints nothing, where the output cannot be written it stops, and standard error says which.
 #![tactic(auto)]
 
+pub mod arguments;
 pub mod input;
 
-use input::read_input;
-use libc::STDIN_FILENO;
+use input::{Source, read_input};
 use line_printing::report::unread;
 use numbering::Naming;
 use read_answer::Input;
 use readout_printing::print_readout;
+use std::io;
 
 // Reads the input and prints its readout, with its variables named in either way.
-pub fn run(naming: Naming) {
+pub fn run<R: io::Input + Print + Eprint + Alloc>(rt: &R, naming: Naming) {
     let mut space = [0u8; 65539];
-    let Input::Whole(n) = read_input(STDIN_FILENO, &mut space) else {
-        unread(naming);
+    let mut source = Source::new(rt.reader());
+    let Input::Whole(n) = read_input(&mut source, &mut space) else {
+        unread(rt, naming, source.failure.unwrap());
         return;
     };
-    print_readout(&space, n, naming);
+    print_readout(rt, &space, n, naming);
 }

@@ -1,28 +1,22 @@
--- The two bytes of a day, and where the file after them stands.
+-- Where the file stands after the two bytes of day.
 use mathlib.Core.Path.{◌≡◌, refl, sym, ap, ◌∙◌}
 use mathlib.Core.Bool.{Bool, false}
 use mathlib.Core.List.{List, [], ◌∷◌}
-use Prim.Native.Nat.{ℕ, zero, suc, ◌+◌, ◌-◌, ◌*◌, ◌≤◌, ◌<◌}
+use Prim.Native.Nat.{ℕ, zero, suc, ◌-◌, ◌≤◌, ◌<◌}
 use native.Mathlib.Omega.{arith}
-use lib.ListN.{length, get_or, take, drop, length-take, length-drop}
+use lib.ListN.{length, take, drop, length-take, length-drop}
 use borrow.Author.Tests.{lt-ltb, le-ltb, lt-leb}
 use Rattle.record.specs.Record.{pick, File, old_file}
 use Rattle.verdict.specs.Refusal.{badLength}
 use Rattle.verdict.specs.Verdict.{refusal, check, Lengths, fitting_length, fitting}
-use Rattle.program_input.specs.Input.{day_of, file_part, file_in, InputsRead}
+use Rattle.program_input.specs.Input.{file_part, file_in, InputsRead}
 use Rattle.program_input.specs.declared.Part.{Part}
 use Rattle.record.specs.declared.Form.TheVariants.{Old}
 
-pub short_day : (input : List ℕ) → length input < 2 → 0 ≡ day_of input
-short_day input l = sym (ap (λ (b : Bool). pick b 0 (get_or input 0 0 + 256 * get_or input 1 0)) (lt-ltb (length input) 2 l))
-
-pub whole_day : (input : List ℕ) {low high : ℕ} → 2 ≤ length input → low ≡ get_or input 0 0 → high ≡ get_or input 1 0 → low + 256 * high ≡ day_of input
-whole_day input l p q = (λ i. p i + 256 * q i) ∙ sym (ap (λ (b : Bool). pick b 0 (get_or input 0 0 + 256 * get_or input 1 0)) (le-ltb (length input) 2 l))
-
-pub short_part : (n : ℕ) → n < 2 → record { first = 0; end = 1 } ≡ file_part n
+short_part : (n : ℕ) → n < 2 → record { first = 0; end = 1 } ≡ file_part n
 short_part n l = sym (ap (λ (b : Bool). pick b (record { first = 0; end = 1 }) (record { first = 2; end = n })) (lt-ltb n 2 l))
 
-pub whole_part : (n : ℕ) → 2 ≤ n → record { first = 2; end = n } ≡ file_part n
+whole_part : (n : ℕ) → 2 ≤ n → record { first = 2; end = n } ≡ file_part n
 whole_part n l = sym (ap (λ (b : Bool). pick b (record { first = 0; end = 1 }) (record { first = 2; end = n })) (le-ltb n 2 l))
 
 one_byte : (space : List ℕ) → 1 ≤ length space → length (take 1 (drop 0 space)) ≡ 1

@@ -33,6 +33,7 @@ pub fn day_of(input: &[u8]) -> u16
 
 // Where the file stands that came with n bytes of input, in the space that they were read into: after the day. Where fewer than two bytes
 // came it is one byte, which no file is, so that the check refuses it with 1.
+#[tactic(auto, using(crate::proofs::Inputs::inputs_read))]
 pub fn file_part(n: usize) -> Part
     ensures value { result ≡ file_part n }
     ensures inputs_read { InputsRead }

@@ -3,12 +3,13 @@
 
 use line_printing::report::usage;
 use numbering::Naming;
+use printing::arguments::has_arguments;
 use printing::run;
 
-fn main() {
-    if 1 < os::arg_count() {
-        usage(Naming::ByIndex);
+fn main(rt: HostRuntime) {
+    if has_arguments(&rt) {
+        usage(&rt, Naming::ByIndex);
         return;
     }
-    run(Naming::ByIndex);
+    run(&rt, Naming::ByIndex);
 }

@@ -4,12 +4,13 @@
 
 use line_printing::report::usage;
 use numbering::Naming;
+use printing::arguments::has_arguments;
 use printing::run;
 
-fn main() {
-    if 1 < os::arg_count() {
-        usage(Naming::ByAppearance);
+fn main(rt: HostRuntime) {
+    if has_arguments(&rt) {
+        usage(&rt, Naming::ByAppearance);
         return;
     }
-    run(Naming::ByAppearance);
+    run(&rt, Naming::ByAppearance);
 }

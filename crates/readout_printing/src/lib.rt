@@ -12,7 +12,8 @@ use line_printing::print_lines;
 use numbering::Naming;
 
 // Prints the lines with variables named by number and index, for which no room is needed.
-fn print_plain(
+fn print_plain<R: Print + Eprint + Alloc>(
+    rt: &R,
     clauses: &[u16],
     bindings: &[u16],
     nodes: &Nodes,
@@ -25,6 +26,7 @@ fn print_plain(
     let mut cells = [0u16; 1];
     let mut order = [0u32; 1];
     print_lines(
+        rt,
         clauses,
         bindings,
         nodes,
@@ -38,7 +40,8 @@ fn print_plain(
 }
 
 // The same with variables numbered by appearance, with room for the numbers of any line.
-fn print_numbered(
+fn print_numbered<R: Print + Eprint + Alloc>(
+    rt: &R,
     clauses: &[u16],
     bindings: &[u16],
     nodes: &Nodes,
@@ -51,6 +54,7 @@ fn print_numbered(
     let mut cells = [0u16; 262208];
     let mut order = [0u32; 8192];
     print_lines(
+        rt,
         clauses,
         bindings,
         nodes,
@@ -64,7 +68,8 @@ fn print_numbered(
 }
 
 // Checks the file of an input once, on its day, and prints a readout by what the check left.
-fn print_with(
+fn print_with<R: Print + Eprint + Alloc>(
+    rt: &R,
     space: &[u8],
     n: usize,
     symbols: &mut [u16],
@@ -82,13 +87,13 @@ fn print_with(
         space, n, symbols, rows, clauses, bindings, nodes, origins, values,
     );
     match naming {
-        Naming::ByIndex => print_plain(clauses, bindings, nodes, origins, values, a),
-        Naming::ByAppearance => print_numbered(clauses, bindings, nodes, origins, values, a),
+        Naming::ByIndex => print_plain(rt, clauses, bindings, nodes, origins, values, a),
+        Naming::ByAppearance => print_numbered(rt, clauses, bindings, nodes, origins, values, a),
     }
 }
 
 // The same with tables that are just long enough.
-pub fn print_readout(space: &[u8], n: usize, naming: Naming)
+pub fn print_readout<R: Print + Eprint + Alloc>(rt: &R, space: &[u8], n: usize, naming: Naming)
     requires { Holds space.now n }
 {
     let mut symbols = [0u16; 4096];
@@ -99,6 +104,7 @@ pub fn print_readout(space: &[u8], n: usize, naming: Naming)
     let mut origins = [0u16; 32768];
     let mut values = [0u16; 524416];
     print_with(
+        rt,
         space,
         n,
         &mut symbols,
