@@ -8,7 +8,6 @@ use Rattle.writing.specs.Writing.{Writing, writing_numbers, unless_refused, outp
 use Rattle.merging.specs.Answer.{after_checks}
 use Rattle.merging.specs.Merging.{merged_file}
 use Rattle.answer.specs.declared.Answer.{Answer}
-use Rattle.answer.specs.declared.Verdict.TheVariants as verdict
 use Rattle.writing_answer.specs.Given.{writing_given}
 use Rattle.writing_answer.specs.declared.WritingOutcome.{WritingOutcome}
 
