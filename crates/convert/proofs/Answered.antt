@@ -11,8 +11,6 @@ use Rattle.verdict.specs.Tables.{Tables, lengths_of, tables_after}
 use Rattle.verdict.specs.Verdict.{Verdict, refusal, verdict_numbers, check}
 use Rattle.answer.specs.Given.{verdict_coded, verdict_stands}
 use Rattle.answer.specs.declared.Answer.{Answer}
-use Rattle.answer.specs.declared.Verdict as verdict
-use Rattle.answer.specs.declared.Verdict.TheVariants as verdicts
 use Rattle.answer.proofs.GivenNumbers.{verdict_given_lem, stands_not_refused}
 use Rattle.checker.specs.Contract.{Checked}
 use Rattle.checker.proofs.CheckedLaws.{tables_checked_lem}

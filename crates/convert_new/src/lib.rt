@@ -2,7 +2,7 @@
 // is, the crate converting has.
 #![tactic(auto)]
 
-pub mod writing;
+pub mod record_writing;
 
 ghost use Rattle.std.specs.Prelude.{◌≡◌, length};
 ghost use Rattle.record.specs.Record.{decoded, old_file, records};

@@ -2,7 +2,7 @@
 // is, the crate converting has.
 #![tactic(auto)]
 
-pub mod writing;
+pub mod record_writing;
 
 ghost use Rattle.std.specs.Prelude.{◌≡◌, length};
 ghost use Rattle.record.specs.Record.{decoded_in, new_file, records};

@@ -9,7 +9,7 @@ ghost use Rattle.merging.specs.Merging.{merged_file};
 ghost use Rattle.joining.specs.Joined.{BothStand, too_many, Joined, FileWritten, Joinable};
 
 use searching::{Found, first_other, first_step};
-use shifting::writing::write_second;
+use shifting::record_writing::write_second;
 use writing_answer::WritingOutcome;
 
 // Whether the merged file has over 4,096 records: the symbols that both files have are written once.

@@ -13,8 +13,6 @@ use Rattle.verdict.specs.Verdict.{Verdict, refusal, verdict_numbers, check}
 use Rattle.demands.proofs.Demanded.{not_refused_lem}
 use Rattle.answer.specs.Given.{verdict_coded, verdict_stands}
 use Rattle.answer.specs.declared.Answer as answer
-use Rattle.answer.specs.declared.Verdict as verdict
-use Rattle.answer.specs.declared.Verdict.TheVariants as verdicts
 use Rattle.answer.proofs.GivenNumbers.{verdict_given_lem, symbols_given, rows_given, clauses_given, stands_not_refused}
 use Rattle.checker.specs.Contract.{Checked}
 use Rattle.checker.proofs.CheckedLaws.{tables_checked_lem}

@@ -6,9 +6,9 @@ ghost use Rattle.record.specs.Record.{in_form, old_file, new_file};
 ghost use Rattle.rewriting.specs.Rewritten.{Convertible, Rewritten};
 
 use convert_new::new_count;
-use convert_new::writing::write_new;
+use convert_new::record_writing::write_new;
 use convert_old::old_count;
-use convert_old::writing::write_old;
+use convert_old::record_writing::write_old;
 use day_table::window_days;
 use following::nodes::Nodes;
 use record::Form;

@@ -2,4 +2,4 @@
 // written behind the first's with their numbers raised. In specs/, `Shifting` says how this program goes about it; what a merge is, the crate merging has.
 #![tactic(auto)]
 
-pub mod writing;
+pub mod record_writing;

@@ -26,14 +26,14 @@ is_input-requires-2 c =
 pub returns-then-not-is_input-2 : goal.returns-then-not-is_input-2
 returns-then-not-is_input-2 c =
     let s = c.args in
-    not_input_right s.clauses.now s.nodes.now s.origins.now s.a s.c s.d _ _ c.stands.ensures c.if-not-stands.false c.without_choice-then-not-is_input-2.ensures _ c.is_input-2.ensures ((ap not c.if-not-is_input-2.true))
+    not_input_right s.clauses.now s.nodes.now s.origins.now s.a s.c s.d _ _ c.stands.ensures c.if-not-stands.false c.without_choice-then-not-is_input-2.ensures _ c.is_input-2.ensures c.if-not-is_input-2.true
 
 pub choose-requires : goal.choose-requires
 choose-requires c =
     let s = c.args in
-    choose_ready s.clauses.now s.nodes.now s.origins.now s.a s.c s.d _ c.stands.ensures c.if-not-stands.false c.requires _ c.is_input.ensures c.if-not-is_input.false _ c.is_input-2.ensures ((ap not c.if-not-is_input-2.false)) _ _ c.literals_cell.ensures c.literals_cell-2.ensures
+    choose_ready s.clauses.now s.nodes.now s.origins.now s.a s.c s.d _ c.stands.ensures c.if-not-stands.false c.requires _ c.is_input.ensures c.if-not-is_input.false _ c.is_input-2.ensures c.if-not-is_input-2.false _ _ c.literals_cell.ensures c.literals_cell-2.ensures
 
 pub returns : goal.returns
 returns c =
     let s = c.args in
-    both_input s.clauses.now s.nodes.now s.origins.now s.a s.c s.d _ _ c.stands.ensures c.if-not-stands.false _ c.is_input.ensures c.if-not-is_input.false _ c.is_input-2.ensures ((ap not c.if-not-is_input-2.false)) _ _ c.literals_cell.ensures c.literals_cell-2.ensures c.choose.ensures
+    both_input s.clauses.now s.nodes.now s.origins.now s.a s.c s.d _ _ c.stands.ensures c.if-not-stands.false _ c.is_input.ensures c.if-not-is_input.false _ c.is_input-2.ensures c.if-not-is_input-2.false _ _ c.literals_cell.ensures c.literals_cell-2.ensures c.choose.ensures
