@@ -1,7 +1,7 @@
 -- The ways in which two clauses are compared after a check, and that each gives the answer that is due.
 use mathlib.Core.Path.{◌≡◌, refl, sym, ap, ◌∙◌, subst}
 use mathlib.Core.Bool.{Bool, true, false}
-use mathlib.Core.Option.{none, some}
+use mathlib.Core.Option.{some}
 use mathlib.Core.List.{List, ◌∷◌}
 use Prim.Native.Nat.{ℕ, ◌≤◌}
 use native.Mathlib.Omega.{arith}
@@ -24,7 +24,7 @@ use Rattle.answer.specs.Given.{verdict_coded, verdict_stands}
 use Rattle.answer.specs.declared.Answer as answer
 use Rattle.answer.proofs.GivenNumbers.{verdict_given_lem, clauses_given, stands_not_refused, refused_not_standing}
 use Rattle.entry.specs.Progress.{ReadTo, tables_with}
-use Rattle.coverings.specs.Answering.{Answer, covers, covers_not, refused_with, Comparable, term_in}
+use Rattle.coverings.specs.Answering.{covers, covers_not, refused_with, Comparable, term_in}
 use Rattle.coverings.specs.Choosing.{numbers_from, comparison_numbers, comparison}
 use Rattle.comparing.specs.Comparing.{is_input, AfterCheck, CoveringOf}
 use Rattle.comparing.specs.Given.{covering_given}

@@ -1,5 +1,5 @@
 -- The contract of `covers`: what it promises of every file, every four tables and every two clause numbers, with no condition on the call.
-use Rattle.std.specs.Prelude.{◌≡◌, List, ℕ}
+use Rattle.std.specs.Prelude.{◌≡◌, ℕ}
 use Rattle.record.specs.Record.{File}
 use Rattle.verdict.specs.Tables.{Tables, tables_after}
 use Rattle.coverings.specs.Answering.{Answer, ten_numbers, AnswerPromised}

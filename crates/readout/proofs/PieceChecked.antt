@@ -1,6 +1,6 @@
 -- A piece written after the check of the file is what the contract says.
 use mathlib.Core.List.{List}
-use Prim.Native.Nat.{ℕ, ◌-◌}
+use Prim.Native.Nat.{ℕ}
 use Rattle.record.specs.Record.{File}
 use Rattle.verdict.specs.Tables.{Tables, lengths_of}
 use Rattle.checker.specs.Contract.{Workspace, workspace_with, CheckedWith}

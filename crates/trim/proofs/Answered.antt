@@ -17,7 +17,6 @@ use Rattle.demands.proofs.Demanded.{not_refused_lem, stands_tables}
 use Rattle.tables.specs.Cells.{cleared_part}
 use Rattle.answer.specs.Given.{verdict_coded}
 use Rattle.answer.specs.declared.Answer.{Answer}
-use Rattle.answer.specs.declared.Verdict as verdict
 use Rattle.answer.specs.declared.Verdict.TheVariants as verdicts
 use Rattle.answer.proofs.GivenNumbers.{verdict_given_lem, refused_given}
 use Rattle.checker.specs.Contract.{Workspace, CheckedWith}

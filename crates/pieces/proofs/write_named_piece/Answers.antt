@@ -1,5 +1,3 @@
-use mathlib.Core.Path.{refl}
-use borrow.Author.Rules.{rules}
 use Rattle.pieces.proofs.write_named_piece.Goals as goal
 
 pub returns-in-ByIndex : goal.returns-in-ByIndex

@@ -1,12 +1,11 @@
-use mathlib.Core.Path.{◌≡◌, refl, ◌∙◌, subst}
-use Prim.Native.Nat.{ℕ, ◌-◌, ◌<◌}
+use mathlib.Core.Path.{refl, ◌∙◌, subst}
+use Prim.Native.Nat.{ℕ, ◌<◌}
 use native.Mathlib.Omega.{arith}
-use lib.ListN.{length, length-replicate}
+use lib.ListN.{length-replicate}
 use Rattle.units.proofs.UnitSizes.{end_inside}
-use Rattle.pieces.proofs.PieceWriting.{Written, written_none, written_all, written_stopped, written_more}
+use Rattle.pieces.proofs.PieceWriting.{written_none, written_all, written_stopped, written_more}
 use Rattle.units.proofs.UnitWriting.{after_again}
 use Rattle.numbering.proofs.Keeping.{room_kept}
-use borrow.Author.Rules.{rules}
 use Rattle.pieces.proofs.write_piece.Goals as goal
 
 pub loop-n-init : goal.loop-n-init

@@ -1,13 +1,8 @@
 -- At every turn the output has some units of the piece, and the rest of the piece is what fits of those left.
-use mathlib.Core.Path.{◌≡◌, refl, ◌∙◌, subst}
-use Prim.Native.Nat.{ℕ, ◌-◌, ◌<◌}
-use native.Mathlib.Omega.{arith}
-use lib.ListN.{length, length-replicate}
-use Rattle.units.proofs.UnitSizes.{end_inside}
-use Rattle.pieces.proofs.PieceWriting.{Written, written_none, written_all, written_stopped, written_more}
-use Rattle.units.proofs.UnitWriting.{after_again}
-use Rattle.numbering.proofs.Keeping.{room_kept}
-use borrow.Author.Rules.{rules}
+use mathlib.Core.Path.{◌≡◌}
+use Prim.Native.Nat.{◌-◌}
+use lib.ListN.{length}
+use Rattle.pieces.proofs.PieceWriting.{Written}
 use Rattle.pieces.proofs.write_piece.Given as goal
 
 abbrev pub invariant-loop-n : goal.invariant-loop-n

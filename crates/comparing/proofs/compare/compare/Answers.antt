@@ -1,8 +1,4 @@
-use borrow.Author.Tests.{not-true, not-false}
 use Rattle.comparing.proofs.CompareSteps.{not_standing, not_input_left, not_input_right, choose_ready, both_input}
-use borrow.Author.Rules.{rules}
-use Rattle.std.proofs.Common.{ap}
-use Rattle.std.proofs.Common.{not}
 use Rattle.comparing.proofs.compare.compare.Goals as goal
 
 pub returns-then-not-stands : goal.returns-then-not-stands

@@ -1,0 +1,12 @@
+-- A short output is refused before all else.
+use mathlib.Core.Path.{refl}
+use Rattle.trim.proofs.Answered.{short_answered}
+use Rattle.trim.proofs.trim.Goals as goal
+
+pub returns-then-output-lt65536 : goal.returns-then-output-lt65536
+returns-then-output-lt65536 c =
+    short_answered _ _ _ _ _ c.if-output-lt65536.true refl
+
+pub returns : goal.returns
+returns c =
+    c.trim_with.ensures
