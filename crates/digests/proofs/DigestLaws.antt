@@ -113,10 +113,8 @@ module _ {naming : Naming} {C B N O A A₁ A₂ : List ℕ} {a : Answer} {n : �
     pub after_all : p.rest ≡ Complete → (d : Digest) → d.length ≡ size + p.written → d.hash ≡ hash' → DigestAfter naming C B N O A A₂ a d
     after_all q d ds dh = record { digest = λ R. taken_all (X R) (ended_after R) h q d ds dh; values = P.values }
 
--- The loop ends at a piece that is not followed by another: its tag is that of `Complete` or of `TooShort`. As it is never too short, all is
--- written.
-pub last_piece_lem : (x : Rest) → (tag_of the_type x ≡ 0) ⊎ (tag_of the_type x ≡ 2) → ((m : ℕ) → x ≡ TooShort m → ⊥) → x ≡ Complete
+-- The loop ends at a piece that is not followed by another. As it is never too short, all is written.
+pub last_piece_lem : (x : Rest) → ((m : ℕ) → x ≡ GoOn m → ⊥) → ((m : ℕ) → x ≡ TooShort m → ⊥) → x ≡ Complete
 last_piece_lem Complete o s = refl
-last_piece_lem (GoOn m) (inl e) s = absurd (omega arith)
-last_piece_lem (GoOn m) (inr e) s = absurd (omega arith)
+last_piece_lem (GoOn m) o s = absurd (o m refl)
 last_piece_lem (TooShort m) o s = absurd (s m refl)

@@ -1,0 +1,17 @@
+-- At every turn the length and the hash are those of the pieces so far, and the next piece begins with a later clause.
+use mathlib.Core.Path.{◌≡◌, refl, sym, ◌∙◌}
+use Prim.Native.Nat.{ℕ, ◌-◌, ◌*◌, ◌≤◌}
+use native.Mathlib.Omega.{arith}
+use lib.ListN.{length, length-replicate}
+use lib.Seq.{length-take-le}
+use Rattle.numbering.proofs.Keeping.{room_kept}
+use Rattle.units.proofs.UnitWriting.{after_again}
+use Rattle.digests.proofs.DigestLaws.{TakenAfter, after_none, after_more, after_all, short, onwards, never_short, last_piece_lem}
+use borrow.Author.Rules.{rules}
+use Rattle.digests.proofs.digest_of.Given as goal
+
+abbrev pub invariant-loop-next : goal.invariant-loop-next
+invariant-loop-next l = (length l.values ≡ 524416) × (length l.output ≡ 131072) × (l.total ≤ 131072 * l.clause) × (l.clause ≤ 65535) × TakenAfter l.naming l.clauses l.bindings l.nodes l.origins l.initial.values l.a l.clause l.total l.hash × (length l.cells ≡ length l.initial.cells) × (length l.order ≡ length l.initial.order)
+
+abbrev pub decreases-loop-next : goal.decreases-loop-next
+decreases-loop-next l = 65536 - l.clause
