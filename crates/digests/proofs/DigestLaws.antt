@@ -17,9 +17,6 @@ use Rattle.pieces.specs.Placed.{PieceAt, PieceOf, rest_given}
 use Rattle.pieces.specs.declared.Piece.{Piece}
 use Rattle.pieces.specs.declared.Rest.{Rest}
 use Rattle.pieces.specs.declared.Rest.TheVariants.{Complete, GoOn, TooShort}
-use Rattle.pieces.specs.contracts.Rest.{the_type}
-use denote.Enum.Declared.{tag_of}
-use mathlib.Core.Logic.{◌⊎◌, inl, inr}
 use Rattle.record.specs.Record.{File}
 use Rattle.units.proofs.UnitSizes.{pieces_always}
 use Rattle.units.proofs.UnitWriting.{after_again}

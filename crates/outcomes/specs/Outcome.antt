@@ -1,5 +1,5 @@
 -- What the program gives for a file: the answer, a hash of each table as the check leaves it, and the length and the hash of each readout.
-use Rattle.std.specs.Prelude.{◌≡◌, List, ℕ, replicate}
+use Rattle.std.specs.Prelude.{◌≡◌, ℕ, replicate}
 use Rattle.record.specs.Record.{File}
 use Rattle.answer.specs.Given.{answer_given}
 use Rattle.verdict.specs.Tables.{Tables, lengths_of, tables_after}

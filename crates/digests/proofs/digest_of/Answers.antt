@@ -1,12 +1,11 @@
-use mathlib.Core.Path.{◌≡◌, refl, sym, ◌∙◌}
-use Prim.Native.Nat.{ℕ, ◌-◌, ◌*◌, ◌≤◌}
+use mathlib.Core.Path.{refl, sym, ◌∙◌}
+use Prim.Native.Nat.{ℕ}
 use native.Mathlib.Omega.{arith}
-use lib.ListN.{length, length-replicate}
+use lib.ListN.{length-replicate}
 use lib.Seq.{length-take-le}
 use Rattle.numbering.proofs.Keeping.{room_kept}
 use Rattle.units.proofs.UnitWriting.{after_again}
-use Rattle.digests.proofs.DigestLaws.{TakenAfter, after_none, after_more, after_all, short, onwards, never_short, last_piece_lem}
-use borrow.Author.Rules.{rules}
+use Rattle.digests.proofs.DigestLaws.{after_none, after_more, after_all, short, onwards, never_short, last_piece_lem}
 use Rattle.digests.proofs.digest_of.Goals as goal
 
 pub loop-next-init : goal.loop-next-init

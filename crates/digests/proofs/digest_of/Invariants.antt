@@ -1,13 +1,8 @@
 -- At every turn the length and the hash are those of the pieces so far, and the next piece begins with a later clause.
-use mathlib.Core.Path.{◌≡◌, refl, sym, ◌∙◌}
-use Prim.Native.Nat.{ℕ, ◌-◌, ◌*◌, ◌≤◌}
-use native.Mathlib.Omega.{arith}
-use lib.ListN.{length, length-replicate}
-use lib.Seq.{length-take-le}
-use Rattle.numbering.proofs.Keeping.{room_kept}
-use Rattle.units.proofs.UnitWriting.{after_again}
-use Rattle.digests.proofs.DigestLaws.{TakenAfter, after_none, after_more, after_all, short, onwards, never_short, last_piece_lem}
-use borrow.Author.Rules.{rules}
+use mathlib.Core.Path.{◌≡◌}
+use Prim.Native.Nat.{◌-◌, ◌*◌, ◌≤◌}
+use lib.ListN.{length}
+use Rattle.digests.proofs.DigestLaws.{TakenAfter}
 use Rattle.digests.proofs.digest_of.Given as goal
 
 abbrev pub invariant-loop-next : goal.invariant-loop-next
