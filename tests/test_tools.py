@@ -10,15 +10,20 @@ from pathlib import Path
 ROOT = Path(__file__).resolve().parent.parent
 
 
+# The crate whose proofs are looked at, its proof that docs/PROVING.md shows, and two proofs more.
+CRATE, SHOWN, OTHER, THIRD = "day_table", "put_windows", "put_always", "put_days"
+
+
 class Folder:
-    """A repository with one crate, `tables`, a copy of ours, and a stand-in for `rt`."""
+    """A repository with two crates, CRATE and `tables`, copies of ours, and a stand-in for `rt`."""
 
     def __enter__(self):
         self.folder = tempfile.TemporaryDirectory()
         self.top = Path(self.folder.name)
         shutil.copytree(ROOT / "tools", self.top / "tools")
-        shutil.copytree(ROOT / "crates" / "tables", self.top / "crates" / "tables")
-        (self.top / "crates.txt").write_text("tables:\n")
+        for crate in (CRATE, "tables"):
+            shutil.copytree(ROOT / "crates" / crate, self.top / "crates" / crate)
+        (self.top / "crates.txt").write_text(f"tables:\n{CRATE}:\n")
         return self
 
     def __exit__(self, *_):
@@ -35,26 +40,26 @@ class Folder:
         )
 
     def proof(self, name):
-        return self.top / "crates" / "tables" / "proofs" / name / "Answers.antt"
+        return self.top / "crates" / CRATE / "proofs" / name / "Answers.antt"
 
     def answers(self, name):
-        return self.top / "work" / "tables" / "answers" / name / "Answers.antt"
+        return self.top / "work" / CRATE / "answers" / name / "Answers.antt"
 
 
 class Prove(unittest.TestCase):
     def test_usage(self):
         with Folder() as folder:
-            for arguments in ([], ["mend"], ["other", "tables"]):
+            for arguments in ([], ["mend"], ["other", CRATE]):
                 run = folder.run("prove", *arguments)
                 self.assertEqual((run.returncode, run.stdout), (1, ""))
                 self.assertIn("tools/prove start CRATE FN", run.stderr)
 
     def test_answers_are_those_of_the_page(self):
         page = (ROOT / "docs" / "PROVING.md").read_text()
-        shown = page.split("that of `clear` in the crate tables:\n\n")[1].split("\n\n- ")[0]
+        shown = page.split(f"that of `{SHOWN}` in the crate {CRATE}:\n\n")[1].split("\n\n- ")[0]
         with Folder() as folder:
-            self.assertEqual(folder.run("prove", "answers", "tables", "clear").returncode, 0)
-            answers = folder.answers("clear")
+            self.assertEqual(folder.run("prove", "answers", CRATE, SHOWN).returncode, 0)
+            answers = folder.answers(SHOWN)
             lines = iter("\n".join(file.read_text() for file in (answers.with_name("Invariants.antt"), answers)).splitlines())
             # The page leaves some out, and the order stays.
             for line in filter(str.strip, shown.splitlines()):
@@ -62,25 +67,25 @@ class Prove(unittest.TestCase):
 
     def test_a_wrong_name_mends_nothing(self):
         with Folder() as folder:
-            run = folder.run("prove", "mend", "tables", "clear", "wrong")
-            self.assertEqual((run.returncode, run.stderr), (1, "0 proof files of wrong in tables\n"))
-            self.assertTrue(folder.proof("clear").exists())
+            run = folder.run("prove", "mend", CRATE, SHOWN, "wrong")
+            self.assertEqual((run.returncode, run.stderr), (1, f"0 proof files of wrong in {CRATE}\n"))
+            self.assertTrue(folder.proof(SHOWN).exists())
 
     def test_mending_keeps_the_answers(self):
         with Folder() as folder:
-            run = folder.run("prove", "mend", "tables", "clear", "cell")
-            self.assertEqual((run.returncode, run.stdout), (0, "offered: \nnot offered: clear cell\n"))
-            for name in ("clear", "cell"):
+            run = folder.run("prove", "mend", CRATE, SHOWN, OTHER)
+            self.assertEqual((run.returncode, run.stdout), (0, f"offered: \nnot offered: {SHOWN} {OTHER}\n"))
+            for name in (SHOWN, OTHER):
                 self.assertFalse(folder.proof(name).exists())
                 self.assertTrue(folder.answers(name).exists())
-            self.assertIn("\nloop-k-preserved c =\n", folder.answers("clear").read_text())
-            self.assertTrue(folder.answers("clear").with_name("Invariants.antt").exists())
-            self.assertTrue(folder.proof("set_cell").exists())
+            self.assertIn("\nloop-k-preserved c =\n", folder.answers(SHOWN).read_text())
+            self.assertTrue(folder.answers(SHOWN).with_name("Invariants.antt").exists())
+            self.assertTrue(folder.proof(THIRD).exists())
 
     def test_errors_are_shortened(self):
         log = "echo 'error: c .before .before .before .before .x'; echo note: none; echo logic=proved"
         with Folder() as folder:
-            run = folder.run("prove", "check", "tables", rt=log)
+            run = folder.run("prove", "check", CRATE, rt=log)
             self.assertEqual(run.stdout, "error: c .B4 .x\nlogic=proved\n")
 
 

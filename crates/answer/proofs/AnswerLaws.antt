@@ -1,35 +1,26 @@
 -- The answer's numbers: the first clause without literals that is in force, and the counts.
 use mathlib.Core.Path.{◌≡◌, refl, sym, ap, ◌∙◌}
-use mathlib.Core.Bool.{Bool, true, false, ◌&&◌, and-true, and-false}
+use mathlib.Core.Bool.{Bool, true, false}
 use mathlib.Core.Option.{Option, none, some}
-use mathlib.Core.List.{List}
+use mathlib.Core.List.{List, [], ◌∷◌}
 use Prim.Native.Nat.{ℕ, zero, suc, ◌+◌, ◌≤◌, ◌<◌}
 use native.Mathlib.Numerals.{add-one}
 use native.Mathlib.Omega.{arith}
-use lib.Dec.{eqb, ltb, ltb→lt}
-use lib.ListN.{get_or}
-use borrow.Author.Tests.{eq-eqb, ne_eqb}
+use lib.Dec.{ltb, ltb→lt}
 use Rattle.record.specs.Record.{pick, File}
 use Rattle.unification.proofs.Tests.{to_t}
-use Rattle.derivation.specs.Stored.{literals_cell}
-use Rattle.answer.specs.Given.{verdict_coded, answer_given, numbers_with, untouched_numbers, accepts, first_accepted, standing_numbers, all_set, ended_numbers}
+use Rattle.answer.specs.Given.{verdict_coded, answer_given, numbers_with, untouched_numbers, accepts, first_accepted, standing_numbers, all_set, Ended, ended_numbers}
 use Rattle.verdict.specs.Verdict.{verdict_numbers, standing}
 use Rattle.demands.proofs.Inversions.{not_below}
 use Rattle.force.specs.Flags.{flags_in_force}
 use Rattle.entry.specs.declared.entry.Counts.{Counts}
-use Rattle.answer.specs.declared.Ended.{Ended}
-use Rattle.answer.specs.declared.Ended.TheVariants.{All, Refused}
+use Rattle.std.specs.Prelude.{Ok, Err}
+use Rattle.reasons.specs.Reasons.{meant}
+use Rattle.verdict.specs.Refusal.{reason_number}
+use Rattle.answer.specs.declared.Refused.{Refused}
 use Rattle.answer.specs.declared.Answer.{Answer}
 use Rattle.answer.specs.declared.Verdict.{Verdict}
 use Rattle.answer.specs.declared.Verdict.TheVariants as verdict
-
--- Whether a clause is accepted, by its cell and its flag.
-module _ (C L : List ℕ) (c : ℕ) {cell : ℕ} (isCell : cell ≡ literals_cell C c) where
-  pub flag_decides : {f : ℕ} → f ≡ get_or L c 0 → cell ≡ 0 → eqb f 1 ≡ accepts C L c
-  flag_decides p z = ap (λ (x : ℕ). eqb x 1) p ∙ sym (and-true (eqb (get_or L c 0) 1)) ∙ ap (λ (b : Bool). eqb (get_or L c 0) 1 && b) (sym (eq-eqb (literals_cell C c) 0 (sym isCell ∙ z)))
-
-  pub not_empty : ¬ (cell ≡ 0) → false ≡ accepts C L c
-  not_empty z = sym (ap (λ (b : Bool). eqb (get_or L c 0) 1 && b) (ne_eqb (literals_cell C c) 0 (λ q. z (isCell ∙ q))) ∙ and-false (eqb (get_or L c 0) 1))
 
 abbrev next_accepted : List ℕ → List ℕ → ℕ → Option ℕ → Option ℕ
 next_accepted C L n o = elim o [ some m ↦ some m | none ↦ pick (accepts C L n) (some n) none ]
@@ -60,11 +51,11 @@ none_found C L c count q l m =
 abbrev made : Verdict → Counts → Answer
 made v n = record { verdict = v; symbols = n.symbols; rows = n.rows; clauses = n.clauses; bindings = n.bindings }
 
-pub all_numbers : (day : ℕ) (F : File) (e : Ended) (n : Counts) (C O : List ℕ) (v : Verdict) (a : Answer) → e ≡ All n → verdict_coded v ≡ standing_numbers C (flags_in_force day F O n.clauses all_set) n.clauses → a ≡ made v n → answer_given a ≡ ended_numbers day F e C O
+pub all_numbers : (day : ℕ) (F : File) (e : Ended) (n : Counts) (C O : List ℕ) (v : Verdict) (a : Answer) → e ≡ Ok n → verdict_coded v ≡ standing_numbers C (flags_in_force day F O n.clauses all_set) n.clauses → a ≡ made v n → answer_given a ≡ ended_numbers day F e C O
 all_numbers day F e n C O v a p q r = ap answer_given r ∙ ap (λ (x : List ℕ). numbers_with x n) q ∙ sym (ap (λ (x : Ended). ended_numbers day F x C O) p)
 
-pub refused_numbers : (day : ℕ) (F : File) (e : Ended) (q k : ℕ) (n : Counts) (C O : List ℕ) (a : Answer) → e ≡ Refused q k n → a ≡ made (verdict.Refused q k) n → answer_given a ≡ ended_numbers day F e C O
-refused_numbers day F e q k n C O a p r = ap answer_given r ∙ sym (ap (λ (x : Ended). ended_numbers day F x C O) p)
+pub refused_numbers : (day : ℕ) (F : File) (e : Ended) (x : Refused) (C O : List ℕ) {q : ℕ} (a : Answer) → e ≡ Err x → q ≡ reason_number (meant x.reason) → a ≡ made (verdict.Refused q x.number) x.counts → answer_given a ≡ ended_numbers day F e C O
+refused_numbers day F e x C O a p q r = ap answer_given r ∙ ap (λ (j : ℕ). numbers_with (2 ∷ j ∷ x.number ∷ []) x.counts) q ∙ sym (ap (λ (x : Ended). ended_numbers day F x C O) p)
 
 pub untouched_numbers_lem : (q : ℕ) (a : Answer) → a ≡ made (verdict.Refused q 0) (record { symbols = 0; rows = 0; clauses = 0; bindings = 0 }) → answer_given a ≡ untouched_numbers q
 untouched_numbers_lem q a r = ap answer_given r

@@ -1,13 +1,14 @@
 -- The answer as the program gives it, in seven numbers: document 01's verdict ("Verdict, tables and refusals"), coded 0, 1 and 2, and its counts.
-use Rattle.std.specs.Prelude.{Bool, true, false, ◌&&◌, List, [], ◌∷◌, ◌++◌, ℕ, zero, suc, eqb, get_or, replicate}
+use Rattle.std.specs.Prelude.{Bool, true, false, ◌&&◌, List, [], ◌∷◌, ◌++◌, ℕ, zero, suc, eqb, get_or, replicate, Result, Ok, Err}
 use Rattle.std.proofs.Math.Option.{Option, none, some}
 use Rattle.record.specs.Record.{pick, File}
 use Rattle.derivation.specs.Stored.{literals_cell}
+use Rattle.verdict.specs.Refusal.{reason_number}
 use Rattle.verdict.specs.Verdict.{verdict_numbers, standing}
 use Rattle.force.specs.Flags.{flags_in_force}
 use Rattle.entry.specs.declared.entry.Counts.{Counts}
-use Rattle.answer.specs.declared.Ended.{Ended}
-use Rattle.answer.specs.declared.Ended.TheVariants.{All, Refused}
+use Rattle.reasons.specs.Reasons.{meant}
+use Rattle.answer.specs.declared.Refused.{Refused}
 use Rattle.answer.specs.declared.Answer.{Answer}
 use Rattle.answer.specs.declared.Verdict.{Verdict}
 use Rattle.answer.specs.declared.Verdict.TheVariants as verdict
@@ -49,7 +50,11 @@ standing_numbers C L n = verdict_numbers (standing (first_accepted C L n))
 unfoldable pub all_set : List ℕ
 all_set = replicate 4096 1
 
+-- How reading ends: all records stand, with the counts after the last, or one is refused.
+abbrev pub Ended : Type 0
+Ended = Result Counts Refused
+
 -- How the reading of the file F ended, in numbers, on a day.
 abbrev pub ended_numbers : ℕ → File → Ended → List ℕ → List ℕ → List ℕ
-ended_numbers day F (All n) C O = numbers_with (standing_numbers C (flags_in_force day F O n.clauses all_set) n.clauses) n
-ended_numbers day F (Refused q k n) C O = numbers_with (2 ∷ q ∷ k ∷ []) n
+ended_numbers day F (Ok n) C O = numbers_with (standing_numbers C (flags_in_force day F O n.clauses all_set) n.clauses) n
+ended_numbers day F (Err r) C O = numbers_with (2 ∷ reason_number (meant r.reason) ∷ r.number ∷ []) r.counts

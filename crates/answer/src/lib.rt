@@ -8,15 +8,17 @@ ghost use Rattle.std.specs.Prelude.{◌≡◌};
 ghost use Rattle.answer.specs.Given.{verdict_stands, answer_given, untouched_numbers};
 
 use entry::entry::Counts;
+use reasons::Reason;
 
-// All records stand, with the counts after the last; or one is refused: its reason's number, its own, and the counts before it.
+// How reading ends where a record is refused: why, the record's number, and the counts before it.
 #[derive(Clone, Copy)]
-pub enum Ended {
-    All(Counts),
-    Refused(u8, u16, Counts),
+pub struct Refused {
+    pub reason: Reason,
+    pub number: u16,
+    pub counts: Counts,
 }
 
-// No empty clause in force; the lowest number of one; or a refusal's number and its record.
+// No empty clause in force; the lowest number of one; or a refusal's number, as document 01 and the C interface give it, and its record.
 #[derive(Clone, Copy)]
 pub enum Verdict {
     Open,

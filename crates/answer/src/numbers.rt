@@ -1,36 +1,28 @@
-// A verdict in three numbers, for callers in other languages and for printing.
-ghost use Rattle.std.specs.Prelude.{◌≡◌, [], ◌∷◌};
-ghost use Rattle.answer.specs.Given.{verdict_coded};
+// A verdict and an answer in numbers, for callers in other languages and for printing.
+ghost use Rattle.std.specs.Prelude.{◌≡◌};
+ghost use Rattle.answer.specs.Given.{verdict_coded, answer_given};
 
-use super::Verdict;
+use super::{Answer, Verdict};
 
-// A verdict in numbers: 0 open, 1 accepted, 2 refused; the clause or the reason; the record.
-#[derive(Clone, Copy)]
-pub struct Numbers {
-    pub kind: u16,
-    pub what: u16,
-    pub record: u16,
+// The three numbers of a verdict: 0 open, 1 accepted, 2 refused; the clause or the reason; the record.
+impl From<Verdict> for [u16; 3] {
+    ghost from_gives = { λ v numbers. numbers ≡ verdict_coded v };
+
+    fn from(v: Verdict) -> [u16; 3] {
+        match v {
+            Verdict::Open => [0, 0, 0],
+            Verdict::Accepted(c) => [1, c, 0],
+            Verdict::Refused(q, k) => [2, u16::from(q), k],
+        }
+    }
 }
 
-// The numbers of a verdict.
-pub fn verdict_numbers(v: Verdict) -> Numbers
-    ensures { (result.kind ∷ result.what ∷ result.record ∷ []) ≡ verdict_coded v }
-{
-    match v {
-        Verdict::Open => Numbers {
-            kind: 0,
-            what: 0,
-            record: 0,
-        },
-        Verdict::Accepted(c) => Numbers {
-            kind: 1,
-            what: c,
-            record: 0,
-        },
-        Verdict::Refused(q, k) => Numbers {
-            kind: 2,
-            what: q as u16,
-            record: k,
-        },
+// The seven numbers of an answer: its verdict's, and the counts.
+impl From<Answer> for [u16; 7] {
+    ghost from_gives = { λ a numbers. numbers ≡ answer_given a };
+
+    fn from(a: Answer) -> [u16; 7] {
+        let [kind, what, record] = <[u16; 3]>::from(a.verdict);
+        [kind, what, record, a.symbols, a.rows, a.clauses, a.bindings]
     }
 }

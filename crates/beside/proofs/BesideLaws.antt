@@ -1,5 +1,5 @@
 -- What the days beside a record do to its step: they refuse it, or it is the step of the record without them. And the tests of the program in turn.
-use mathlib.Core.Path.{◌≡◌, refl, sym, ◌∙◌}
+use mathlib.Core.Path.{◌≡◌, refl, sym, ap, ◌∙◌}
 use mathlib.Core.Bool.{Bool, true, false, ◌&&◌}
 use mathlib.Core.List.{List}
 use Prim.Native.Nat.{ℕ, ◌≤◌, ◌<◌}
@@ -7,7 +7,7 @@ use native.Mathlib.Omega.{arith}
 use lib.Dec.{eqb, leb}
 use borrow.Author.Tests.{ne_eqb, le-leb, lt-leb}
 use Rattle.record.specs.Record.{pick, Record, otherKind, Kind, symbolKind, variableKind, applicationKind, inputKind, resolveKind, factorKind, severalKind, windowKind, kind_numbered, kind_of, field_of, decoded, decoded_in}
-use Rattle.verdict.specs.Refusal.{Reason, badKind, outOfRange, reason_number, kind_of_record}
+use Rattle.verdict.specs.Refusal.{badKind, outOfRange, kind_of_record}
 use Rattle.verdict.specs.State.{State}
 use Rattle.verdict.specs.Step.{refused, require, step}
 use Rattle.demands.specs.Conditions.{kind_below, kind_above, window_in_new_form, UnknownKind}
@@ -17,42 +17,46 @@ use Rattle.derivation.proofs.Literals.{leb_false_lt}
 use Rattle.beside.specs.Beside.{refused_new_days, refused_days}
 use Rattle.record.specs.declared.Form.{Form}
 use Rattle.record.specs.declared.Form.TheVariants.{Old, New}
+use Rattle.std.specs.Prelude.{Result, Ok, Err}
+use Rattle.reasons.specs.Reasons.{meant}
+use Rattle.reasons.proofs.Refusals.{err_not_ok, same_err}
+use Rattle.reasons.specs.declared.Reason.{Reason}
+use Rattle.reasons.specs.declared.Reason.TheVariants.{BadKind, OutOfRange}
 
 -- ── The tests in turn ──
 module _ (p : List ℕ) {k : ℕ} (kind : k ≡ kind_of p) where
-  pub kind_zero : k < 1 → 3 ≡ refused_new_days p
+  pub kind_zero : k < 1 → Err BadKind ≡ refused_new_days p
   unfolding refused_new_days
   kind_zero h = rw (← kind, lt-leb 1 k h)
 
-  pub kind_high : 1 ≤ k → 7 < k → 3 ≡ refused_new_days p
+  pub kind_high : 1 ≤ k → 7 < k → Err BadKind ≡ refused_new_days p
   unfolding refused_new_days
   kind_high n h = rw (← kind, le-leb 1 k n, lt-leb k 7 h)
 
-  pub kind_input : k ≡ 4 → 0 ≡ refused_new_days p
+  pub kind_input : k ≡ 4 → Ok tt ≡ refused_new_days p
   unfolding refused_new_days
   kind_input h = rw (← kind, h)
 
   module _ (n : 1 ≤ k) (m : k ≤ 7) (i : ¬ (k ≡ 4)) {f : ℕ} (first : f ≡ field_of p 7) where
-    pub first_left : ¬ (f ≡ 0) → 4 ≡ refused_new_days p
+    pub first_left : ¬ (f ≡ 0) → Err OutOfRange ≡ refused_new_days p
     unfolding refused_new_days
     first_left z = rw (← kind, le-leb 1 k n, le-leb k 7 m, ne_eqb k 4 i, ← first, ne_eqb f 0 z)
 
-    pub last_left : {l : ℕ} → f ≡ 0 → l ≡ field_of p 8 → ¬ (l ≡ 0) → 4 ≡ refused_new_days p
+    pub last_left : {l : ℕ} → f ≡ 0 → l ≡ field_of p 8 → ¬ (l ≡ 0) → Err OutOfRange ≡ refused_new_days p
     unfolding refused_new_days
     last_left {l} e last z = rw (← kind, le-leb 1 k n, le-leb k 7 m, ne_eqb k 4 i, ← first, e, ← last, ne_eqb l 0 z)
 
-    pub both_zero : {l : ℕ} → f ≡ 0 → l ≡ field_of p 8 → l ≡ 0 → 0 ≡ refused_new_days p
+    pub both_zero : {l : ℕ} → f ≡ 0 → l ≡ field_of p 8 → l ≡ 0 → Ok tt ≡ refused_new_days p
     unfolding refused_new_days
     both_zero {l} e last z = rw (← kind, le-leb 1 k n, le-leb k 7 m, ne_eqb k 4 i, ← first, e, ← last, z)
 
 -- ── What they mean ──
-
 -- Of a record of the new form: it is refused, or its days are zero, or it is an input clause.
-data Beside (part : List ℕ) (q : ℕ) : Type 0 where
-  no_kind : q ≡ 3 → UnknownKind (decoded_in New part) → Beside part q
-  days_there : q ≡ 4 → 1 ≤ kind_of part → kind_of part ≤ 7 → ¬ (kind_of part ≡ 4) → (eqb (field_of part 7) 0 && eqb (field_of part 8) 0) ≡ false → Beside part q
-  days_zero : q ≡ 0 → 1 ≤ kind_of part → kind_of part ≤ 7 → ¬ (kind_of part ≡ 4) → (eqb (field_of part 7) 0 && eqb (field_of part 8) 0) ≡ true → Beside part q
-  is_input : q ≡ 0 → kind_of part ≡ 4 → Beside part q
+data Beside (part : List ℕ) (q : Result (Unit {0}) Reason) : Type 0 where
+  no_kind : q ≡ Err BadKind → UnknownKind (decoded_in New part) → Beside part q
+  days_there : q ≡ Err OutOfRange → 1 ≤ kind_of part → kind_of part ≤ 7 → ¬ (kind_of part ≡ 4) → (eqb (field_of part 7) 0 && eqb (field_of part 8) 0) ≡ false → Beside part q
+  days_zero : q ≡ Ok tt → 1 ≤ kind_of part → kind_of part ≤ 7 → ¬ (kind_of part ≡ 4) → (eqb (field_of part 7) 0 && eqb (field_of part 8) 0) ≡ true → Beside part q
+  is_input : q ≡ Ok tt → kind_of part ≡ 4 → Beside part q
 
 beside : (part : List ℕ) → Beside part (refused_new_days part)
 unfolding refused_new_days
@@ -65,7 +69,7 @@ beside part = try (leb 1 (kind_of part)) refl (leb (kind_of part) 7) refl (eqb (
         by true q = window_in_new_form (equal (kind_of part) 8 q) refl
         by false q = let n = unequal (kind_of part) 8 q in kind_above (omega arith)
 
-    try : (a : Bool) → leb 1 (kind_of part) ≡ a → (b : Bool) → leb (kind_of part) 7 ≡ b → (c : Bool) → eqb (kind_of part) 4 ≡ c → (d : Bool) → (eqb (field_of part 7) 0 && eqb (field_of part 8) 0) ≡ d → Beside part (pick (a && b) (pick c 0 (pick d 0 4)) 3)
+    try : (a : Bool) → leb 1 (kind_of part) ≡ a → (b : Bool) → leb (kind_of part) 7 ≡ b → (c : Bool) → eqb (kind_of part) 4 ≡ c → (d : Bool) → (eqb (field_of part 7) 0 && eqb (field_of part 8) 0) ≡ d → Beside part (pick (a && b) (pick c (Ok tt) (pick d (Ok tt) (Err OutOfRange))) (Err BadKind))
     try false p b q c r d s = no_kind refl (kind_below (leb_false_lt 1 (kind_of part) p))
     try true p false q c r d s = no_kind refl (above (leb_false_lt (kind_of part) 7 q))
     try true p true q true r d s = is_input refl (equal (kind_of part) 4 r)
@@ -113,35 +117,35 @@ module _ (S : State) (k : ℕ) (part : List ℕ) where
     same_kind : kind_of_record (decoded part) ≡ kind_of_record new
     same_kind = sym (kind_at new (kind_of part) refl (ne_eqb (kind_of part) 8 (λ e. omega arith)))
 
--- A number other than 0 is that of the reason for which the record is refused.
-pub days_refused : (form : Form) (S : State) (k : ℕ) (part : List ℕ) (q : ℕ) → q ≡ refused_days form part → ¬ (q ≡ 0) → (reason : Reason) × (step S k (decoded_in form part) ≡ refused reason) × (q ≡ reason_number reason)
-days_refused Old S k part q e n = absurd (n e)
-days_refused New S k part q e n = try (beside part)
+-- A refusal is by the reason for which the step is refused.
+pub days_refused : (form : Form) (S : State) (k : ℕ) (part : List ℕ) (r : Reason) → Err r ≡ refused_days form part → step S k (decoded_in form part) ≡ refused (meant r)
+days_refused Old S k part r e = absurd (err_not_ok e)
+days_refused New S k part r e = try (beside part)
   where
-    try : Beside part (refused_new_days part) → (reason : Reason) × (step S k (decoded_in New part) ≡ refused reason) × (q ≡ reason_number reason)
-    try (no_kind p u) = (badKind, unknown_step S k part u, e ∙ p)
-    try (days_there p l h o z) = (outOfRange, days_refuse S k part l h o (kind_of_record (decoded_in New part)) (of_kind_lem (decoded_in New part) _ refl) refl z, e ∙ p)
-    try (days_zero p l h o z) = absurd (n (e ∙ p))
-    try (is_input p z) = absurd (n (e ∙ p))
+    try : Beside part (refused_new_days part) → step S k (decoded_in New part) ≡ refused (meant r)
+    try (no_kind p u) = unknown_step S k part u ∙ sym (ap (λ (x : Reason). refused (meant x)) (same_err (e ∙ p)))
+    try (days_there p l h o z) = days_refuse S k part l h o (kind_of_record (decoded_in New part)) (of_kind_lem (decoded_in New part) _ refl) refl z ∙ sym (ap (λ (x : Reason). refused (meant x)) (same_err (e ∙ p)))
+    try (days_zero p l h o z) = absurd (err_not_ok (e ∙ p))
+    try (is_input p z) = absurd (err_not_ok (e ∙ p))
 
--- Where it is 0, the days matter to an input clause only.
-pub days_plain : (form : Form) (part : List ℕ) → 0 ≡ refused_days form part → ¬ (kind_of part ≡ 4) → (S : State) (k : ℕ) → step S k (decoded_in form part) ≡ step S k (decoded part)
+-- Where there is none, the days matter to an input clause only.
+pub days_plain : (form : Form) (part : List ℕ) → Ok tt ≡ refused_days form part → ¬ (kind_of part ≡ 4) → (S : State) (k : ℕ) → step S k (decoded_in form part) ≡ step S k (decoded part)
 days_plain Old part e n S k = refl
 days_plain New part e n S k = try (beside part)
   where
     try : Beside part (refused_new_days part) → step S k (decoded_in New part) ≡ step S k (decoded part)
-    try (no_kind p u) = absurd (let z = e ∙ p in omega arith)
-    try (days_there p l h o z) = absurd (let y = e ∙ p in omega arith)
+    try (no_kind p u) = absurd (err_not_ok (sym (e ∙ p)))
+    try (days_there p l h o z) = absurd (err_not_ok (sym (e ∙ p)))
     try (days_zero p l h o z) = days_pass S k part l h o (kind_of_record (decoded_in New part)) (of_kind_lem (decoded_in New part) _ refl) refl (same_kind S k part l h o) z
     try (is_input p z) = absurd (n z)
 
--- Where it is 0, the kind is that of byte 0.
-pub days_kind : (form : Form) (part : List ℕ) → 0 ≡ refused_days form part → kind_of_record (decoded_in form part) ≡ kind_numbered (kind_of part)
+-- Where there is none, the kind is that of byte 0.
+pub days_kind : (form : Form) (part : List ℕ) → Ok tt ≡ refused_days form part → kind_of_record (decoded_in form part) ≡ kind_numbered (kind_of part)
 days_kind Old part e = refl
 days_kind New part e = kind_at (decoded_in New part) (kind_of part) refl (ne_eqb (kind_of part) 8 (not_window (beside part)))
   where
     not_window : Beside part (refused_new_days part) → kind_of part ≡ 8 → ⊥
-    not_window (no_kind p u) z = let y = e ∙ p in omega arith
+    not_window (no_kind p u) z = absurd (err_not_ok (sym (e ∙ p)))
     not_window (days_there p l h o y) z = omega arith
     not_window (days_zero p l h o y) z = omega arith
     not_window (is_input p y) z = omega arith

@@ -6,6 +6,7 @@ ghost use Rattle.record.specs.Record.{decoded_in};
 ghost use Rattle.verdict.specs.Refusal.{in_order};
 ghost use Rattle.beside.specs.Beside.{refused_days, refused_new_days};
 
+use reasons::Reason;
 use record::{Form, field, kind};
 
 // Whether the days of an input clause do not cross; in the old form it has none.
@@ -18,32 +19,36 @@ pub fn days_in_order(form: Form, part: &[u8]) -> bool
     }
 }
 
-// The number for which a record of the new form is refused by its kind or its days, 0 for none.
-fn refused_new_days(part: &[u8]) -> u8
+// Whether a record of the new form is refused by its kind or its days.
+fn refused_new_days(part: &[u8]) -> Result<(), Reason>
     ensures { result ≡ refused_new_days part.now }
 {
     let tag = kind(part);
     if tag < 1 {
-        return 3;
+        return Err(Reason::BadKind);
     }
     if 7 < tag {
-        return 3;
+        return Err(Reason::BadKind);
     }
     if tag == 4 {
-        return 0;
+        return Ok(());
     }
     if field(part, 7) != 0 {
-        return 4;
+        return Err(Reason::OutOfRange);
     }
-    if field(part, 8) != 0 { 4 } else { 0 }
+    if field(part, 8) != 0 {
+        Err(Reason::OutOfRange)
+    } else {
+        Ok(())
+    }
 }
 
-// The same of either form: in the old one there is none.
-pub fn refused_days(form: Form, part: &[u8]) -> u8
+// The same of either form: in the old one no record is.
+pub fn refused_days(form: Form, part: &[u8]) -> Result<(), Reason>
     ensures { result ≡ refused_days form part.now }
 {
     match form {
-        Form::Old => 0,
+        Form::Old => Ok(()),
         Form::New => refused_new_days(part),
     }
 }

@@ -39,7 +39,7 @@ use Rattle.boards.proofs.Parents.{stands_kept}
 use Rattle.board_cells.specs.Given.{board_given}
 use Rattle.board_cells.specs.declared.lowest.BoardAnswer as board
 use Rattle.board_cells.specs.declared.lowest.BoardAnswer.TheVariants as goal
-use Rattle.board_opening.specs.Filling.{filled_board, Openable}
+use Rattle.board_opening.specs.Filling.{filled_board, Fillable}
 use Rattle.board_opening.proofs.OpenedBoard.{all_stand_lem, opened_board}
 use Rattle.board.specs.Contract.{BoardOpened}
 
@@ -167,8 +167,8 @@ module _ (day : ℕ) (file : File) (before : Tables) (board₀ : List ℕ) where
       few : length S.clauses ≤ 4096
       few = few_clauses file before S after N₁ O₁ A₁ read
 
-      pub openable : Openable O₁ a.clauses board₀
-      openable = record { whole = K.origin_room; fillable = record { few = let x = few in let y = counted in omega arith; long = long } }
+      pub openable : Fillable a.clauses board₀
+      openable = record { few = let x = few in let y = counted in omega arith; long = long }
 
       held : TablesHold S before (tables_after file before)
       held = ((demand1 day file before).tables_of_standing S st tables_long_lem).tables_hold

@@ -3,9 +3,10 @@
 // each clause and one for the day.
 #![tactic(auto)]
 
+ghost use Rattle.tables.specs.Lent.{SameTables};
 ghost use Rattle.std.specs.Prelude.{true, false, ◌≤◌, length};
 ghost use Rattle.record.specs.Record.{old_file};
-ghost use Rattle.entry.specs.Progress.{tables_with};
+ghost use Rattle.entry.specs.Progress.{tables_of};
 ghost use Rattle.board_calls.specs.Called.{BoardCalled};
 ghost use Rattle.board.specs.Contract.{BoardOpened};
 
@@ -15,57 +16,36 @@ use board_cells::lowest::BoardAnswer;
 use board_opening::open_cells;
 use board_verdict::opening_answer;
 use checker::check_with;
-use following::nodes::{Nodes, Origins};
-use following::values::ValueCells;
+use following::lent::LentWorkspace;
 use record::Form;
+use tables::lent::LentTables;
 
 // The opening with a workspace for the check.
 fn open_with(
     day: u16,
     file: &[u8],
-    symbols: &mut [u16],
-    rows: &mut [u16],
-    clauses: &mut [u16],
-    bindings: &mut [u16],
-    nodes: &mut Nodes,
-    origins: &mut Origins,
-    values: &mut ValueCells,
+    tables: &mut LentTables,
+    workspace: &mut LentWorkspace,
     board: &mut [u16],
 ) -> BoardAnswer
     requires { 4097 ≤ length board.old }
-    ensures { BoardOpened day (old_file file.now) (tables_with symbols.old rows.old clauses.old bindings.old) board.old result (tables_with symbols.new rows.new clauses.new bindings.new) board.new }
+    ensures answered { BoardOpened day (old_file file.now) (tables_of tables.old) board.old result (tables_of tables.new) board.new }
+    ensures same_tables { SameTables tables.old tables.new }
 {
-    let a = check_with(
-        Form::Old,
-        day,
-        file,
-        symbols,
-        rows,
-        clauses,
-        bindings,
-        nodes,
-        origins,
-        values,
-    );
+    let a = check_with(Form::Old, day, file, tables, workspace);
     let v = a.verdict;
     if !stands(v) {
         return opening_answer(v);
     }
-    open_cells(day, file, clauses, origins, a.clauses, board);
+    let stored = &mut *tables.clauses;
+    open_cells(day, file, stored, workspace.origins, a.clauses, board);
     opening_answer(v)
 }
 
 // Opens the board of a file on a day: the file is checked, and the tables are left as the check leaves them. The board is written only if the file stands.
-pub fn open_board(
-    day: u16,
-    file: &[u8],
-    symbols: &mut [u16],
-    rows: &mut [u16],
-    clauses: &mut [u16],
-    bindings: &mut [u16],
-    board: &mut [u16],
-) -> BoardAnswer
-    ensures { BoardOpened day (old_file file.now) (tables_with symbols.old rows.old clauses.old bindings.old) board.old result (tables_with symbols.new rows.new clauses.new bindings.new) board.new }
+pub fn open_board(day: u16, file: &[u8], tables: &mut LentTables, board: &mut [u16]) -> BoardAnswer
+    ensures answered { BoardOpened day (old_file file.now) (tables_of tables.old) board.old result (tables_of tables.new) board.new }
+    ensures same_tables { SameTables tables.old tables.new }
 {
     if board.len() < 4097 {
         return BoardAnswer::Refused(2, 0);
@@ -73,18 +53,12 @@ pub fn open_board(
     let mut nodes = [0u16; 32768];
     let mut origins = [0u16; 32768];
     let mut values = [0u16; 524416];
-    open_with(
-        day,
-        file,
-        symbols,
-        rows,
-        clauses,
-        bindings,
-        &mut nodes,
-        &mut origins,
-        &mut values,
-        board,
-    )
+    let mut workspace = LentWorkspace {
+        nodes: &mut nodes,
+        origins: &mut origins,
+        values: &mut values,
+    };
+    open_with(day, file, tables, &mut workspace, board)
 }
 
 // Withdraws input clause n, with the file, the table of clauses and the board as they were left.

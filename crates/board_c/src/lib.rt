@@ -1,31 +1,31 @@
 // The board of a checked file with its answers in cells, as C has them. In specs/, `ExportedBoard` has what is promised.
 #![tactic(auto)]
 
+ghost use Rattle.tables.specs.Lent.{SameTables};
 ghost use Rattle.std.specs.Prelude.{true, false};
 ghost use Rattle.record.specs.Record.{old_file};
-ghost use Rattle.entry.specs.Progress.{tables_with};
+ghost use Rattle.entry.specs.Progress.{tables_of};
 ghost use Rattle.board_c.specs.ExportedBoard.{ExportedOpening, ExportedCall};
 
 use board::{open_board, return_clause, withdraw_clause};
 use board_answers::put_board;
+use tables::lent::LentTables;
 
 // The board of a file opened on a day, with the answer in three cells. Where `answer` has fewer, nothing is touched.
 pub fn open_to_cells(
     day: u16,
     file: &[u8],
-    symbols: &mut [u16],
-    rows: &mut [u16],
-    clauses: &mut [u16],
-    bindings: &mut [u16],
+    tables: &mut LentTables,
     board: &mut [u16],
     answer: &mut [u16],
 )
-    ensures { ExportedOpening day (old_file file.now) (tables_with symbols.old rows.old clauses.old bindings.old) board.old answer.old (tables_with symbols.new rows.new clauses.new bindings.new) board.new answer.new }
+    ensures answered { ExportedOpening day (old_file file.now) (tables_of tables.old) board.old answer.old (tables_of tables.new) board.new answer.new }
+    ensures same_tables { SameTables tables.old tables.new }
 {
     if answer.len() < 3 {
         return;
     }
-    let a = open_board(day, file, symbols, rows, clauses, bindings, board);
+    let a = open_board(day, file, tables, board);
     put_board(a, answer);
 }
 

@@ -20,25 +20,8 @@ use Rattle.board_calls.specs.Called.{BoardCalled}
 
 -- ── Whether there is an input clause ──
 module _ (F : File) (C B : List ℕ) (n : ℕ) where
-  abbrev tested : Bool → Bool → Bool → Bool
-  tested a b c = a && (b && c)
-
-  abbrev is_kind4 : Bool
-  is_kind4 = eqb (kind_of (record_of_clause F C n)) 4
-
-  pub past_all : 4095 < n → false ≡ is_input_cell F C B n
-  past_all l = sym (ap (λ (a : Bool). tested a (is_clause_cell (get_or B n 0)) is_kind4) (le-ltb n 4096 (omega arith)))
-
-  pub no_clause_lem : {x : ℕ} → n ≤ 4095 → x ≡ get_or B n 0 → x < 4 → false ≡ is_input_cell F C B n
-  no_clause_lem {x} l e s = sym (ap₂ (λ (a b : Bool). tested a b is_kind4) (lt-ltb n 4096 (omega arith)) (ap (leb 4) (sym e) ∙ lt-leb 4 x s))
-
-  pub by_kind : {x k kd : ℕ} {part : List ℕ} → n ≤ 4095 → x ≡ get_or B n 0 → 4 ≤ x → k ≡ get_or C (5 * n) 0 → part ≡ record_part F k → kd ≡ kind_of part → eqb kd 4 ≡ is_input_cell F C B n
-  by_kind {x} {k} {kd} {part} l e s c p q =
-      sym (ap₂ (λ (a b : Bool). tested a b is_kind4) (lt-ltb n 4096 (omega arith)) (ap (leb 4) (sym e) ∙ le-leb 4 x s)
-      ∙ ap (λ (i : ℕ). eqb i 4) (sym (q ∙ ap kind_of (p ∙ ap (record_part F) c))))
-
   pub inside : {b : Bool} → b ≡ is_input_cell F C B n → b ≡ true → n < 4096
-  inside {b} e t = ltb-true n 4096 (both_true (ltb n 4096) (is_clause_cell (get_or B n 0) && is_kind4) (sym e ∙ t)).0
+  inside {b} e t = ltb-true n 4096 (both_true (ltb n 4096) (is_clause_cell (get_or B n 0) && eqb (kind_of (record_of_clause F C n)) 4) (sym e ∙ t)).0
 
   -- ── A clause that changes ──
   pub changed_board : (present : Bool) {x y c : ℕ} {f : Bool} {B₁ B₂ : List ℕ} → n < 4096 → x ≡ get_or B n 0 → f ≡ force_cell x → y ≡ cell_with (child_cell x) f present → B₁ ≡ set B n y → c ≡ child_cell x
@@ -48,17 +31,6 @@ module _ (F : File) (C B : List ℕ) (n : ℕ) where
       let cell : y ≡ cell_with (child_cell (get_or B n 0)) (force_cell (get_or B n 0)) present = p ∙ ap₂ (λ (i : ℕ) (b : Bool). cell_with (child_cell i) b present) e (g ∙ ap force_cell e) in
       z ∙ ap (λ (m : ℕ). passed F C m (n + 1) c B₁) k ∙ ap (λ (m : ℕ). passed F C (4095 - n) m c B₁) (add-one n)
       ∙ ap₂ (passed F C (4095 - n) (suc n)) (r ∙ ap child_cell e) (q ∙ ap (set B n) cell)
-
--- Two conditions compared.
-pub alike_true : (a b : Bool) → a ≡ true → b ≡ beq a b
-alike_true true true e = refl
-alike_true true false e = refl
-alike_true false b e = absurd (true_not_false refl (sym e))
-
-pub alike_false : (a b : Bool) → a ≡ false → not b ≡ beq a b
-alike_false false true e = refl
-alike_false false false e = refl
-alike_false true b e = absurd (true_not_false refl e)
 
 -- ── The call ──
 module _ (F : File) (C B : List ℕ) (n : ℕ) (present : Bool) where

@@ -3,7 +3,6 @@
 #![tactic(auto)]
 
 ghost use Rattle.std.specs.Prelude.{◌≡◌, ◌<◌};
-ghost use Rattle.std.specs.Bool.{beq};
 ghost use Rattle.record.specs.Record.{old_file};
 ghost use Rattle.boards.specs.Cells.{is_input_cell, with_cell};
 ghost use Rattle.board_calls.specs.Called.{BoardCalled};
@@ -18,19 +17,10 @@ use tables::{cell, set_cell};
 fn is_input(file: &[u8], clauses: &[u16], board: &[u16], n: u16) -> bool
     ensures { result ≡ is_input_cell (old_file file.now) clauses.now board.now n }
 {
-    if 4095 < n {
-        return false;
-    }
-    if cell(board, n as usize) < 4 {
+    if n >= 4096 || cell(board, n as usize) < 4 {
         return false;
     }
     kind(record_part(Form::Old, file, cell(clauses, 5 * (n as usize)) as usize)) == 4
-}
-
-fn alike(a: bool, b: bool) -> bool
-    ensures { result ≡ beq a b }
-{
-    if a { b } else { !b }
 }
 
 // Clause n is now present or not, and the clauses that use it stand or not accordingly.
@@ -54,7 +44,7 @@ pub fn call(file: &[u8], clauses: &[u16], board: &mut [u16], n: u16, present: bo
     if !is_input(file, clauses, board, n) {
         return BoardAnswer::Refused(20, 0);
     }
-    if alike(stands_cell(cell(board, n as usize)), present) {
+    if stands_cell(cell(board, n as usize)) == present {
         return BoardAnswer::Refused(21, 0);
     }
     change(file, clauses, board, n, present);

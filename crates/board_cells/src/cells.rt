@@ -1,5 +1,5 @@
 // The cell of a clause: 4, 2 more if its input clauses are in force, 1 more if it stands, and eight times its last child.
-ghost use Rattle.std.specs.Prelude.{◌≡◌, ◌&&◌};
+ghost use Rattle.std.specs.Prelude.{◌≡◌};
 ghost use Rattle.boards.specs.Cells.{cell_with, child_cell, force_cell, stands_cell, from_parents, right_parent, new_cell};
 ghost use Rattle.record.specs.Record.{old_file, kind_of};
 
@@ -34,18 +34,12 @@ pub fn stands_cell(x: u16) -> bool
     x % 2 == 1
 }
 
-fn both(a: bool, b: bool) -> bool
-    ensures { result ≡ (a && b) }
-{
-    if a { b } else { false }
-}
-
 // The cell of a clause that has x, and whose parents have these: in force and standing if both are.
 fn from_parents(x: u16, left: u16, right: u16) -> u16
     ensures { result ≡ from_parents x left right }
 {
-    let force = both(force_cell(left), force_cell(right));
-    let stands = both(stands_cell(left), stands_cell(right));
+    let force = force_cell(left) & force_cell(right);
+    let stands = stands_cell(left) & stands_cell(right);
     cell_like(x, force, stands)
 }
 

@@ -18,22 +18,16 @@ pub enum BoardAnswer {
 fn is_answer(clauses: &[u16], board: &[u16], n: u16) -> bool
     ensures { result ≡ answers clauses.now board.now n }
 {
-    if cell(clauses, 5 * (n as usize) + 1) == 0 {
-        cell(board, n as usize) % 8 == 7
-    } else {
-        false
-    }
+    cell(clauses, 5 * (n as usize) + 1) == 0 && cell(board, n as usize) % 8 == 7
 }
 
 pub fn lowest_answer(clauses: &[u16], board: &[u16]) -> BoardAnswer
     ensures { board_given result ≡ answer_numbers (answered (lowest_answer clauses.now board.now 4096 0)) }
 {
-    let mut n: u16 = 0;
-    while n < 4096 {
+    for n in 0..4096 {
         if is_answer(clauses, board, n) {
             return BoardAnswer::Clause(n);
         }
-        n += 1;
     }
     BoardAnswer::None
 }

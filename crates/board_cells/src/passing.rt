@@ -25,9 +25,8 @@ pub fn pass(file: &[u8], clauses: &[u16], board: &mut [u16], from: u16, child: u
     requires { from ≤ 4096 }
     ensures { board.new ≡ passed (old_file file.now) clauses.now (4096 - from) from child board.old }
 {
-    let mut n = from;
     let mut last = child;
-    while n < 4096 {
+    for n in from..4096 {
         if last < n {
             return;
         }
@@ -35,6 +34,5 @@ pub fn pass(file: &[u8], clauses: &[u16], board: &mut [u16], from: u16, child: u
         let after = new_cell(file, clauses, board, n);
         set_cell(board, n as usize, after);
         last = last_after(last, before, after);
-        n += 1;
     }
 }

@@ -1,5 +1,5 @@
 -- How the program fills the cells of a board that is opened. No promise needs this file.
-use Rattle.std.specs.Prelude.{◌≡◌, List, ℕ, zero, suc, ◌+◌, ◌*◌, ◌%◌, ◌≤◌, eqb, length, get_or, set}
+use Rattle.std.specs.Prelude.{List, ℕ, zero, suc, ◌+◌, ◌*◌, ◌%◌, ◌≤◌, eqb, length, get_or, set}
 use Rattle.record.specs.Record.{pick, File, kind_of, field_of}
 use Rattle.tables.specs.Cells.{cleared_part}
 use Rattle.boards.specs.Cells.{record_of_clause}
@@ -33,11 +33,7 @@ children_put F C (suc n) B = child_put F C n (children_put F C n B)
 unfoldable pub filled_board : ℕ → File → List ℕ → List ℕ → ℕ → List ℕ → List ℕ
 filled_board day F C L count B = children_put F C count (cells_put L count (set (cleared_part 0 4096 B) 4096 day))
 
--- What is needed: at most 4,096 clauses, a board with a cell for each and one for the day, and a whole table of origins.
+-- What is needed: at most 4,096 clauses, and a board with a cell for each and one for the day.
 pub record Fillable (count : ℕ) (board : List ℕ) : Type 0 where
   pub few : count ≤ 4096
   pub long : 4097 ≤ length board
-
-pub record Openable (origins : List ℕ) (count : ℕ) (board : List ℕ) : Type 0 where
-  pub whole : length origins ≡ 32768
-  pub fillable : Fillable count board

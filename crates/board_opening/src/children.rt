@@ -7,6 +7,7 @@ use record::{Form, field, kind, record_part};
 use tables::{cell, set_cell};
 
 // Clause n is a child of clause p.
+#[tactic(auto, unfolding(crate::specs::Filling::with_child))]
 fn put_child(board: &mut [u16], p: u16, n: u16)
     requires { n < 4096 }
     ensures { board.new ≡ with_child board.old p n }
@@ -37,9 +38,7 @@ pub fn put_children(file: &[u8], clauses: &[u16], count: u16, board: &mut [u16])
     requires { count ≤ 4096 }
     ensures { board.new ≡ children_put (old_file file.now) clauses.now count board.old }
 {
-    let mut n: u16 = 0;
-    while n < count {
+    for n in 0..count {
         put_parents(file, clauses, n, board);
-        n += 1;
     }
 }

@@ -8,7 +8,7 @@ ghost use Rattle.std.specs.Prelude.{◌≡◌};
 ghost use Rattle.record.specs.Record.{old_file};
 ghost use Rattle.answer.specs.Given.{all_set};
 ghost use Rattle.force.specs.Flags.{flags_in_force};
-ghost use Rattle.board_opening.specs.Filling.{first_cell, cells_put, filled_board, Fillable, Openable};
+ghost use Rattle.board_opening.specs.Filling.{first_cell, cells_put, filled_board, Fillable};
 
 use children::put_children;
 use flagging::in_force;
@@ -17,6 +17,7 @@ use record::Form;
 use tables::{cell, clear, set_cell};
 
 // The cell of clause n without its last child: it stands, and its flag says whether it is in force.
+#[tactic(auto, unfolding(crate::specs::Filling::first_cell))]
 fn first_cell(flags: &[u16], n: u16) -> u16
     ensures { result ≡ first_cell flags.now n }
 {
@@ -27,11 +28,9 @@ fn first_cell(flags: &[u16], n: u16) -> u16
 fn put_cells(flags: &[u16], count: u16, board: &mut [u16])
     ensures { board.new ≡ cells_put flags.now count board.old }
 {
-    let mut n: u16 = 0;
-    while n < count {
+    for n in 0..count {
         let x = first_cell(flags, n);
         set_cell(board, n as usize, x);
-        n += 1;
     }
 }
 
@@ -55,7 +54,7 @@ pub fn open_cells(
     count: u16,
     board: &mut [u16],
 )
-    requires { Openable origins.now count board.old }
+    requires { Fillable count board.old }
     ensures { board.new ≡ filled_board day (old_file file.now) clauses.now (flags_in_force day (old_file file.now) origins.now count all_set) count board.old }
 {
     let mut flags = [1u16; 4096];

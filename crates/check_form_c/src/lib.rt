@@ -2,46 +2,29 @@
 // it promises.
 #![tactic(auto)]
 
-ghost use Rattle.entry.specs.Progress.{tables_with};
+ghost use Rattle.tables.specs.Lent.{SameTables};
+ghost use Rattle.entry.specs.Progress.{tables_of};
 ghost use Rattle.exported.specs.ExportedForm.{ExportedForm};
 
 use check_c::check_to_cells;
 use record::Form;
+use tables::lent::LentTables;
 
 // The check told the form by the length of its records, 16 or 20. With another number nothing is touched.
 pub fn check_form_to_cells(
     number: u16,
     day: u16,
     file: &[u8],
-    symbols: &mut [u16],
-    rows: &mut [u16],
-    clauses: &mut [u16],
-    bindings: &mut [u16],
+    tables: &mut LentTables,
     answer: &mut [u16],
 )
-    ensures { ExportedForm number day file.now (tables_with symbols.old rows.old clauses.old bindings.old) answer.old (tables_with symbols.new rows.new clauses.new bindings.new) answer.new }
+    ensures answered { ExportedForm number day file.now (tables_of tables.old) answer.old (tables_of tables.new) answer.new }
+    ensures same_tables { SameTables tables.old tables.new }
 {
-    match number {
-        16 => check_to_cells(
-            Form::Old,
-            day,
-            file,
-            symbols,
-            rows,
-            clauses,
-            bindings,
-            answer,
-        ),
-        20 => check_to_cells(
-            Form::New,
-            day,
-            file,
-            symbols,
-            rows,
-            clauses,
-            bindings,
-            answer,
-        ),
-        _ => {}
-    }
+    let form = match number {
+        16 => Form::Old,
+        20 => Form::New,
+        _ => return,
+    };
+    check_to_cells(form, day, file, tables, answer);
 }

@@ -14,6 +14,7 @@ use Rattle.demands.specs.Several.{SeveralLiterals}
 use Rattle.demands.specs.Total.{BindingsHeld}
 use Rattle.answer.specs.Given.{answer_given}
 use Rattle.entry.specs.Progress.{node_table_of, ReadTo}
+use Rattle.following.specs.declared.lent.LentWorkspace.{LentWorkspace}
 use Rattle.verdict.specs.State.{rows_of, derivations}
 use Rattle.verdict.specs.Step.{state_of}
 use Rattle.verdict.specs.Tables.{Tables, lengths_of, tables_after}
@@ -54,6 +55,9 @@ pub record Workspace : Type 0 where
 
 abbrev pub workspace_with : List ℕ → List ℕ → List ℕ → Workspace
 workspace_with N O A = record { nodes = N; origins = O; values = A }
+
+abbrev pub workspace_of : LentWorkspace → Workspace
+workspace_of w = workspace_with w.nodes.now w.origins.now w.values.now
 
 -- The node table and the table of origins after a check: those of the state left where records were read, and untouched otherwise.
 abbrev pub nodes_given : Reading → List ℕ → List ℕ

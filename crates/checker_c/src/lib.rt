@@ -27,11 +27,13 @@ use check_form_c::check_form_to_cells;
 use check_with_c::check_with_to_cells;
 use convert_c::{new_to_cells, old_to_cells};
 use covers_c::covers_to_cells;
+use following::lent::LentWorkspace;
 use following::nodes::{Nodes, Origins};
 use following::values::ValueCells;
 use merge_c::merge_to_cells;
 use readout_c::readout_to_cells;
 use record::Form;
+use tables::lent::LentTables;
 use trim_c::trim_to_cells;
 
 // The check of a file on a day, with the answer in seven cells. Where `answer` has fewer, nothing is touched.
@@ -47,16 +49,13 @@ pub extern "C" fn checker_check(
 )
     ensures { Exported day (old_file file.now) (tables_with symbols.old rows.old clauses.old bindings.old) answer.old (tables_with symbols.new rows.new clauses.new bindings.new) answer.new }
 {
-    check_to_cells(
-        Form::Old,
-        day,
-        file,
+    let mut tables = LentTables {
         symbols,
         rows,
         clauses,
         bindings,
-        answer,
-    );
+    };
+    check_to_cells(Form::Old, day, file, &mut tables, answer);
 }
 
 // The same, told the form of the file by the length of its records, 16 or 20. With another number nothing is touched.
@@ -73,7 +72,13 @@ pub extern "C" fn checker_check_form(
 )
     ensures { ExportedForm form day file.now (tables_with symbols.old rows.old clauses.old bindings.old) answer.old (tables_with symbols.new rows.new clauses.new bindings.new) answer.new }
 {
-    check_form_to_cells(form, day, file, symbols, rows, clauses, bindings, answer);
+    let mut tables = LentTables {
+        symbols,
+        rows,
+        clauses,
+        bindings,
+    };
+    check_form_to_cells(form, day, file, &mut tables, answer);
 }
 
 // The same for services, with a workspace that the caller lends and keeps between files, whatever it holds.
@@ -92,9 +97,18 @@ pub extern "C" fn checker_check_with(
 )
     ensures { ExportedWith day (old_file file.now) (tables_with symbols.old rows.old clauses.old bindings.old) (workspace_with nodes.old origins.old values.old) answer.old (tables_with symbols.new rows.new clauses.new bindings.new) (workspace_with nodes.new origins.new values.new) answer.new }
 {
-    check_with_to_cells(
-        day, file, symbols, rows, clauses, bindings, nodes, origins, values, answer,
-    );
+    let mut tables = LentTables {
+        symbols,
+        rows,
+        clauses,
+        bindings,
+    };
+    let mut workspace = LentWorkspace {
+        nodes,
+        origins,
+        values,
+    };
+    check_with_to_cells(day, file, &mut tables, &mut workspace, answer);
 }
 
 // Whether input clause c of a file covers input clause d, with the answer in ten cells. Where `answer` has fewer, nothing is touched.
@@ -111,7 +125,13 @@ pub extern "C" fn checker_covers(
 )
     ensures { ExportedCovers (old_file file.now) (tables_with symbols.old rows.old clauses.old bindings.old) c d answer.old (tables_with symbols.new rows.new clauses.new bindings.new) answer.new }
 {
-    covers_to_cells(file, c, d, symbols, rows, clauses, bindings, answer);
+    let mut tables = LentTables {
+        symbols,
+        rows,
+        clauses,
+        bindings,
+    };
+    covers_to_cells(file, c, d, &mut tables, answer);
 }
 
 // A piece of the readout of a file on a day, from a clause on, with the progress in three cells. Where `progress` has fewer, nothing is touched.
@@ -129,9 +149,13 @@ pub extern "C" fn checker_readout(
 )
     ensures { ExportedReadout clause_line day (old_file file.now) (tables_with symbols.old rows.old clauses.old bindings.old) clause output.old progress.old (tables_with symbols.new rows.new clauses.new bindings.new) output.new progress.new }
 {
-    readout_to_cells(
-        day, file, symbols, rows, clauses, bindings, clause, output, progress,
-    );
+    let mut tables = LentTables {
+        symbols,
+        rows,
+        clauses,
+        bindings,
+    };
+    readout_to_cells(day, file, &mut tables, clause, output, progress);
 }
 
 // The same for the second readout, whose variables are numbered in each line by their first printed appearance.
@@ -149,9 +173,13 @@ pub extern "C" fn checker_canonical_readout(
 )
     ensures { ExportedCanonical day (old_file file.now) (tables_with symbols.old rows.old clauses.old bindings.old) clause output.old progress.old (tables_with symbols.new rows.new clauses.new bindings.new) output.new progress.new }
 {
-    canonical_to_cells(
-        day, file, symbols, rows, clauses, bindings, clause, output, progress,
-    );
+    let mut tables = LentTables {
+        symbols,
+        rows,
+        clauses,
+        bindings,
+    };
+    canonical_to_cells(day, file, &mut tables, clause, output, progress);
 }
 
 // Two files merged into one, with the answer in four cells. Where `answer` has fewer, nothing is touched.
@@ -168,9 +196,13 @@ pub extern "C" fn checker_merge(
 )
     ensures { ExportedMerge first.now second.now (tables_with symbols.old rows.old clauses.old bindings.old) output.old answer.old (tables_with symbols.new rows.new clauses.new bindings.new) output.new answer.new }
 {
-    merge_to_cells(
-        first, second, symbols, rows, clauses, bindings, output, answer,
-    );
+    let mut tables = LentTables {
+        symbols,
+        rows,
+        clauses,
+        bindings,
+    };
+    merge_to_cells(first, second, &mut tables, output, answer);
 }
 
 // An old file converted to the new form, with the answer in four cells. Where `answer` has fewer, nothing is touched.
@@ -186,7 +218,13 @@ pub extern "C" fn checker_to_new(
 )
     ensures { ExportedConversion (old_file file.now) (tables_with symbols.old rows.old clauses.old bindings.old) output.old answer.old (tables_with symbols.new rows.new clauses.new bindings.new) output.new answer.new }
 {
-    new_to_cells(file, symbols, rows, clauses, bindings, output, answer);
+    let mut tables = LentTables {
+        symbols,
+        rows,
+        clauses,
+        bindings,
+    };
+    new_to_cells(file, &mut tables, output, answer);
 }
 
 // The same for a new file converted to the old form.
@@ -202,7 +240,13 @@ pub extern "C" fn checker_to_old(
 )
     ensures { ExportedConversion (new_file file.now) (tables_with symbols.old rows.old clauses.old bindings.old) output.old answer.old (tables_with symbols.new rows.new clauses.new bindings.new) output.new answer.new }
 {
-    old_to_cells(file, symbols, rows, clauses, bindings, output, answer);
+    let mut tables = LentTables {
+        symbols,
+        rows,
+        clauses,
+        bindings,
+    };
+    old_to_cells(file, &mut tables, output, answer);
 }
 
 // A file trimmed on a day to what its accepted clause uses, with the answer in four cells. Where `answer` has fewer, nothing is touched.
@@ -219,7 +263,13 @@ pub extern "C" fn checker_trim(
 )
     ensures { ExportedTrim day file.now (tables_with symbols.old rows.old clauses.old bindings.old) output.old answer.old (tables_with symbols.new rows.new clauses.new bindings.new) output.new answer.new }
 {
-    trim_to_cells(day, file, symbols, rows, clauses, bindings, output, answer);
+    let mut tables = LentTables {
+        symbols,
+        rows,
+        clauses,
+        bindings,
+    };
+    trim_to_cells(day, file, &mut tables, output, answer);
 }
 
 // The board of a file opened on a day, with the answer in three cells. Where `answer` has fewer, nothing is touched.
@@ -236,7 +286,13 @@ pub extern "C" fn checker_board_open(
 )
     ensures { ExportedOpening day (old_file file.now) (tables_with symbols.old rows.old clauses.old bindings.old) board.old answer.old (tables_with symbols.new rows.new clauses.new bindings.new) board.new answer.new }
 {
-    open_to_cells(day, file, symbols, rows, clauses, bindings, board, answer);
+    let mut tables = LentTables {
+        symbols,
+        rows,
+        clauses,
+        bindings,
+    };
+    open_to_cells(day, file, &mut tables, board, answer);
 }
 
 // An input clause of a board withdrawn, with the answer in three cells. Where `answer` has fewer, nothing is touched.

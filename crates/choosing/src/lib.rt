@@ -1,7 +1,7 @@
 // The search for the earliest choice: it only reads the table of pairs that go together. `Searching` in specs/ of the crate matching has the contracts.
 #![tactic(auto)]
 
-ghost use Rattle.std.specs.Prelude.{◌≡◌, ◌+◌, ◌<◌, length, get_or, set};
+ghost use Rattle.std.specs.Prelude.{◌≡◌, ◌+◌, ◌<◌, false, get_or};
 ghost use Rattle.matching.specs.Searching.{pair_chosen, fits, searched, Searchable};
 
 use matching::pairs::Together;
@@ -11,62 +11,54 @@ pub type Choice = [u16; 8];
 
 // The number chosen for literal i, 0 past the last.
 pub fn chosen(choice: &Choice, i: u16) -> u16
-    requires { length choice.now ≡ 8 }
     ensures { result ≡ get_or choice.now i 0 }
 {
-    if i < 8 { choice[i as usize] } else { 0 }
+    choice.get(i as usize).copied().unwrap_or(0)
 }
 
 // The pair chosen for literal i.
 fn pair_chosen(choice: &Choice, i: u16) -> usize
-    requires { (length choice.now ≡ 8) × (i < 8) }
+    requires { i < 8 }
     ensures { (result ≡ pair_chosen choice.now i) × (result < 65600) }
 {
     8 * (i as usize) + (chosen(choice, i) as usize)
 }
 
-// A cell of the table, 0 outside.
-fn together(table: &Together, at: usize) -> u16
-    requires { length table.now ≡ 4096 }
-    ensures { result ≡ get_or table.now at 0 }
+// A cell of the table, false outside.
+fn together(table: &Together, at: usize) -> bool
+    ensures { result ≡ get_or table.now at false }
 {
-    if at < 4096 { table[at] } else { 0 }
+    table.get(at).copied().unwrap_or(false)
 }
 
 // Whether the pair chosen for literal i is matched and goes with those of all literals before it.
 fn fits_before(table: &Together, choice: &Choice, i: u16) -> bool
-    requires { (length table.now ≡ 4096) × (length choice.now ≡ 8) × (i < 8) }
+    requires { i < 8 }
     ensures { result ≡ fits table.now choice.now i }
 {
     let here = pair_chosen(choice, i);
-    let mut j: u16 = 0;
-    while j <= i {
+    for j in 0..i + 1 {
         let there = pair_chosen(choice, j);
-        if together(table, 64 * there + here) != 1 {
+        if !together(table, 64 * there + here) {
             return false;
         }
-        j += 1;
     }
     true
 }
 
 // So many literals from i on get the earliest numbers that fit.
 pub fn search(table: &Together, choice: &mut Choice, rights: u16, left: u16, i: u16) -> bool
-    requires { Searchable table.now choice.old rights left i }
-    ensures { ((result, choice.new) ≡ searched table.now rights left i choice.old) × (length choice.new ≡ 8) }
+    requires { Searchable rights left i }
+    ensures { (result, choice.new) ≡ searched table.now rights left i choice.old }
 {
     if left == 0 {
         return true;
     }
-    let mut n: u16 = 1;
-    while n <= rights {
+    for n in 1..rights + 1 {
         choice[i as usize] = n;
-        if fits_before(table, choice, i) {
-            if search(table, choice, rights, left - 1, i + 1) {
-                return true;
-            }
+        if fits_before(table, choice, i) && search(table, choice, rights, left - 1, i + 1) {
+            return true;
         }
-        n += 1;
     }
     false
 }

@@ -2,16 +2,17 @@
 // in specs/ of the crate entry has the contract.
 #![tactic(auto)]
 
-ghost use Rattle.std.specs.Prelude.{◌≡◌, ◌<◌, length};
+ghost use Rattle.std.specs.Prelude.{◌≡◌, ◌<◌};
 ghost use Rattle.record.specs.Record.{in_form, record_part, kind_of};
 ghost use Rattle.entry.specs.Program.{RowsReady, input_left, input_entered};
 
 use beside::days_in_order;
-use entry::entry::{Counts, Entered};
+use entry::entry::Counts;
 use entry::rows::{no_variable, put_cells, taken_literals};
 use fields::literal_rows_below;
 use following::nodes::{Nodes, Origins};
 use ranges::input_in_range;
+use reasons::Reason;
 use record::{Form, record_part};
 use record_fields::clause_literals;
 use tables::put_clause;
@@ -26,25 +27,24 @@ pub fn input_record(
     clauses: &mut [u16],
     nodes: &Nodes,
     origins: &mut Origins,
-) -> Entered
+) -> Result<Counts, Reason>
     requires k_value { kind_of (record_part (in_form form file.now) k) ≡ 4 }
     requires clauses_bound { counts.clauses < 4096 }
-    requires rows_ready { RowsReady nodes.now × (length origins.old ≡ 32768) }
-    ensures origins_after { input_left result clauses.new origins.new ≡ input_entered form (record_part (in_form form file.now) k) k counts clauses.old nodes.now origins.old }
-    ensures origins_len { length origins.new ≡ 32768 }
+    requires rows_ready { RowsReady nodes.now }
+    ensures { input_left result clauses.new origins.new ≡ input_entered form (record_part (in_form form file.now) k) k counts clauses.old nodes.now origins.old }
 {
     let part = record_part(form, file, k as usize);
     if !input_in_range(part) {
-        return Entered::Refused(4);
+        return Err(Reason::OutOfRange);
     }
     if !literal_rows_below(part, counts.rows) {
-        return Entered::Refused(5);
+        return Err(Reason::NotThere);
     }
     if !days_in_order(form, part) {
-        return Entered::Refused(16);
+        return Err(Reason::CrossedDays);
     }
     if !no_variable(nodes, part) {
-        return Entered::Refused(7);
+        return Err(Reason::VariableLiteral);
     }
     let n = counts.clauses;
     let read = clause_literals(form, file, k as usize);
@@ -52,10 +52,8 @@ pub fn input_record(
     let numbers = taken_literals(nodes, &written);
     put_cells(origins, n, 1, &numbers);
     put_clause(clauses, n, k, read.count as u16, 1, counts.bindings, 0);
-    Entered::Stands(Counts {
-        symbols: counts.symbols,
-        rows: counts.rows,
+    Ok(Counts {
         clauses: n + 1,
-        bindings: counts.bindings,
+        ..counts
     })
 }

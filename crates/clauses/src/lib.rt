@@ -2,7 +2,7 @@
 // derivation.
 #![tactic(auto)]
 
-ghost use Rattle.std.specs.Prelude.{◌≡◌, length};
+ghost use Rattle.std.specs.Prelude.{◌≡◌};
 ghost use Rattle.derivation.specs.Stored.{literals_cell, index_cell, first_cell, bindings_cell, origin_code};
 
 use following::nodes::{Origins, node};
@@ -39,7 +39,6 @@ pub fn bindings_cell(clauses: &[u16], c: u16) -> u16
 // Cell 0 of clause c in the table of origins: 1 for an input clause, 2 for a factor, 2 more than the number of right literals for a resolve.
 // Its seven numbers are read by `part_of`, as a row's are.
 pub fn origin_code(origins: &Origins, c: u16) -> u16
-    requires { length origins.now ≡ 32768 }
     ensures { result ≡ origin_code origins.now c }
 {
     node(origins, 8 * (c as usize))

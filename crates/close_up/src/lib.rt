@@ -34,7 +34,7 @@ fn closed_number(
         Named::Nothing => n,
         Named::Symbol => new,
         Named::Row => new,
-        Named::Literal => ((2 * (new as u32) + ((n % 2) as u32)) % 65536) as u16,
+        Named::Literal => ((2 * u32::from(new) + u32::from(n % 2)) % 65536) as u16,
         Named::Clause => new,
     }
 }

@@ -1,13 +1,13 @@
 // The literals of a clause written out, collected in one walk: for clauses with many of them. `Lines` in specs/ of the crate line_texts says what is written.
 #![tactic(auto)]
 
-ghost use Rattle.std.specs.Prelude.{◌≡◌, ◌+◌, ◌≤◌, ◌<◌, length};
+ghost use Rattle.std.specs.Prelude.{◌+◌, ◌≤◌};
 ghost use Rattle.line_texts.specs.Lines.{LiteralsReady, WritesLiterals};
-ghost use Rattle.collecting.specs.Literals.{listed};
+ghost use Rattle.collecting.specs.Literals.{literal_with};
 ghost use Rattle.terms.specs.Writing.{Sized, WritingReady};
 ghost use Rattle.literal_text.specs.Literals.{WritesLiteral};
 
-use collecting::literals::{LiteralList, collect};
+use collecting::literals::{ListedLiteral, collect};
 use following::nodes::{Nodes, Origins};
 use following::values::ValueCells;
 use literal_text::write_literal;
@@ -15,7 +15,7 @@ use names::Place;
 use numbering::Naming;
 use text::TextBuffer;
 
-// Literal n of the list, after a blank.
+// A literal of the list, after a blank.
 fn write_listed(
     nodes: &Nodes,
     values: &mut ValueCells,
@@ -25,16 +25,11 @@ fn write_listed(
     cells: &mut [u16],
     order: &mut [u32],
     numbered: u16,
-    list: &LiteralList,
-    n: usize,
+    listed: ListedLiteral,
 ) -> Place
-    requires writing_ready { WritingReady naming nodes.now values.old text.old cells.old order.old numbered (listed list.now n).1 64 }
-    requires list_len { length list.now ≡ 33024 }
-    requires n_bound { n < 16512 }
-    ensures { WritesLiteral naming nodes.now values.old values.new text.old text.new cells.old cells.new order.old order.new numbered at (listed list.now n).0 (listed list.now n).1 result × (result.count ≤ numbered + 64) × Sized nodes.now values.new text.new }
+    requires { WritingReady naming nodes.now values.old text.old cells.old order.old numbered (literal_with listed.code listed.index).1 64 }
+    ensures { WritesLiteral naming nodes.now values.old values.new text.old text.new cells.old cells.new order.old order.new numbered at (literal_with listed.code listed.index).0 (literal_with listed.code listed.index).1 result × (result.count ≤ numbered + 64) × Sized nodes.now values.new text.new }
 {
-    let code = list[2 * n];
-    let index = list[2 * n + 1];
     write_literal(
         nodes,
         values,
@@ -44,9 +39,9 @@ fn write_listed(
         cells,
         order,
         numbered,
-        code % 2 == 1,
-        code / 2,
-        index,
+        listed.code % 2 == 1,
+        listed.code / 2,
+        listed.index,
     )
 }
 
@@ -66,15 +61,21 @@ pub fn write_collected_literals(
     requires { LiteralsReady naming origins.now clauses.now nodes.now values.old text.old cells.old order.old c }
     ensures { WritesLiterals naming origins.now clauses.now nodes.now values.old values.new text.old text.new cells.old cells.new order.old order.new at c result × Sized nodes.now values.new text.new }
 {
-    let mut list = [0u16; 33024];
+    let mut list = [ListedLiteral { code: 0, index: 0 }; 16512];
     let count = collect(origins, clauses, &mut list, 0, c, 0);
     let mut end = at;
     let mut numbered = 0u16;
-    let mut n: usize = 0;
-    while n < count {
-        n += 1;
+    for n in 0..count {
         let p = write_listed(
-            nodes, values, text, end, naming, cells, order, numbered, &list, n,
+            nodes,
+            values,
+            text,
+            end,
+            naming,
+            cells,
+            order,
+            numbered,
+            list[n + 1],
         );
         end = p.end;
         numbered = p.count;

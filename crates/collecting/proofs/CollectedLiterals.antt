@@ -15,20 +15,21 @@ use Rattle.named_literals.specs.Named.{left_over, passed, NamesRights, raise_nam
 use Rattle.derivation.specs.Stored.{origin_code, origin_numbers, right_cells, literals_cell, index_cell, Stored, stored_input, stored_resolve, stored_factor}
 use Rattle.named_literals.proofs.Numbers.{length_without, numbered_without, passed_in, numbered_left, numbered_right, numbered_raised, raise_named_twice, input_few, input_numbered}
 use Rattle.named_literals.proofs.Origins.{stored_cells}
+use Rattle.collecting.specs.declared.literals.ListedLiteral.{ListedLiteral}
 use Rattle.collecting.specs.Literals.{literal_with, listed, Holds, Placed, Deleted, RightsDeletable, RightsDeleted, Collectable, Collected}
 
 -- The first n numbers of an input clause's origin are in the list.
-pub record FieldsPlaced (L L' O : List ℕ) (c base o n : ℕ) : Type 0 where
-  pub room : length L' ≡ 33024
+pub record FieldsPlaced (L L' : List ListedLiteral) (O : List ℕ) (c base o n : ℕ) : Type 0 where
+  pub room : length L' ≡ 16512
   pub before : (k : ℕ) → k ≤ base → listed L' k ≡ listed L k
   pub fields : (k : ℕ) → 1 ≤ k → k ≤ n → listed L' (base + k) ≡ literal_with (part O c (k - 1)) (o + 1)
 
-pub fields_none : (L O : List ℕ) (c base o : ℕ) → length L ≡ 33024 → FieldsPlaced L L O c base o 0
+pub fields_none : (L : List ListedLiteral) (O : List ℕ) (c base o : ℕ) → length L ≡ 16512 → FieldsPlaced L L O c base o 0
 fields_none L O c base o room = record { room = room; before = λ k h. refl; fields = λ k l h. absurd (omega arith) }
 
-pub fields_more : {L L₁ L₂ O : List ℕ} {c base o n code : ℕ} → FieldsPlaced L L₁ O c base o n → code ≡ part O c n → Placed L₁ L₂ (base + (n + 1)) code (o + 1) → FieldsPlaced L L₂ O c base o (n + 1)
-fields_more {L} {L₁} {L₂} {O} {c} {base} {o} {n} {code} X p P =
-    record { room = P.room; before = λ k h. P.others k (λ e. omega arith) ∙ X.before k h; fields = fields }
+pub fields_more : {L L₁ L₂ : List ListedLiteral} {O : List ℕ} {c base o n code : ℕ} → FieldsPlaced L L₁ O c base o n → code ≡ part O c n → length L₂ ≡ length L₁ → Placed L₁ L₂ (base + n + 1) code (o + 1) → FieldsPlaced L L₂ O c base o (n + 1)
+fields_more {L} {L₁} {L₂} {O} {c} {base} {o} {n} {code} X p room P =
+    record { room = room ∙ X.room; before = λ k h. P.others k (λ e. omega arith) ∙ X.before k h; fields = fields }
   where
     fields : (k : ℕ) → 1 ≤ k → k ≤ n + 1 → listed L₂ (base + k) ≡ literal_with (part O c (k - 1)) (o + 1)
     fields k l h = try (eqb k (n + 1)) refl
@@ -36,8 +37,9 @@ fields_more {L} {L₁} {L₂} {O} {c} {base} {o} {n} {code} X p P =
         try : (b : Bool) → eqb k (n + 1) ≡ b → listed L₂ (base + k) ≡ literal_with (part O c (k - 1)) (o + 1)
         try true q =
             let e = eqb-true k (n + 1) q in
+            let z : base + k ≡ base + n + 1 = omega arith in
             let y : n ≡ k - 1 = omega arith in
-            ap (λ (j : ℕ). listed L₂ (base + j)) e ∙ P.here ∙ ap (λ (x : ℕ). literal_with x (o + 1)) (p ∙ ap (part O c) y)
+            ap (listed L₂) z ∙ P.here ∙ ap (λ (x : ℕ). literal_with x (o + 1)) (p ∙ ap (part O c) y)
         try false q = let e = eqb-false k (n + 1) q in P.others (base + k) (λ z. e (omega arith)) ∙ X.fields k l (omega arith)
 
 -- At most one literal less is left, and at most as many less as are taken out.
@@ -55,10 +57,10 @@ some_less ls [] = omega arith
 some_less ls (n ∷ ns) = let x = some_less ls ns in let y = one_less (without_all ls ns) n in omega (arith, x, y)
 
 -- The literals of the list without one of them.
-without_last : {L L₁ : List ℕ} {base all a r : ℕ} (ls : List Literal) → all ≡ base + length ls → Deleted L L₁ base all a r → r ≡ base + length (without ls a)
+without_last : {L L₁ : List ListedLiteral} {base all a r : ℕ} (ls : List Literal) → all ≡ base + length ls → Deleted L L₁ base all a r → r ≡ base + length (without ls a)
 without_last {base = base} {a = a} ls e D = D.last (length ls) e ∙ ap (λ (k : ℕ). base + k) (sym (length_without ls a))
 
-without_holds : {L L₁ : List ℕ} {base all a r o : ℕ} (ls : List Literal) → all ≡ base + length ls → Deleted L L₁ base all a r → Holds L base o ls → Holds L₁ base o (without ls a)
+without_holds : {L L₁ : List ListedLiteral} {base all a r o : ℕ} (ls : List Literal) → all ≡ base + length ls → Deleted L L₁ base all a r → Holds L base o ls → Holds L₁ base o (without ls a)
 without_holds {L} {L₁} {base} {all} {a} {r} {o} ls e D H = record { literal = literal }
   where
     literal : (n : ℕ) → 1 ≤ n → n ≤ length (without ls a) → some (listed L₁ (base + n)) ≡ raise_named o (numbered (without ls a) n)
@@ -87,11 +89,10 @@ only_right p three (n ∷ []) H = ap (λ (xs : List ℕ). get_or xs 0 0 ∷ []) 
 only_right p three (n ∷ m ∷ ns) H = let k = H.code in absurd (omega arith)
 
 -- The literals of the list without all right literals that a resolve names: one, or those of all four cells, the last one first.
-module _ {O L : List ℕ} {base end c : ℕ} where
-  pub one_deleted : {L₁ : List ℕ} {u a r : ℕ} → u ≡ origin_code O c → u ≡ 3 → a ≡ part O c 3 → Deleted L L₁ base end a r → RightsDeleted O L L₁ base end c r
+module _ {O : List ℕ} {L : List ListedLiteral} {base end c : ℕ} where
+  pub one_deleted : {L₁ : List ListedLiteral} {u a r : ℕ} → u ≡ origin_code O c → u ≡ 3 → a ≡ part O c 3 → Deleted L L₁ base end a r → RightsDeleted O L L₁ base end c r
   one_deleted {L₁} {u} {a} {r} pu three pa D =
       record {
-        room = D.room;
         before = D.before;
         last = λ ns H ls e. without_last ls e D ∙ ap (λ (ms : List ℕ). base + length (without_all ls ms)) (same ns H);
         holds = λ ns H ls e o K. subst (λ (ms : List ℕ). Holds L₁ base o (without_all ls ms)) (same ns H) (without_holds ls e D K);
@@ -100,12 +101,11 @@ module _ {O L : List ℕ} {base end c : ℕ} where
       same : (ns : List ℕ) → NamesRights O c ns → a ∷ [] ≡ ns
       same ns H = ap (λ (n : ℕ). n ∷ []) pa ∙ only_right pu three ns H
 
-  pub four_deleted : {L₁ L₂ L₃ L₄ : List ℕ} {k₁ k₂ k₃ k₄ third second first r : ℕ}
+  pub four_deleted : {L₁ L₂ L₃ L₄ : List ListedLiteral} {k₁ k₂ k₃ k₄ third second first r : ℕ}
       → k₄ ≡ part O c 6 → Deleted L L₁ base end k₄ third → k₃ ≡ part O c 5 → Deleted L₁ L₂ base third k₃ second
       → k₂ ≡ part O c 4 → Deleted L₂ L₃ base second k₂ first → k₁ ≡ part O c 3 → Deleted L₃ L₄ base first k₁ r → RightsDeleted O L L₄ base end c r
   four_deleted {L₁} {L₂} {L₃} {L₄} {k₁} {k₂} {k₃} {k₄} {third} {second} {first} {r} p₄ D₄ p₃ D₃ p₂ D₂ p₁ D₁ =
       record {
-        room = D₁.room;
         before = λ k h. D₁.before k h ∙ D₂.before k h ∙ D₃.before k h ∙ D₄.before k h;
         last = λ ns H ls e. without_last (without_all ls (k₂ ∷ k₃ ∷ k₄ ∷ [])) (first_is_last ls e) D₁ ∙ ap (λ (ms : List Literal). base + length ms) (same ls ns H);
         holds = λ ns H ls e o K. subst (Holds L₄ base o) (same ls ns H)
@@ -123,11 +123,11 @@ module _ {O L : List ℕ} {base end c : ℕ} where
       same ls ns H = (λ i. without_all ls (p₁ i ∷ p₂ i ∷ p₃ i ∷ p₄ i ∷ [])) ∙ without_cells ls ns H
 
 -- Literals that stay where they are.
-kept_holds : {L L₁ : List ℕ} {base end o : ℕ} (ls : List Literal) → end ≡ base + length ls → ((k : ℕ) → k ≤ end → listed L₁ k ≡ listed L k) → Holds L base o ls → Holds L₁ base o ls
+kept_holds : {L L₁ : List ListedLiteral} {base end o : ℕ} (ls : List Literal) → end ≡ base + length ls → ((k : ℕ) → k ≤ end → listed L₁ k ≡ listed L k) → Holds L base o ls → Holds L₁ base o ls
 kept_holds {base = base} ls e same H = record { literal = λ n low h. ap some (same (base + n) (omega arith)) ∙ H.literal n low h }
 
 -- Literals behind others, raised by m more.
-both_hold : {L : List ℕ} {base kept o : ℕ} (m : ℕ) (xs ys : List Literal) → kept ≡ base + length xs → Holds L base o xs → Holds L kept (o + m) ys → Holds L base o (xs ++ map (raise_literal m) ys)
+both_hold : {L : List ListedLiteral} {base kept o : ℕ} (m : ℕ) (xs ys : List Literal) → kept ≡ base + length xs → Holds L base o xs → Holds L kept (o + m) ys → Holds L base o (xs ++ map (raise_literal m) ys)
 both_hold {L} {base} {kept} {o} m xs ys e H J = record { literal = λ n low h. try n low h (leb n (length xs)) refl }
   where
     count : length (xs ++ map (raise_literal m) ys) ≡ length xs + length ys
@@ -160,8 +160,8 @@ module _ {O C : List ℕ} {base c o : ℕ} (K : Collectable O C base c o) where
             let m : length (placed 1 ls) ≤ 7 = input_few O c (length (placed 1 ls)) (literals_cell C c) (subst (λ (x : List RowLiteral). length (placed 1 ls) ≤ length (placed 1 x)) (sym q) (omega arith)) in
             (omega (arith, n, m), omega (arith, n, few), fits)
 
-    pub input_collected : {L L₁ : List ℕ} {n : ℕ} → n ≡ count → FieldsPlaced L L₁ O c base o n → Collected O C L L₁ base c o (base + n)
-    input_collected {L} {L₁} {n} pn X = record { room = X.room; before = X.before; last = λ B d s. ap (λ (k : ℕ). base + k) (pn ∙ pc ∙ (stored_cells s).literal_count); holds = holds }
+    pub input_collected : {L L₁ : List ListedLiteral} {n : ℕ} → n ≡ count → FieldsPlaced L L₁ O c base o n → Collected O C L L₁ base c o (base + n)
+    input_collected {L} {L₁} {n} pn X = record { before = X.before; last = λ B d s. ap (λ (k : ℕ). base + k) (pn ∙ pc ∙ (stored_cells s).literal_count); holds = holds }
       where
         holds : (B : List ℕ) (d : Derivation) → Stored O C B c d → Holds L₁ base o (literals d)
         holds B d (stored_resolve k low high la sa qa lb sb qb s) = absurd (omega arith)
@@ -191,13 +191,12 @@ module _ {O C : List ℕ} {base c o : ℕ} (K : Collectable O C base c o) where
         try d (stored_factor {a = a} {b = b} {d = e} k l t qa qb s) fits few =
             let z = is_left in (
               omega arith,
-              record { origin_room = K.origin_room; bindings = K.bindings; derivation = e; stored = left_at t; fits = fits; few = omega (arith, few, l, z, one_less (literals e) b) },
+              record { bindings = K.bindings; derivation = e; stored = left_at t; fits = fits; few = omega (arith, few, l, z, one_less (literals e) b) },
             )
         try d (stored_resolve {a = a} {ns = ns} {l = l} {r = r} k low high la sa qa lb sb qb s) fits few =
             let z = is_left in (
               omega arith,
               record {
-                origin_room = K.origin_room;
                 bindings = K.bindings;
                 derivation = l;
                 stored = left_at sa;
@@ -206,7 +205,7 @@ module _ {O C : List ℕ} {base c o : ℕ} (K : Collectable O C base c o) where
               },
             )
 
-    module _ {L L₁ : List ℕ} {all : ℕ} (G : Collected O C L L₁ base p o all) where
+    module _ {L L₁ : List ListedLiteral} {all : ℕ} (G : Collected O C L L₁ base p o all) where
       -- How many the first parent has.
       pub first_room : (base ≤ all) × (all < 16512)
       first_room =
@@ -214,8 +213,8 @@ module _ {O C : List ℕ} {base c o : ℕ} (K : Collectable O C base c o) where
           let e = G.last x.1.bindings x.1.derivation x.1.stored in
           (omega (arith, e), omega (arith, e, x.1.few))
 
-      pub from_first : u ≡ 2 → {L₂ : List ℕ} {end : ℕ} → Deleted L₁ L₂ base all q end → Collected O C L L₂ base c o end
-      from_first two {L₂} {end} D = record { room = D.room; before = λ k h. D.before k h ∙ G.before k h; last = last; holds = holds }
+      pub from_first : u ≡ 2 → {L₂ : List ListedLiteral} {end : ℕ} → Deleted L₁ L₂ base all q end → Collected O C L L₂ base c o end
+      from_first two {L₂} {end} D = record { before = λ k h. D.before k h ∙ G.before k h; last = last; holds = holds }
         where
           last : (B : List ℕ) (d : Derivation) → Stored O C B c d → end ≡ base + length (literals d)
           last B d (stored_input k e s) = absurd (no₁ (is_kind ∙ k))
@@ -230,7 +229,7 @@ module _ {O C : List ℕ} {base c o : ℕ} (K : Collectable O C base c o) where
               subst (λ (x : ℕ). Holds L₂ base o (without (literals e) x)) (isSecond ∙ qb) (without_holds (literals e) (G.last B e (left_at t)) D (G.holds B e (left_at t)))
 
       -- A resolvent has a second parent.
-      module _ {a kept m : ℕ} {L₂ : List ℕ} (no₂ : u ≡ 2 → ⊥) (is_named : a ≡ part O c 1) (D : Deleted L₁ L₂ base all a kept) (pm : m ≡ index_cell C p) where
+      module _ {a kept m : ℕ} {L₂ : List ListedLiteral} (no₂ : u ≡ 2 → ⊥) (is_named : a ≡ part O c 1) (D : Deleted L₁ L₂ base all a kept) (pm : m ≡ index_cell C p) where
         left_index : {B : List ℕ} {l : Derivation} → Stored O C B p l → m ≡ maximum_index l
         left_index t = pm ∙ (stored_cells t).index
 
@@ -249,7 +248,6 @@ module _ {O C : List ℕ} {base c o : ℕ} (K : Collectable O C base c o) where
                 let x : kept ≡ base + length (without (literals l) a₁) = subst (λ (i : ℕ). kept ≡ base + length (without (literals l) i)) (is_named ∙ qa) (left_last (left_at sa)) in (
                   omega (arith, z, lb),
                   record {
-                    origin_room = K.origin_room;
                     bindings = K.bindings;
                     derivation = r;
                     stored = right_at sb;
@@ -258,23 +256,22 @@ module _ {O C : List ℕ} {base c o : ℕ} (K : Collectable O C base c o) where
                   },
                 )
 
-        module _ {L₃ : List ℕ} {final : ℕ} (J : Collected O C L₂ L₃ kept q (o + m) final) where
-          pub to_rights : RightsDeletable O L₃ kept final c
+        module _ {L₃ : List ListedLiteral} {final : ℕ} (J : Collected O C L₂ L₃ kept q (o + m) final) where
+          pub to_rights : RightsDeletable O kept final c
           to_rights =
               let x = to_second in
               let e = J.last x.1.bindings x.1.derivation x.1.stored in
               let names = named K.derivation K.stored in
-              record { origin_room = K.origin_room; room = J.room; inside = omega (arith, e); few = omega (arith, e, x.1.few); numbers = names.0; names = names.1 }
+              record { inside = omega (arith, e); few = omega (arith, e, x.1.few); numbers = names.0; names = names.1 }
             where
               named : (d : Derivation) → Stored O C K.bindings c d → (ns : List ℕ) × NamesRights O c ns
               named d (stored_input k e s) = absurd (no₁ (is_kind ∙ k))
               named d (stored_factor k l t qa qb s) = absurd (no₂ (is_kind ∙ k))
               named d (stored_resolve {ns = ns} k low high la sa qa lb sb qb s) = (ns, record { code = k; some = low; few = high; cells = qb })
 
-          pub from_both : {end : ℕ} {L₄ : List ℕ} → RightsDeleted O L₃ L₄ kept final c end → Collected O C L L₄ base c o end
+          pub from_both : {end : ℕ} {L₄ : List ListedLiteral} → RightsDeleted O L₃ L₄ kept final c end → Collected O C L L₄ base c o end
           from_both {end} {L₄} E =
               record {
-                room = E.room;
                 before = λ k h. E.before k (omega (arith, h, kept_low)) ∙ J.before k (omega (arith, h, kept_low)) ∙ D.before k h ∙ G.before k h;
                 last = last;
                 holds = holds;

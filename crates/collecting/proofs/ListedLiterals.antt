@@ -1,55 +1,39 @@
 -- Literals put into the list, moved down in it, and one of them taken out.
-use mathlib.Core.Path.{◌≡◌, refl, sym, ap, ap₂, ◌∙◌}
+use mathlib.Core.Path.{◌≡◌, refl, sym, ap, ◌∙◌}
 use mathlib.Core.Bool.{Bool, true, false}
 use mathlib.Core.List.{List}
-use Prim.Native.Nat.{ℕ, ◌+◌, ◌-◌, ◌*◌, ◌≤◌, ◌<◌}
+use Prim.Native.Nat.{ℕ, ◌+◌, ◌-◌, ◌≤◌, ◌<◌}
 use native.Mathlib.Omega.{arith}
 use lib.Dec.{eqb, leb, ltb}
-use lib.ListN.{length, get_or, set, length-set}
+use lib.ListN.{length, get_or, set}
 use lib.Seq.{get_or-set_same, get_or-set_other}
-use borrow.Author.Tests.{ne_eqb, eqb-true, eqb-false, ltb-true, ltb-false, le-leb, lt-leb, lt-ltb, le-ltb}
+use borrow.Author.Tests.{ne_eqb, ltb-true, ltb-false, le-leb, lt-leb, lt-ltb, le-ltb}
 use Rattle.record.specs.Record.{pick}
 use Rattle.named_literals.specs.Named.{left_over, passed}
-use Rattle.collecting.specs.Literals.{literal_with, listed, Placed, Moved, Deleted}
+use Rattle.std.specs.List.{CopiedTo, SameBelow}
+use Rattle.collecting.specs.Literals.{literal_with, listed, Placed, Deleted}
+use Rattle.collecting.specs.declared.literals.ListedLiteral.{ListedLiteral}
 
--- Two cells written are one literal.
-pub placed_there : (L : List ℕ) (n code index : ℕ) → length L ≡ 33024 → n < 16512 → Placed L (set (set L (2 * n) code) (2 * n + 1) index) n code index
+-- A literal written.
+pub placed_there : (L : List ListedLiteral) (n : ℕ) (x : ListedLiteral) → n < length L → Placed L (set L n x) n x.code x.index
 unfolding listed
-placed_there L n code index room inside =
+placed_there L n x inside =
     record {
-      room = long ∙ room;
-      here =
-          ap₂ literal_with
-          (get_or-set_other (set L (2 * n) code) (2 * n + 1) (2 * n) index 0 (λ e. omega arith) ∙ get_or-set_same L (2 * n) code 0 (omega arith))
-          (get_or-set_same (set L (2 * n) code) (2 * n + 1) index 0 (omega (arith, length-set L (2 * n) code)));
-      others = λ k d. ap₂ literal_with
-          (get_or-set_other (set L (2 * n) code) (2 * n + 1) (2 * k) index 0 (λ e. omega arith) ∙ get_or-set_other L (2 * n) (2 * k) code 0 (λ e. d (omega arith)))
-          (get_or-set_other (set L (2 * n) code) (2 * n + 1) (2 * k + 1) index 0 (λ e. d (omega arith)) ∙ get_or-set_other L (2 * n) (2 * k + 1) code 0 (λ e. omega arith));
+      here = ap (λ (y : ListedLiteral). literal_with y.code y.index) (get_or-set_same L n x (record { code = 0; index = 0 }) inside);
+      others = λ k d. ap (λ (y : ListedLiteral). literal_with y.code y.index) (get_or-set_other L n k x (record { code = 0; index = 0 }) d);
     }
-  where
-    long : length (set (set L (2 * n) code) (2 * n + 1) index) ≡ length L
-    long = length-set (set L (2 * n) code) (2 * n + 1) index ∙ length-set L (2 * n) code
 
-pub moved_none : (L : List ℕ) (n : ℕ) → length L ≡ 33024 → Moved L L n n
-moved_none L n room = record { room = room; moved = λ k l h. absurd (omega arith); below = λ k h. refl; above = λ k h. refl }
+-- Literals copied one place down.
+module _ (L L₁ : List ListedLiteral) (n end : ℕ) (low : n ≤ end) (C : CopiedTo L L₁ (n + 1) n (end + 1 - (n + 1))) (B : SameBelow L L₁ n) where
+  moved_down : (k : ℕ) → n ≤ k → k < end → listed L₁ k ≡ listed L (k + 1)
+  unfolding listed
+  moved_down k l h =
+      let z : n + 1 + (k - n) ≡ k + 1 = omega arith in
+      ap (λ (y : ListedLiteral). literal_with y.code y.index) (C k (record { code = 0; index = 0 }) l (omega arith) ∙ ap (λ (i : ℕ). get_or L i (record { code = 0; index = 0 })) z)
 
--- One literal more.
-pub moved_more : {L L₁ L₂ : List ℕ} {n k : ℕ} → n ≤ k → Moved L L₁ n k → Placed L₁ L₂ k (get_or L₁ (2 * (k + 1)) 0) (get_or L₁ (2 * (k + 1) + 1) 0) → Moved L L₂ n (k + 1)
-unfolding listed
-moved_more {L} {L₁} {L₂} {n} {k} low M P =
-    record {
-      room = P.room;
-      moved = moved;
-      below = λ j h. P.others j (λ e. omega arith) ∙ M.below j h;
-      above = λ j h. P.others j (λ e. omega arith) ∙ M.above j (omega arith);
-    }
-  where
-    moved : (j : ℕ) → n ≤ j → j < k + 1 → listed L₂ j ≡ listed L (j + 1)
-    moved j l h = try (eqb j k) refl
-      where
-        try : (b : Bool) → eqb j k ≡ b → listed L₂ j ≡ listed L (j + 1)
-        try true q = let e = eqb-true j k q in ap (listed L₂) e ∙ P.here ∙ M.above (k + 1) (omega arith) ∙ ap (λ (i : ℕ). listed L (i + 1)) (sym e)
-        try false q = let e = eqb-false j k q in P.others j e ∙ M.moved j l (omega arith)
+  same_below : (k : ℕ) → k < n → listed L₁ k ≡ listed L k
+  unfolding listed
+  same_below k h = ap (λ (y : ListedLiteral). literal_with y.code y.index) (B k (record { code = 0; index = 0 }) h)
 
 -- What is left without a number that is there, and without one that is not.
 over_past : (count a : ℕ) → count < a → left_over count a ≡ count
@@ -86,17 +70,16 @@ over_few count a = try (eqb a 0) (leb a count)
     try false true = omega arith
     try false false = omega arith
 
-pub deleted_room : {L L₁ : List ℕ} {base end a r : ℕ} → base ≤ end → end < 16512 → Deleted L L₁ base end a r → (base ≤ r) × (r < 16512)
+pub deleted_room : {L L₁ : List ListedLiteral} {base end a r : ℕ} → base ≤ end → end < 16512 → Deleted L L₁ base end a r → (base ≤ r) × (r < 16512)
 deleted_room {base = base} {end = end} {a = a} low high D =
     let e = D.last (end - base) (omega arith) in
     let f = over_few (end - base) a in
     (omega (arith, e), omega (arith, low, high, e, f))
 
-module _ (L : List ℕ) (base end a : ℕ) (room : length L ≡ 33024) where
+module _ (L : List ListedLiteral) (base end a : ℕ) where
   pub deleted_zero : a ≡ 0 → Deleted L L base end a end
   deleted_zero z =
       record {
-        room = room;
         before = λ k h. refl;
         last = λ count e. e ∙ ap (λ (k : ℕ). base + k) (sym (over_zero count a z));
         left = λ count e n l h. ap (λ (k : ℕ). listed L (base + k)) (sym (pass_zero n a z));
@@ -105,17 +88,15 @@ module _ (L : List ℕ) (base end a : ℕ) (room : length L ≡ 33024) where
   pub deleted_past : end < base + a → Deleted L L base end a end
   deleted_past past =
       record {
-        room = room;
         before = λ k h. refl;
         last = λ count e. e ∙ ap (λ (k : ℕ). base + k) (sym (over_past count a (omega arith)));
         left = λ count e n l h. ap (λ (k : ℕ). listed L (base + k)) (sym (pass_before n a (omega (arith, h, over_past count a (omega arith)))));
       }
 
-  pub deleted_in : (a ≡ 0 → ⊥) → base + a ≤ end → {L₁ : List ℕ} → Moved L L₁ (base + a) end → Deleted L L₁ base end a (end - 1)
-  deleted_in some₀ inside {L₁} M =
+  pub deleted_in : (a ≡ 0 → ⊥) → (inside : base + a ≤ end) → {L₁ : List ListedLiteral} → CopiedTo L L₁ (base + a + 1) (base + a) (end + 1 - (base + a + 1)) → SameBelow L L₁ (base + a) → Deleted L L₁ base end a (end - 1)
+  deleted_in some₀ inside {L₁} C B =
       record {
-        room = M.room;
-        before = λ k h. M.below k (omega arith);
+        before = λ k h. same_below L L₁ (base + a) end inside C B k (omega arith);
         last = λ count e. omega (arith, e, over_in count a low (omega arith));
         left = left;
       }
@@ -130,8 +111,8 @@ module _ (L : List ℕ) (base end a : ℕ) (room : length L ≡ 33024) where
           few = omega (arith, h, over_in count a low (omega arith))
 
           try : (b : Bool) → ltb n a ≡ b → listed L₁ (base + n) ≡ listed L (base + passed n a)
-          try true q = let z = ltb-true n a q in M.below (base + n) (omega arith) ∙ ap (λ (k : ℕ). listed L (base + k)) (sym (pass_before n a z))
+          try true q = let z = ltb-true n a q in same_below L L₁ (base + a) end inside C B (base + n) (omega arith) ∙ ap (λ (k : ℕ). listed L (base + k)) (sym (pass_before n a z))
           try false q =
               let z = ltb-false n a q in
               let y : base + n + 1 ≡ base + passed n a = omega (arith, pass_after n a low (omega arith)) in
-              M.moved (base + n) (omega arith) (omega (arith, few)) ∙ ap (listed L) y
+              moved_down L L₁ (base + a) end inside C B (base + n) (omega arith) (omega (arith, few)) ∙ ap (listed L) y

@@ -5,44 +5,34 @@ use Rattle.std.proofs.Math.Option.{some}
 use Rattle.derivation.specs.Derivation.{literals, Literal, literal_of, Derivation, numbered, without_all, maximum_index}
 use Rattle.named_literals.specs.Named.{left_over, passed, NamesRights, raise_named}
 use Rattle.derivation.specs.Stored.{Stored}
+use Rattle.collecting.specs.declared.literals.ListedLiteral.{ListedLiteral}
 
 -- A literal from its number in an input clause's origin, and its index.
 abbrev pub literal_with : ℕ → ℕ → Literal
 literal_with code index = ((literal_of code).0, ((literal_of code).1, index))
 
 -- Literal n of a list.
-unfoldable pub listed : List ℕ → ℕ → Literal
-listed L n = literal_with (get_or L (2 * n) 0) (get_or L (2 * n + 1) 0)
+unfoldable pub listed : List ListedLiteral → ℕ → Literal
+listed L n = let x = get_or L n (record { code = 0; index = 0 }) in literal_with x.code x.index
 
 -- After number `base` the list has the literals ls, with their indices raised by o.
-pub record Holds (L : List ℕ) (base o : ℕ) (ls : List Literal) : Type 0 where
+pub record Holds (L : List ListedLiteral) (base o : ℕ) (ls : List Literal) : Type 0 where
   pub literal : (n : ℕ) → 1 ≤ n → n ≤ length ls → some (listed L (base + n)) ≡ raise_named o (numbered ls n)
 
 -- Literal n is the one given, and every other one is as it was.
-pub record Placed (L L' : List ℕ) (n code index : ℕ) : Type 0 where
-  pub room : length L' ≡ 33024
+pub record Placed (L L' : List ListedLiteral) (n code index : ℕ) : Type 0 where
   pub here : listed L' n ≡ literal_with code index
   pub others : (k : ℕ) → ¬ (k ≡ n) → listed L' k ≡ listed L k
 
--- From number n on, before number `end`, each literal is the next one of before. Every other one is as it was.
-pub record Moved (L L' : List ℕ) (n end : ℕ) : Type 0 where
-  pub room : length L' ≡ 33024
-  pub moved : (k : ℕ) → n ≤ k → k < end → listed L' k ≡ listed L (k + 1)
-  pub below : (k : ℕ) → k < n → listed L' k ≡ listed L k
-  pub above : (k : ℕ) → end ≤ k → listed L' k ≡ listed L k
-
 -- Of the literals after number `base`, as far as number `end`, those are left that are not the a-th; the last one has number r.
-pub record Deleted (L L' : List ℕ) (base end a r : ℕ) : Type 0 where
-  pub room : length L' ≡ 33024
+pub record Deleted (L L' : List ListedLiteral) (base end a r : ℕ) : Type 0 where
   pub before : (k : ℕ) → k ≤ base → listed L' k ≡ listed L k
   pub last : (count : ℕ) → end ≡ base + count → r ≡ base + left_over count a
   pub left : (count : ℕ) → end ≡ base + count → (n : ℕ) → 1 ≤ n → n ≤ left_over count a → listed L' (base + n) ≡ listed L (base + passed n a)
 
--- What taking out the right literals that clause c's step names asks: whole arrays, literals after number `base` as far as number `end`, and that the
+-- What taking out the right literals that clause c's step names asks: literals after number `base` as far as number `end`, and that the
 -- step names some.
-pub record RightsDeletable (O L : List ℕ) (base end c : ℕ) : Type 0 where
-  pub origin_room : length O ≡ 32768
-  pub room : length L ≡ 33024
+pub record RightsDeletable (O : List ℕ) (base end c : ℕ) : Type 0 where
   pub inside : base ≤ end
   pub few : end < 16512
   pub numbers : List ℕ
@@ -50,16 +40,14 @@ pub record RightsDeletable (O L : List ℕ) (base end c : ℕ) : Type 0 where
 
 -- Of the literals after number `base`, as far as number `end`, those are left that the resolve c does not name on its right, whichever
 -- literals they are; the last one has number r.
-pub record RightsDeleted (O L L' : List ℕ) (base end c r : ℕ) : Type 0 where
-  pub room : length L' ≡ 33024
+pub record RightsDeleted (O : List ℕ) (L L' : List ListedLiteral) (base end c r : ℕ) : Type 0 where
   pub before : (k : ℕ) → k ≤ base → listed L' k ≡ listed L k
   pub last : (ns : List ℕ) → NamesRights O c ns → (ls : List Literal) → end ≡ base + length ls → r ≡ base + length (without_all ls ns)
   pub holds : (ns : List ℕ) → NamesRights O c ns → (ls : List Literal) → end ≡ base + length ls → (o : ℕ) → Holds L base o ls → Holds L' base o (without_all ls ns)
 
--- What collecting clause c after number `base`, at offset o, asks: a whole table of origins, a derivation that is clause c of the tables, whose indices, raised by o,
+-- What collecting clause c after number `base`, at offset o, asks: a derivation that is clause c of the tables, whose indices, raised by o,
 -- are within document 01's limit, and room for its literals and for four more at each step that it has at most: so many a step names of one parent.
 pub record Collectable (O C : List ℕ) (base c o : ℕ) : Type 0 where
-  pub origin_room : length O ≡ 32768
   pub bindings : List ℕ
   pub derivation : Derivation
   pub stored : Stored O C bindings c derivation
@@ -67,8 +55,7 @@ pub record Collectable (O C : List ℕ) (base c o : ℕ) : Type 0 where
   pub few : base + length (literals derivation) + 4 * c < 16512
 
 -- What it says: the list is as it was up to number `base`, the clause's literals are after it, raised by o, and the last one has number `end`.
-pub record Collected (O C L L' : List ℕ) (base c o end : ℕ) : Type 0 where
-  pub room : length L' ≡ 33024
+pub record Collected (O C : List ℕ) (L L' : List ListedLiteral) (base c o end : ℕ) : Type 0 where
   pub before : (k : ℕ) → k ≤ base → listed L' k ≡ listed L k
   pub last : (B : List ℕ) (d : Derivation) → Stored O C B c d → end ≡ base + length (literals d)
   pub holds : (B : List ℕ) (d : Derivation) → Stored O C B c d → Holds L' base o (literals d)

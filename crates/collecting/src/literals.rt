@@ -1,46 +1,24 @@
-// All literals of a clause, collected in one walk through its parents. The list of them has two cells for each literal, 2n and 2n + 1 for
-// number n, from 1: the number that an input clause has for it (2 × row, plus 1 if positive), and its index.
-ghost use Rattle.std.specs.Prelude.{◌≡◌, ◌≤◌, ◌<◌, length};
+// All literals of a clause, collected in one walk through its parents into a list, by their numbers, from 1.
+ghost use Rattle.std.specs.Prelude.{◌≡◌, ◌≤◌, ◌<◌};
 ghost use Rattle.derivation.specs.Stored.{origin_code};
-ghost use Rattle.collecting.specs.Literals.{Placed, Moved, Deleted, RightsDeletable, RightsDeleted, Collectable, Collected};
+ghost use Rattle.collecting.specs.Literals.{Deleted, RightsDeletable, RightsDeleted, Collectable, Collected};
 
 use clauses::{index_cell, literals_cell, origin_code};
 use following::nodes::{Origins, part_of};
 
-// The list that the literals of a clause are collected in, two cells for each: a clause has at most 128 of them, and while it is put
-// together there are four more at each step that it has at most, the right literals that the step names.
-pub type LiteralList = [u16; 33024];
-
-// The cells of literal n.
-fn place(list: &mut LiteralList, n: usize, code: u16, index: u16)
-    requires list_len { length list.old ≡ 33024 }
-    requires n_bound { n < 16512 }
-    ensures { Placed list.old list.new n code index }
-{
-    list[2 * n] = code;
-    list[2 * n + 1] = index;
+// A literal as the list has it: the number that an input clause has for it (2 × row, plus 1 if positive), and its index.
+#[derive(Clone, Copy)]
+pub struct ListedLiteral {
+    pub code: u16,
+    pub index: u16,
 }
 
-// Every literal after number n, as far as number `end`, gets the number before its own.
-fn move_down(list: &mut LiteralList, n: usize, end: usize)
-    requires list_len { length list.old ≡ 33024 }
-    requires n_le_end { n ≤ end }
-    requires end_bound { end < 16512 }
-    ensures { Moved list.old list.new n end }
-{
-    let mut k = n;
-    while k < end {
-        let next = k + 1;
-        let code = list[2 * next];
-        let index = list[2 * next + 1];
-        place(list, k, code, index);
-        k = next;
-    }
-}
+// The list that the literals of a clause are collected in: a clause has at most 128 of them, and while it is put together there are four more
+// at each step that it has at most, the right literals that the step names.
+pub type LiteralList = [ListedLiteral; 16512];
 
 // Of the literals after number `base`, as far as number `end`, the a-th is taken out, if there is one. Answers the number of the last one.
 fn delete(list: &mut LiteralList, base: usize, end: usize, a: u16) -> usize
-    requires list_len { length list.old ≡ 33024 }
     requires base_le_end { base ≤ end }
     requires end_bound { end < 16512 }
     ensures { Deleted list.old list.new base end a result }
@@ -52,7 +30,7 @@ fn delete(list: &mut LiteralList, base: usize, end: usize, a: u16) -> usize
     if end < n {
         return end;
     }
-    move_down(list, n, end);
+    list.copy_within(n + 1..end + 1, n);
     end - 1
 }
 
@@ -65,7 +43,7 @@ fn delete_rights(
     end: usize,
     c: u16,
 ) -> usize
-    requires { RightsDeletable origins.now list.old base end c }
+    requires { RightsDeletable origins.now base end c }
     ensures { RightsDeleted origins.now list.old list.new base end c result }
 {
     if origin_code(origins, c) == 3 {
@@ -86,19 +64,18 @@ fn collect_input(
     c: u16,
     offset: u16,
 ) -> usize
-    requires list_len { length list.old ≡ 33024 }
     requires collectable { Collectable origins.now clauses.now base c offset }
     requires c_value { origin_code origins.now c ≡ 1 }
     ensures { Collected origins.now clauses.now list.old list.new base c offset result }
 {
     let count = literals_cell(clauses, c);
-    let mut n: u16 = 0;
-    while n < count {
-        let code = part_of(origins, c, n);
-        n += 1;
-        place(list, base + (n as usize), code, offset + 1);
+    for n in 0..count {
+        list[base + (n as usize) + 1] = ListedLiteral {
+            code: part_of(origins, c, n),
+            index: offset + 1,
+        };
     }
-    base + (n as usize)
+    base + (count as usize)
 }
 
 // The literals of clause c, after number `base`, with their indices raised by the offset: those of its parents, the right one's raised by
@@ -111,8 +88,7 @@ pub fn collect(
     c: u16,
     offset: u16,
 ) -> usize
-    requires list_len { length list.old ≡ 33024 }
-    requires collectable { Collectable origins.now clauses.now base c offset }
+    requires { Collectable origins.now clauses.now base c offset }
     ensures { Collected origins.now clauses.now list.old list.new base c offset result }
 {
     let code = origin_code(origins, c);

@@ -27,14 +27,13 @@ use Rattle.entry.specs.Progress.{ReadTo, tables_with}
 use Rattle.coverings.specs.Answering.{covers, covers_not, refused_with, Comparable, term_in}
 use Rattle.coverings.specs.Choosing.{numbers_from, comparison_numbers, comparison}
 use Rattle.comparing.specs.Comparing.{is_input, AfterCheck, CoveringOf}
-use Rattle.comparing.specs.Given.{covering_given}
-use Rattle.comparing.specs.declared.covering.Covering as goal
+use Rattle.comparing.specs.Given.{Covering, covering_given}
 use Rattle.coverings.proofs.PairLaws.{together}
 use Rattle.coverings.proofs.StateTerms.{terms_of, row_formed, InputHere, input_here, input_found}
 use Rattle.coverings.proofs.Truth.{Formed}
 use Rattle.coverings.proofs.Settling.{numbers_of_lem, Settled, settled, nothing_due, yes_due, no_due}
 
-pub refused_covering : (file : File) (before : Tables) (c d : ℕ) (r : goal.Covering) → covering_given r ≡ 2 ∷ 15 ∷ 0 ∷ replicate 7 0 → ((S : State) (C D : List RowLiteral) → ¬ Comparable file before c d S C D) → CoveringOf file before c d r
+pub refused_covering : (file : File) (before : Tables) (c d : ℕ) (r : Covering) → covering_given r ≡ 2 ∷ 15 ∷ 0 ∷ replicate 7 0 → ((S : State) (C D : List RowLiteral) → ¬ Comparable file before c d S C D) → CoveringOf file before c d r
 refused_covering file before c d r e h = record { answer = refused_with 15 0; numbers = e; promised = nothing_due file before c d h }
 
 module _ (CL N O : List ℕ) (a : answer.Answer) (c d : ℕ) (R : AfterCheck CL N O a) where
@@ -103,7 +102,7 @@ module _ (CL N O : List ℕ) (a : answer.Answer) (c d : ℕ) (R : AfterCheck CL 
           (comparison N O c d (literals_cell CL c) (literals_cell CL d))
       all_settled = settled N O (term_in left) (terms_of kept.kept kept.few) c d (literals_cell CL c) (literals_cell CL d) (passed c p).rows (passed d q).rows few_left few_right (passed c p).literals_here (passed d q).literals_here (passed c p).numbers (passed d q).numbers (Formed (arity_of left)) (λ v δ f. f v) (row_formed kept.kept kept.few)
 
-      pub compared : (r : goal.Covering) → covering_given r ≡ comparison_numbers (comparison N O c d (literals_cell CL c) (literals_cell CL d)) → CoveringOf R.file R.before c d r
+      pub compared : (r : Covering) → covering_given r ≡ comparison_numbers (comparison N O c d (literals_cell CL c) (literals_cell CL d)) → CoveringOf R.file R.before c d r
       compared r e = from (comparison N O c d (literals_cell CL c) (literals_cell CL d)) e all_settled
         where
           from : (X : Bool × List ℕ) → covering_given r ≡ comparison_numbers X

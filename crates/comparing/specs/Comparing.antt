@@ -7,8 +7,7 @@ use Rattle.entry.specs.Progress.{tables_with}
 use Rattle.checker.specs.Contract.{Workspace, workspace_with, CheckedWith}
 use Rattle.answer.specs.declared.Answer as answer
 use Rattle.coverings.specs.Answering.{Answer, ten_numbers, AnswerPromised}
-use Rattle.comparing.specs.Given.{covering_given}
-use Rattle.comparing.specs.declared.covering.Covering.{Covering}
+use Rattle.comparing.specs.Given.{Covering, covering_given}
 
 -- The tests before it.
 abbrev pub is_input : List ℕ → ℕ → ℕ → Bool

@@ -1,11 +1,10 @@
 // Two clauses compared, after a check: whether they are input clauses of a file that stands, and then their literals.
-ghost use Rattle.std.specs.Prelude.{◌≡◌, ◌≤◌, length};
-ghost use Rattle.coverings.specs.Choosing.{comparison_numbers, comparison_from, comparison};
+ghost use Rattle.std.specs.Prelude.{◌≡◌, ◌≤◌};
+ghost use Rattle.coverings.specs.Choosing.{numbers_from, comparison_numbers, comparison_from, comparison};
 ghost use Rattle.comparing.specs.Comparing.{is_input, AfterCheck, Compared};
-ghost use Rattle.comparing.specs.Given.{covering_given};
+ghost use Rattle.comparing.specs.Given.{choice_given};
 
-use super::answers::{with_choice, without_choice};
-use super::covering::{Covering, Outcome};
+use super::covering::{Covering, NothingToCompare};
 use agreeing::fill_table;
 use answer::{Answer, stands};
 use choosing::{Choice, search};
@@ -14,7 +13,16 @@ use following::nodes::{Nodes, Origins};
 use images::images::Notes;
 use matching::pairs::{Found, Together, match_pairs};
 
-// The literals of c against those of d, so many on the left and on the right, in tables that are lent.
+// The seven numbers of a choice: its last cell is never one of them, since C has at most seven literals.
+fn chosen_numbers(choice: &Choice) -> [u16; 7]
+    ensures { result ≡ numbers_from choice.now 0 7 }
+{
+    [
+        choice[0], choice[1], choice[2], choice[3], choice[4], choice[5], choice[6],
+    ]
+}
+
+// The literals of c against those of d, so many on the left and on the right, in tables that are lent: those chosen, if c covers d.
 fn choose_in(
     nodes: &Nodes,
     origins: &Origins,
@@ -26,26 +34,35 @@ fn choose_in(
     d: u16,
     lefts: u16,
     rights: u16,
-) -> Covering
-    requires { (length nodes.now ≡ 32768) × (length origins.now ≡ 32768) × (length found.old ≡ 64) × (length notes.old ≡ 4096) × (length table.old ≡ 4096) × (length choice.old ≡ 8) × (lefts ≤ 7) × (rights ≤ 7) }
-    ensures { covering_given result ≡ comparison_numbers (comparison_from nodes.now origins.now c d lefts rights found.old notes.old table.old choice.old) }
+) -> Option<[u16; 7]>
+    requires { (lefts ≤ 7) × (rights ≤ 7) }
+    ensures { choice_given result ≡ comparison_numbers (comparison_from nodes.now origins.now c d lefts rights found.old notes.old table.old choice.old) }
 {
     match_pairs(nodes, origins, found, notes, c, d, lefts, rights);
     fill_table(found, notes, table);
     if search(table, choice, rights, lefts, 0) {
-        return with_choice(choice);
+        Some(chosen_numbers(choice))
+    } else {
+        None
     }
-    without_choice(Outcome::No)
 }
 
 // The same with tables of its own.
-fn choose(nodes: &Nodes, origins: &Origins, c: u16, d: u16, lefts: u16, rights: u16) -> Covering
-    requires { (length nodes.now ≡ 32768) × (length origins.now ≡ 32768) × (lefts ≤ 7) × (rights ≤ 7) }
-    ensures { covering_given result ≡ comparison_numbers (comparison nodes.now origins.now c d lefts rights) }
+#[tactic(auto, unfolding(coverings::specs::Choosing::comparison))]
+fn choose(
+    nodes: &Nodes,
+    origins: &Origins,
+    c: u16,
+    d: u16,
+    lefts: u16,
+    rights: u16,
+) -> Option<[u16; 7]>
+    requires { (lefts ≤ 7) × (rights ≤ 7) }
+    ensures { choice_given result ≡ comparison_numbers (comparison nodes.now origins.now c d lefts rights) }
 {
-    let mut found = [0u16; 64];
+    let mut found = [false; 64];
     let mut notes = [0u32; 4096];
-    let mut table = [0u16; 4096];
+    let mut table = [false; 4096];
     let mut choice = [0u16; 8];
     choose_in(
         nodes,
@@ -63,14 +80,9 @@ fn choose(nodes: &Nodes, origins: &Origins, c: u16, d: u16, lefts: u16, rights: 
 
 // Whether clause c is one of so many, and an input clause.
 fn is_input(origins: &Origins, count: u16, c: u16) -> bool
-    requires { length origins.now ≡ 32768 }
     ensures { result ≡ is_input origins.now count c }
 {
-    if c < count {
-        origin_code(origins, c) == 1
-    } else {
-        false
-    }
+    c < count && origin_code(origins, c) == 1
 }
 
 // Whether c covers d, after a check with this answer. Refusals come before any comparison.
@@ -86,22 +98,18 @@ pub fn compare(
     ensures { Compared clauses.now nodes.now origins.now a c d result }
 {
     let count = a.clauses;
-    let verdict = a.verdict;
-    if !stands(verdict) {
-        return without_choice(Outcome::Refused(15, 0));
+    if !stands(a.verdict) {
+        return Err(NothingToCompare);
     }
-    if !is_input(origins, count, c) {
-        return without_choice(Outcome::Refused(15, 0));
+    if !is_input(origins, count, c) || !is_input(origins, count, d) {
+        return Err(NothingToCompare);
     }
-    if !is_input(origins, count, d) {
-        return without_choice(Outcome::Refused(15, 0));
-    }
-    choose(
+    Ok(choose(
         nodes,
         origins,
         c,
         d,
         literals_cell(clauses, c),
         literals_cell(clauses, d),
-    )
+    ))
 }

@@ -2,6 +2,5 @@
 // Literals are matched and choices searched by the crate matching.
 #![tactic(auto)]
 
-mod answers;
 pub mod compare;
 pub mod covering;

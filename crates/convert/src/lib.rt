@@ -2,43 +2,34 @@
 // What comes after the check is in the crate rewriting.
 #![tactic(auto)]
 
+ghost use Rattle.tables.specs.Lent.{SameTables};
 ghost use Rattle.std.specs.Prelude.{◌≤◌, length};
 ghost use Rattle.record.specs.Record.{in_form, old_file, new_file};
-ghost use Rattle.entry.specs.Progress.{tables_with};
+ghost use Rattle.entry.specs.Progress.{tables_of};
 ghost use Rattle.convert.specs.Contract.{ConversionAnswered};
 
-use answer::stands;
 use checker::check_with;
-use following::nodes::{Nodes, Origins};
-use following::values::ValueCells;
+use following::lent::LentWorkspace;
 use record::Form;
 use rewriting::rewrite;
-use writing_answer::{WritingOutcome, refusal};
+use tables::lent::LentTables;
+use writing_answer::{NotWritten, WritingReason, standing};
 
 // The conversion with a workspace for the check, which then takes the days of an old file.
 fn convert_with(
     form: Form,
     file: &[u8],
-    symbols: &mut [u16],
-    rows: &mut [u16],
-    clauses: &mut [u16],
-    bindings: &mut [u16],
-    nodes: &mut Nodes,
-    origins: &mut Origins,
-    values: &mut ValueCells,
+    tables: &mut LentTables,
+    workspace: &mut LentWorkspace,
     output: &mut [u8],
-) -> WritingOutcome
+) -> Result<u32, NotWritten>
     requires { 65536 ≤ length output.old }
-    ensures { ConversionAnswered (in_form form file.now) (tables_with symbols.old rows.old clauses.old bindings.old) output.old result (tables_with symbols.new rows.new clauses.new bindings.new) output.new }
+    ensures answered { ConversionAnswered (in_form form file.now) (tables_of tables.old) output.old result (tables_of tables.new) output.new }
+    ensures same_tables { SameTables tables.old tables.new }
 {
-    let a = check_with(
-        form, 0, file, symbols, rows, clauses, bindings, nodes, origins, values,
-    );
-    let v = a.verdict;
-    if !stands(v) {
-        return refusal(v, 1);
-    }
-    rewrite(form, file, nodes, output)
+    let a = check_with(form, 0, file, tables, workspace);
+    standing(a.verdict, 1)?;
+    rewrite(form, file, workspace.nodes, output)
 }
 
 // A file of a form converted to the other one. The output is written only if the conversion goes through, and not past the converted file's end; a short output
@@ -47,58 +38,42 @@ fn convert_with(
 fn convert(
     form: Form,
     file: &[u8],
-    symbols: &mut [u16],
-    rows: &mut [u16],
-    clauses: &mut [u16],
-    bindings: &mut [u16],
+    tables: &mut LentTables,
     output: &mut [u8],
-) -> WritingOutcome
-    ensures { ConversionAnswered (in_form form file.now) (tables_with symbols.old rows.old clauses.old bindings.old) output.old result (tables_with symbols.new rows.new clauses.new bindings.new) output.new }
+) -> Result<u32, NotWritten>
+    ensures answered { ConversionAnswered (in_form form file.now) (tables_of tables.old) output.old result (tables_of tables.new) output.new }
+    ensures same_tables { SameTables tables.old tables.new }
 {
     if output.len() < 65536 {
-        return WritingOutcome::Refused(2, 0, 0);
+        return Err(NotWritten {
+            reason: WritingReason::ShortOutput,
+            file: 0,
+            at: 0,
+        });
     }
     let mut nodes = [0u16; 32768];
     let mut origins = [0u16; 32768];
     let mut values = [0u16; 524416];
-    convert_with(
-        form,
-        file,
-        symbols,
-        rows,
-        clauses,
-        bindings,
-        &mut nodes,
-        &mut origins,
-        &mut values,
-        output,
-    )
+    let mut workspace = LentWorkspace {
+        nodes: &mut nodes,
+        origins: &mut origins,
+        values: &mut values,
+    };
+    convert_with(form, file, tables, &mut workspace, output)
 }
 
 // An old file in the new form.
-pub fn to_new(
-    file: &[u8],
-    symbols: &mut [u16],
-    rows: &mut [u16],
-    clauses: &mut [u16],
-    bindings: &mut [u16],
-    output: &mut [u8],
-) -> WritingOutcome
-    ensures { ConversionAnswered (old_file file.now) (tables_with symbols.old rows.old clauses.old bindings.old) output.old result (tables_with symbols.new rows.new clauses.new bindings.new) output.new }
+pub fn to_new(file: &[u8], tables: &mut LentTables, output: &mut [u8]) -> Result<u32, NotWritten>
+    ensures answered { ConversionAnswered (old_file file.now) (tables_of tables.old) output.old result (tables_of tables.new) output.new }
+    ensures same_tables { SameTables tables.old tables.new }
 {
-    convert(Form::Old, file, symbols, rows, clauses, bindings, output)
+    convert(Form::Old, file, tables, output)
 }
 
 // A new file in the old form.
-pub fn to_old(
-    file: &[u8],
-    symbols: &mut [u16],
-    rows: &mut [u16],
-    clauses: &mut [u16],
-    bindings: &mut [u16],
-    output: &mut [u8],
-) -> WritingOutcome
-    ensures { ConversionAnswered (new_file file.now) (tables_with symbols.old rows.old clauses.old bindings.old) output.old result (tables_with symbols.new rows.new clauses.new bindings.new) output.new }
+pub fn to_old(file: &[u8], tables: &mut LentTables, output: &mut [u8]) -> Result<u32, NotWritten>
+    ensures answered { ConversionAnswered (new_file file.now) (tables_of tables.old) output.old result (tables_of tables.new) output.new }
+    ensures same_tables { SameTables tables.old tables.new }
 {
-    convert(Form::New, file, symbols, rows, clauses, bindings, output)
+    convert(Form::New, file, tables, output)
 }

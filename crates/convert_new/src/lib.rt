@@ -16,7 +16,7 @@ use record::{Form, kind, record_count, record_part};
 fn kept(part: &[u8]) -> usize
     ensures { result ≡ one (is_kept (decoded part.now)) }
 {
-    if kind(part) == 8 { 0 } else { 1 }
+    (kind(part) != 8) as usize
 }
 
 // How many records the file has in the new form: all but the windows.
@@ -25,10 +25,8 @@ pub fn new_count(file: &[u8]) -> usize
 {
     let count = record_count(Form::Old, file);
     let mut n: usize = 0;
-    let mut k: usize = 0;
-    while k < count {
+    for k in 0..count {
         n += kept(record_part(Form::Old, file, k));
-        k += 1;
     }
     n
 }

@@ -41,12 +41,10 @@ pub fn write_new(file: &[u8], days: &[u16], output: &mut [u8]) -> usize
     let count = record_count(Form::Old, file);
     let mut next: usize = 0;
     let mut n: usize = 0;
-    let mut k: usize = 0;
-    while k < count {
+    for k in 0..count {
         let part = record_part(Form::Old, file, k);
         next = write_next(part, n, days, output, next);
         n = clauses_after(n, part);
-        k += 1;
     }
     next
 }

@@ -16,20 +16,14 @@ use record::{Form, field, kind, record_count, record_part};
 pub fn is_dated(part: &[u8]) -> bool
     ensures { result ≡ is_dated (decoded_in New part.now) }
 {
-    if kind(part) != 4 {
-        return false;
-    }
-    if field(part, 7) != 0 {
-        return true;
-    }
-    field(part, 8) != 65535
+    kind(part) == 4 && (field(part, 7) != 0 || field(part, 8) != 65535)
 }
 
 // 1 for such a clause, and 0 for every other record.
 fn dated(part: &[u8]) -> usize
     ensures { result ≡ one (is_dated (decoded_in New part.now)) }
 {
-    if is_dated(part) { 1 } else { 0 }
+    is_dated(part) as usize
 }
 
 // How many records the file has in the old form: all, and one more for each clause that is not always in force.
@@ -38,10 +32,8 @@ pub fn old_count(file: &[u8]) -> usize
 {
     let count = record_count(Form::New, file);
     let mut n: usize = count;
-    let mut k: usize = 0;
-    while k < count {
+    for k in 0..count {
         n += dated(record_part(Form::New, file, k));
-        k += 1;
     }
     n
 }

@@ -43,12 +43,10 @@ pub fn write_old(file: &[u8], output: &mut [u8]) -> usize
     let count = record_count(Form::New, file);
     let mut next: usize = 0;
     let mut n: usize = 0;
-    let mut k: usize = 0;
-    while k < count {
+    for k in 0..count {
         let part = record_part(Form::New, file, k);
         next = write_next(part, n, output, next);
         n = clauses_after(n, part);
-        k += 1;
     }
     next
 }

@@ -3,8 +3,7 @@ use Rattle.std.specs.Prelude.{◌≡◌, ℕ}
 use Rattle.record.specs.Record.{File}
 use Rattle.verdict.specs.Tables.{Tables, tables_after}
 use Rattle.coverings.specs.Answering.{Answer, ten_numbers, AnswerPromised}
-use Rattle.comparing.specs.Given.{covering_given}
-use Rattle.comparing.specs.declared.covering.Covering.{Covering}
+use Rattle.comparing.specs.Given.{Covering, covering_given}
 
 pub record CoversAnswered (file : File) (before : Tables) (c d : ℕ) (r : Covering) (after : Tables) : Type 0 where
   -- The answer, by its ten numbers, and what is promised of it.

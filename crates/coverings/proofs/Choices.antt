@@ -13,12 +13,12 @@ use borrow.Author.Tests.{eqb-true, eqb-false, eq-eqb}
 use Rattle.record.specs.Record.{pick}
 use Rattle.unification.specs.Nodes.{part, HasRow}
 use Rattle.unification.specs.Term.{Term, var}
-use Rattle.unification.proofs.Tests.{from_t, both_true, true_not_false, some_not_none, some_injective}
+use Rattle.unification.proofs.Tests.{from_t, both_true, some_not_none, some_injective}
 use Rattle.derivation.specs.Derivation.{RowLiteral, literal_of, numbered}
 use Rattle.demands.proofs.ExistenceTests.{numbered_within}
 use Rattle.coverings.specs.Choosing.{numbers_from}
 use Rattle.coverings.specs.Covering.{Substitution, Turns, Works, NotAfter}
-use Rattle.matching.specs.Pairs.{bit, is_pair, left_number, right_number, Pairs, agree_at, agree_from, go_together, table_filled}
+use Rattle.matching.specs.Pairs.{is_pair, left_number, right_number, Pairs, agree_at, agree_from, go_together, table_filled}
 use Rattle.matching.specs.Searching.{pair_chosen, fits_from, searched}
 use Rattle.coverings.proofs.Earliest.{NotAfterFrom, FitFrom, Came, search_came}
 use Rattle.coverings.proofs.PairLaws.{together, AllCame}
@@ -62,41 +62,37 @@ one_agree a b h = try (eqb a 0) refl (eqb b 0) refl
     try false e true f = refl
     try false e false f = eq-eqb a b (full a b (eqb-false a 0 e) (eqb-false b 0 f) h)
 
-fits_each : (T X : List ℕ) (i m j : ℕ) → fits_from T X i m j ≡ true → (u : ℕ) → j ≤ u → u < j + m → eqb (get_or T (64 * pair_chosen X u + pair_chosen X i) 0) 1 ≡ true
+fits_each : (T : List Bool) (X : List ℕ) (i m j : ℕ) → fits_from T X i m j ≡ true → (u : ℕ) → j ≤ u → u < j + m → get_or T (64 * pair_chosen X u + pair_chosen X i) false ≡ true
 fits_each T X i zero j h u a b = absurd (omega arith)
-fits_each T X i (suc m) j h u a b = try (same_or_not u j) (both_true (eqb (get_or T (64 * pair_chosen X j + pair_chosen X i) 0) 1) (fits_from T X i m (suc j)) h) (λ g c. fits_each T X i m (suc j) g u c (omega arith))
+fits_each T X i (suc m) j h u a b = try (same_or_not u j) (both_true (get_or T (64 * pair_chosen X j + pair_chosen X i) false) (fits_from T X i m (suc j)) h) (λ g c. fits_each T X i m (suc j) g u c (omega arith))
   where
-    try : (u ≡ j) ⊎ ¬ (u ≡ j) → (eqb (get_or T (64 * pair_chosen X j + pair_chosen X i) 0) 1 ≡ true) × (fits_from T X i m (suc j) ≡ true)
-        → (fits_from T X i m (suc j) ≡ true → suc j ≤ u → eqb (get_or T (64 * pair_chosen X u + pair_chosen X i) 0) 1 ≡ true) → eqb (get_or T (64 * pair_chosen X u + pair_chosen X i) 0) 1 ≡ true
-    try (inl e) g ih = subst (λ (z : ℕ). eqb (get_or T (64 * pair_chosen X z + pair_chosen X i) 0) 1 ≡ true) (sym e) g.0
+    try : (u ≡ j) ⊎ ¬ (u ≡ j) → (get_or T (64 * pair_chosen X j + pair_chosen X i) false ≡ true) × (fits_from T X i m (suc j) ≡ true)
+        → (fits_from T X i m (suc j) ≡ true → suc j ≤ u → get_or T (64 * pair_chosen X u + pair_chosen X i) false ≡ true) → get_or T (64 * pair_chosen X u + pair_chosen X i) false ≡ true
+    try (inl e) g ih = subst (λ (z : ℕ). get_or T (64 * pair_chosen X z + pair_chosen X i) false ≡ true) (sym e) g.0
     try (inr n) g ih = ih g.1 (omega arith)
 
-each_fits : (T X : List ℕ) (i m j : ℕ) → ((u : ℕ) → j ≤ u → u < j + m → eqb (get_or T (64 * pair_chosen X u + pair_chosen X i) 0) 1 ≡ true) → fits_from T X i m j ≡ true
+each_fits : (T : List Bool) (X : List ℕ) (i m j : ℕ) → ((u : ℕ) → j ≤ u → u < j + m → get_or T (64 * pair_chosen X u + pair_chosen X i) false ≡ true) → fits_from T X i m j ≡ true
 each_fits T X i zero j h = refl
-each_fits T X i (suc m) j h = together (eqb (get_or T (64 * pair_chosen X j + pair_chosen X i) 0) 1) (fits_from T X i m (suc j)) (h j (omega arith) (omega arith)) (each_fits T X i m (suc j) (λ u a b. h u (omega arith) (omega arith)))
+each_fits T X i (suc m) j h = together (get_or T (64 * pair_chosen X j + pair_chosen X i) false) (fits_from T X i m (suc j)) (h j (omega arith) (omega arith)) (each_fits T X i m (suc j) (λ u a b. h u (omega arith) (omega arith)))
 
 -- The table has for every two pairs whether they go together.
-pub table_length : (F W : List ℕ) (k : ℕ) (T : List ℕ) → length (table_filled F W k T) ≡ length T
+pub table_length : (F : List Bool) (W : List ℕ) (k : ℕ) (T : List Bool) → length (table_filled F W k T) ≡ length T
 unfolding table_filled
 table_length F W zero T = refl
-table_length F W (suc x) T = length-set (table_filled F W x T) x (bit (go_together F W (x / 64) (x % 64))) ∙ table_length F W x T
+table_length F W (suc x) T = length-set (table_filled F W x T) x (go_together F W (x / 64) (x % 64)) ∙ table_length F W x T
 
-pub table_cell : (F W : List ℕ) (k : ℕ) (T : List ℕ) → k ≤ length T → (x : ℕ) → x < k → get_or (table_filled F W k T) x 0 ≡ bit (go_together F W (x / 64) (x % 64))
+pub table_cell : (F : List Bool) (W : List ℕ) (k : ℕ) (T : List Bool) → k ≤ length T → (x : ℕ) → x < k → get_or (table_filled F W k T) x false ≡ go_together F W (x / 64) (x % 64)
 unfolding table_filled
 table_cell F W zero T l x b = absurd (omega arith)
 table_cell F W (suc k) T l x b = try (same_or_not x k) (λ c. table_cell F W k T (omega arith) x c)
   where
-    try : (x ≡ k) ⊎ ¬ (x ≡ k) → (x < k → get_or (table_filled F W k T) x 0 ≡ bit (go_together F W (x / 64) (x % 64)))
-        → get_or (set (table_filled F W k T) k (bit (go_together F W (k / 64) (k % 64)))) x 0 ≡ bit (go_together F W (x / 64) (x % 64))
+    try : (x ≡ k) ⊎ ¬ (x ≡ k) → (x < k → get_or (table_filled F W k T) x false ≡ go_together F W (x / 64) (x % 64))
+        → get_or (set (table_filled F W k T) k (go_together F W (k / 64) (k % 64))) x false ≡ go_together F W (x / 64) (x % 64)
     try (inl e) ih =
-        ap (λ (z : ℕ). get_or (set (table_filled F W k T) k (bit (go_together F W (k / 64) (k % 64)))) z 0) e
-        ∙ get_or-set_same (table_filled F W k T) k (bit (go_together F W (k / 64) (k % 64))) 0 (omega (arith, table_length F W k T))
-        ∙ ap (λ (z : ℕ). bit (go_together F W (z / 64) (z % 64))) (sym e)
-    try (inr n) ih = get_or-set_other (table_filled F W k T) k x (bit (go_together F W (k / 64) (k % 64))) 0 n ∙ ih (omega arith)
-
-bit_true : (b : Bool) → eqb (bit b) 1 ≡ true → b ≡ true
-bit_true true h = refl
-bit_true false h = absurd (true_not_false h refl)
+        ap (λ (z : ℕ). get_or (set (table_filled F W k T) k (go_together F W (k / 64) (k % 64))) z false) e
+        ∙ get_or-set_same (table_filled F W k T) k (go_together F W (k / 64) (k % 64)) false (omega (arith, table_length F W k T))
+        ∙ ap (λ (z : ℕ). go_together F W (z / 64) (z % 64)) (sym e)
+    try (inr n) ih = get_or-set_other (table_filled F W k T) k x (go_together F W (k / 64) (k % 64)) false n ∙ ih (omega arith)
 
 -- ── Choices as lists ──
 
@@ -154,8 +150,8 @@ pub record LiteralsAs (x : ℕ → ℕ) (k : ℕ) (C : List RowLiteral) : Type 0
 
 module _ (N O : List ℕ) (term : ℕ → Term ℕ) (H : TermsOf N term) (c d lefts rights : ℕ) (rows_left : (i : ℕ) → i < lefts → HasRow N (part O c i / 2)) (rowsRight : (i : ℕ) → i < rights → HasRow N (part O d i / 2))
     (fewC : lefts ≤ 7) (fewD : rights ≤ 7) (P : Pairs) (A : AllCame N O term H c d lefts rights rows_left rowsRight 64 P)
-    (T : List ℕ) (cell : (x : ℕ) → x < 4096 → get_or T x 0 ≡ bit (go_together P.found P.notes (x / 64) (x % 64))) where
-  abbrev F : List ℕ
+    (T : List Bool) (cell : (x : ℕ) → x < 4096 → get_or T x false ≡ go_together P.found P.notes (x / 64) (x % 64)) where
+  abbrev F : List Bool
   F = P.found
 
   abbrev W : List ℕ
@@ -165,30 +161,30 @@ module _ (N O : List ℕ) (term : ℕ → Term ℕ) (H : TermsOf N term) (c d le
   abbrev TurnsPair : Substitution → ℕ → Type 0
   TurnsPair σ p = Turns term σ (literal_of (left_number O c p)) (literal_of (right_number O d p))
 
-  together_cell : (p q : ℕ) → p < 64 → q < 64 → get_or T (64 * p + q) 0 ≡ bit (go_together F W p q)
+  together_cell : (p q : ℕ) → p < 64 → q < 64 → get_or T (64 * p + q) false ≡ go_together F W p q
   together_cell p q l m =
       let a : (64 * p + q) / 64 ≡ p = omega arith in
       let b : (64 * p + q) % 64 ≡ q = omega arith in
-      cell (64 * p + q) (omega arith) ∙ ap₂ (λ (x y : ℕ). bit (go_together F W x y)) a b
+      cell (64 * p + q) (omega arith) ∙ ap₂ (go_together F W) a b
 
   -- What it is to go together.
   pub record Together (p q : ℕ) : Type 0 where
-    pub first : eqb (get_or P.found p 0) 1 ≡ true
-    pub second : eqb (get_or P.found q 0) 1 ≡ true
+    pub first : get_or P.found p false ≡ true
+    pub second : get_or P.found q false ≡ true
     pub agree : (v w x : ℕ) → v < 64 → get_or P.notes (64 * p + v) 0 ≡ suc w → get_or P.notes (64 * q + v) 0 ≡ suc x → w ≡ x
 
-  cell_together : (p q : ℕ) → p < 64 → q < 64 → eqb (get_or T (64 * p + q) 0) 1 ≡ true → Together p q
+  cell_together : (p q : ℕ) → p < 64 → q < 64 → get_or T (64 * p + q) false ≡ true → Together p q
   cell_together p q l m h =
-      let g = bit_true (go_together F W p q) (ap (λ (n : ℕ). eqb n 1) (sym (together_cell p q l m)) ∙ h) in
-      let a = both_true (eqb (get_or F p 0) 1) (eqb (get_or F q 0) 1 && agree_from W p q 64 0) g in
-      let b = both_true (eqb (get_or F q 0) 1) (agree_from W p q 64 0) a.1 in
+      let g : go_together F W p q ≡ true = sym (together_cell p q l m) ∙ h in
+      let a = both_true (get_or F p false) (get_or F q false && agree_from W p q 64 0) g in
+      let b = both_true (get_or F q false) (agree_from W p q 64 0) a.1 in
       record { first = a.0; second = b.0; agree = λ v w x k e f. agree_one (get_or W (64 * p + v) 0) (get_or W (64 * q + v) 0) w x e f (agree_each W p q 64 0 b.1 v (omega arith) (omega arith)) }
 
-  together_is : (p q : ℕ) → p < 64 → q < 64 → Together p q → eqb (get_or T (64 * p + q) 0) 1 ≡ true
+  together_is : (p q : ℕ) → p < 64 → q < 64 → Together p q → get_or T (64 * p + q) false ≡ true
   together_is p q l m G =
-      ap (λ (n : ℕ). eqb n 1) (together_cell p q l m)
-      ∙ ap (λ (b : Bool). eqb (bit b) 1) (together (eqb (get_or F p 0) 1) (eqb (get_or F q 0) 1 && agree_from W p q 64 0) G.first (together (eqb (get_or F q 0) 1) (agree_from W p q 64 0) G.second
-      (each_agree W p q 64 0 (λ u a b. one_agree (get_or W (64 * p + u) 0) (get_or W (64 * q + u) 0) (λ w x e f. G.agree u w x (omega arith) e f)))))
+      together_cell p q l m
+      ∙ together (get_or F p false) (get_or F q false && agree_from W p q 64 0) G.first (together (get_or F q false) (agree_from W p q 64 0) G.second
+      (each_agree W p q 64 0 (λ u a b. one_agree (get_or W (64 * p + u) 0) (get_or W (64 * q + u) 0) (λ w x e f. G.agree u w x (omega arith) e f))))
 
   -- The image noted for a variable, or what it had.
   abbrev note_or : ℕ → Term ℕ → Term ℕ
@@ -238,10 +234,10 @@ module _ (N O : List ℕ) (term : ℕ → Term ℕ) (H : TermsOf N term) (c d le
         (ap (λ (n : ℕ). ltb n lefts) e ∙ from_t (ltb i lefts) (lt→ltb i lefts l))
         (together (leb 1 (pair_chosen Z i % 8)) (leb (pair_chosen Z i % 8) rights) (ap (λ (n : ℕ). leb 1 n) f ∙ from_t (leb 1 (get_or Z i 0)) (le→leb 1 (get_or Z i 0) a)) (ap (λ (n : ℕ). leb n rights) f ∙ from_t (leb (get_or Z i 0) rights) (le→leb (get_or Z i 0) rights b)))
 
-    is_found : (i : ℕ) → i < lefts → eqb (get_or P.found (pair_chosen Z i) 0) 1 ≡ true
-    is_found i l = try (eqb (get_or P.found (pair_chosen Z i) 0) 1) refl
+    is_found : (i : ℕ) → i < lefts → get_or P.found (pair_chosen Z i) false ≡ true
+    is_found i l = try (get_or P.found (pair_chosen Z i) false) refl
       where
-        try : (b : Bool) → eqb (get_or P.found (pair_chosen Z i) 0) 1 ≡ b → b ≡ true
+        try : (b : Bool) → get_or P.found (pair_chosen Z i) false ≡ b → b ≡ true
         try true q = refl
         try false q = absurd ((A.came (pair_chosen Z i) (low i l) (low i l)).clash q (is_pair_lem i l) σ (turn i l).2)
 

@@ -5,7 +5,6 @@ use mathlib.Core.Bool.{Bool, true, false, ◌&&◌}
 use mathlib.Core.List.{List}
 use Prim.Native.Nat.{ℕ, zero, suc, ◌+◌, ◌*◌, ◌≤◌, ◌<◌}
 use native.Mathlib.Omega.{arith}
-use lib.Dec.{eqb}
 use lib.ListN.{length, get_or, set, length-set}
 use lib.Seq.{get_or-set_same, get_or-set_other}
 use Rattle.record.specs.Record.{pick}
@@ -22,13 +21,13 @@ abbrev pub NotAfterFrom : ℕ → ℕ → List ℕ → List ℕ → Type 0
 NotAfterFrom i zero Y Z = Unit {0}
 NotAfterFrom i (suc k) Y Z = (get_or Y i 0 < get_or Z i 0) ⊎ ((get_or Y i 0 ≡ get_or Z i 0) × NotAfterFrom (suc i) k Y Z)
 
-module _ (T : List ℕ) (rights : ℕ) where
+module _ (T : List Bool) (rights : ℕ) where
   -- Whether a number fits depends on those up to it alone.
   fits_from_same : (X Z : List ℕ) (i m j : ℕ) → j + m ≤ suc i → SameTo (suc i) X Z → fits_from T X i m j ≡ fits_from T Z i m j
   fits_from_same X Z i zero j l h = refl
   fits_from_same X Z i (suc m) j l h =
-      ap₂ (λ (p q : ℕ). eqb (get_or T (64 * (8 * j + p) + (8 * i + q)) 0) 1 && fits_from T X i m (suc j)) (h j (omega arith)) (h i (omega arith))
-      ∙ ap (λ (b : Bool). eqb (get_or T (64 * pair_chosen Z j + pair_chosen Z i) 0) 1 && b) (fits_from_same X Z i m (suc j) (omega arith) h)
+      ap₂ (λ (p q : ℕ). get_or T (64 * (8 * j + p) + (8 * i + q)) false && fits_from T X i m (suc j)) (h j (omega arith)) (h i (omega arith))
+      ∙ ap (λ (b : Bool). get_or T (64 * pair_chosen Z j + pair_chosen Z i) false && b) (fits_from_same X Z i m (suc j) (omega arith) h)
 
   fits_same : (X Z : List ℕ) (i : ℕ) → SameTo (suc i) X Z → fits T X i ≡ fits T Z i
   fits_same X Z i h = fits_from_same X Z i (suc i) 0 (omega arith) h

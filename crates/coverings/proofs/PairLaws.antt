@@ -16,17 +16,13 @@ use Rattle.unification.proofs.Tests.{to_t, both_true, true_not_false}
 use Rattle.derivation.specs.Derivation.{literal_of}
 use Rattle.coverings.specs.Covering.{Substitution, Turns}
 use Rattle.images.specs.Matching.{atoms_matched}
-use Rattle.matching.specs.Pairs.{bit, is_pair, left_number, right_number, numbers_matched, pair_matched, Pairs, found_pair, pairs_matched}
+use Rattle.matching.specs.Pairs.{is_pair, left_number, right_number, numbers_matched, pair_matched, Pairs, found_pair, pairs_matched}
 use Rattle.coverings.proofs.Solutions.{TermsOf, Noted, AtomsCame, atoms_came}
 use Rattle.coverings.proofs.Taking.{same_or_not, Holds}
 
 -- Tests as what they are for.
 pub together : (a b : Bool) → a ≡ true → b ≡ true → (a && b) ≡ true
 together a b p q = rw (p, q) refl
-
-bit_one : (b : Bool) → eqb (bit b) 1 ≡ b
-bit_one true = refl
-bit_one false = refl
 
 module _ (N O : List ℕ) (term : ℕ → Term ℕ) (H : TermsOf N term) (c d lefts rights : ℕ) (rows_left : (i : ℕ) → i < lefts → HasRow N (part O c i / 2)) (rowsRight : (i : ℕ) → i < rights → HasRow N (part O d i / 2)) where
   -- The literals of a pair, and that σ turns the one into the other.
@@ -118,7 +114,7 @@ module _ (N O : List ℕ) (term : ℕ → Term ℕ) (H : TermsOf N term) (c d le
     pub notes_long : length P.notes ≡ 4096
     pub there : Holds (λ z w. HasRow N w) P.notes
     pub clear : (z : ℕ) → 64 * k ≤ z → get_or P.notes z 0 ≡ 0
-    pub came : (p : ℕ) (l : p < 64) → p < k → PairCame p l (eqb (get_or P.found p 0) 1) P.notes
+    pub came : (p : ℕ) (l : p < 64) → p < k → PairCame p l (get_or P.found p false) P.notes
 
   pub pairs_came : (k : ℕ) → k ≤ 64 → (P : Pairs) → AllCame 0 P → AllCame k (pairs_matched N O c d lefts rights k P)
   unfolding pairs_matched
@@ -130,16 +126,16 @@ module _ (N O : List ℕ) (term : ℕ → Term ℕ) (H : TermsOf N term) (c d le
         where
           with' : (R : Bool × List ℕ) → OneCame k (omega arith) Q.notes R → AllCame (suc k) (found_pair k Q.found R)
           with' R C = record {
-            found_long = length-set Q.found k (bit R.0) ∙ B.found_long;
+            found_long = length-set Q.found k R.0 ∙ B.found_long;
             notes_long = C.long;
             there = C.there;
             clear = λ z l. C.kept z (inr (omega arith)) ∙ B.clear z (omega arith);
             came = λ p l m. each p l m (same_or_not p k);
           }
             where
-              each : (p : ℕ) (l : p < 64) → p < suc k → (p ≡ k) ⊎ ¬ (p ≡ k) → PairCame p l (eqb (get_or (set Q.found k (bit R.0)) p 0) 1) R.1
+              each : (p : ℕ) (l : p < 64) → p < suc k → (p ≡ k) ⊎ ¬ (p ≡ k) → PairCame p l (get_or (set Q.found k R.0) p false) R.1
               each p l m (inl q) =
-                  let e : eqb (get_or (set Q.found k (bit R.0)) p 0) 1 ≡ R.0 = ap (λ (z : ℕ). eqb (get_or (set Q.found k (bit R.0)) z 0) 1) q ∙ ap (λ (z : ℕ). eqb z 1) (get_or-set_same Q.found k (bit R.0) 0 (omega (arith, B.found_long))) ∙ bit_one R.0 in
+                  let e : get_or (set Q.found k R.0) p false ≡ R.0 = ap (λ (z : ℕ). get_or (set Q.found k R.0) z false) q ∙ get_or-set_same Q.found k R.0 false (omega (arith, B.found_long)) in
                   subst (λ (z : Bool). PairCame p l z R.1) (sym e) (moved p q l)
                 where
                   moved : (p : ℕ) → p ≡ k → (l : p < 64) → PairCame p l R.0 R.1
@@ -150,5 +146,5 @@ module _ (N O : List ℕ) (term : ℕ → Term ℕ) (H : TermsOf N term) (c d le
                     clash = λ t o σ s. C.came.clash t (rw q at o) σ (rw q at s);
                   }
               each p l m (inr n) =
-                  let e : eqb (get_or Q.found p 0) 1 ≡ eqb (get_or (set Q.found k (bit R.0)) p 0) 1 = ap (λ (z : ℕ). eqb z 1) (sym (get_or-set_other Q.found k p (bit R.0) 0 n)) in
-                  subst (λ (z : Bool). PairCame p l z R.1) e (came_same p l (eqb (get_or Q.found p 0) 1) Q.notes R.1 (λ z a u. sym (C.kept z (inl (omega arith)))) (B.came p l (omega arith)))
+                  let e : get_or Q.found p false ≡ get_or (set Q.found k R.0) p false = sym (get_or-set_other Q.found k p R.0 false n) in
+                  subst (λ (z : Bool). PairCame p l z R.1) e (came_same p l (get_or Q.found p false) Q.notes R.1 (λ z a u. sym (C.kept z (inl (omega arith)))) (B.came p l (omega arith)))

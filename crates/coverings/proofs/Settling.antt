@@ -62,7 +62,7 @@ module _ (N O : List ℕ) (term : ℕ → Term ℕ) (H : TermsOf N term) (c d le
     pub none : R.0 ≡ false → (τ : Substitution) (ms : List ℕ) → Works term τ C D ms → ⊥
     pub past : (j : ℕ) → lefts ≤ j → get_or R.1 j 0 ≡ 0
 
-  none_yet : (F W : List ℕ) → length F ≡ 64 → length W ≡ 4096 → ((z : ℕ) → get_or W z 0 ≡ 0) → AllCame N O term H c d lefts rights rows_left rowsRight 0 (record { found = F; notes = W })
+  none_yet : (F : List Bool) (W : List ℕ) → length F ≡ 64 → length W ≡ 4096 → ((z : ℕ) → get_or W z 0 ≡ 0) → AllCame N O term H c d lefts rights rows_left rowsRight 0 (record { found = F; notes = W })
   none_yet F W l m h = record {
     found_long = l;
     notes_long = m;
@@ -71,7 +71,7 @@ module _ (N O : List ℕ) (term : ℕ → Term ℕ) (H : TermsOf N term) (c d le
     came = λ p b k. absurd (omega arith);
   }
 
-  settled_from : (F W T X : List ℕ) → length F ≡ 64 → length W ≡ 4096 → ((z : ℕ) → get_or W z 0 ≡ 0) → length T ≡ 4096 → length X ≡ 8 → ((z : ℕ) → get_or X z 0 ≡ 0) → Settled (comparison_from N O c d lefts rights F W T X)
+  settled_from : (F : List Bool) (W : List ℕ) (T : List Bool) (X : List ℕ) → length F ≡ 64 → length W ≡ 4096 → ((z : ℕ) → get_or W z 0 ≡ 0) → length T ≡ 4096 → length X ≡ 8 → ((z : ℕ) → get_or X z 0 ≡ 0) → Settled (comparison_from N O c d lefts rights F W T X)
   settled_from F W T X l m h t x z = with_pairs (pairs_matched N O c d lefts rights 64 (record { found = F; notes = W })) (pairs_came N O term H c d lefts rights rows_left rowsRight 64 (omega arith) (record { found = F; notes = W }) (none_yet F W l m h))
     where
       with_pairs : (P : Pairs) → AllCame N O term H c d lefts rights rows_left rowsRight 64 P → Settled (searched (table_filled P.found P.notes 4096 T) rights lefts 0 X)
@@ -86,7 +86,7 @@ module _ (N O : List ℕ) (term : ℕ → Term ℕ) (H : TermsOf N term) (c d le
 
   pub settled : Settled (comparison N O c d lefts rights)
   unfolding comparison
-  settled = settled_from (replicate 64 0) (replicate 4096 0) (replicate 4096 0) (replicate 8 0) (length-replicate {A = ℕ} 64 0) (length-replicate {A = ℕ} 4096 0) (zeros_read 4096) (length-replicate {A = ℕ} 4096 0) (length-replicate {A = ℕ} 8 0) (zeros_read 8)
+  settled = settled_from (replicate 64 false) (replicate 4096 0) (replicate 4096 false) (replicate 8 0) (length-replicate {A = Bool} 64 false) (length-replicate {A = ℕ} 4096 0) (zeros_read 4096) (length-replicate {A = Bool} 4096 false) (length-replicate {A = ℕ} 8 0) (zeros_read 8)
 
 -- ── The answer that is due ──
 

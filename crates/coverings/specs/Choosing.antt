@@ -14,10 +14,10 @@ comparison_numbers (true, X) = 1 ∷ 0 ∷ 0 ∷ numbers_from X 0 7
 comparison_numbers (false, X) = 0 ∷ 0 ∷ 0 ∷ replicate 7 0
 
 -- The pairs matched, the table filled and searched, begun on tables that are lent; and on clear ones.
-abbrev pub comparison_from : List ℕ → List ℕ → ℕ → ℕ → ℕ → ℕ → List ℕ → List ℕ → List ℕ → List ℕ → Bool × List ℕ
+abbrev pub comparison_from : List ℕ → List ℕ → ℕ → ℕ → ℕ → ℕ → List Bool → List ℕ → List Bool → List ℕ → Bool × List ℕ
 comparison_from N O c d lefts rights F W T X =
     let P = pairs_matched N O c d lefts rights 64 (record { found = F; notes = W }) in
     searched (table_filled P.found P.notes 4096 T) rights lefts 0 X
 
 unfoldable pub comparison : List ℕ → List ℕ → ℕ → ℕ → ℕ → ℕ → Bool × List ℕ
-comparison N O c d lefts rights = comparison_from N O c d lefts rights (replicate 64 0) (replicate 4096 0) (replicate 4096 0) (replicate 8 0)
+comparison N O c d lefts rights = comparison_from N O c d lefts rights (replicate 64 false) (replicate 4096 0) (replicate 4096 false) (replicate 8 0)

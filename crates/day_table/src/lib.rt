@@ -23,10 +23,8 @@ fn put_days(n: usize, first: u16, last: u16, days: &mut [u16])
 fn put_always(days: &mut [u16])
     ensures { days.new ≡ always_below 4096 days.old }
 {
-    let mut n: usize = 0;
-    while n < 4096 {
+    for n in 0..4096 {
         put_days(n, 0, 65535, days);
-        n += 1;
     }
 }
 
@@ -49,10 +47,8 @@ fn put_windows(file: &[u8], days: &mut [u16])
     ensures { days.new ≡ with_windows (records (old_file file.now)) days.old }
 {
     let count = record_count(Form::Old, file);
-    let mut k: usize = 0;
-    while k < count {
+    for k in 0..count {
         put_window(record_part(Form::Old, file, k), days);
-        k += 1;
     }
 }
 

@@ -21,9 +21,9 @@ use Rattle.record.specs.Record.{File}
 use Rattle.units.proofs.UnitSizes.{pieces_always}
 use Rattle.units.proofs.UnitWriting.{after_again}
 use Rattle.digests.specs.Digest.{DigestOf, DigestAfter}
-use Rattle.hash.specs.Hash.{start, hash_bytes}
+use Rattle.hash.specs.Hash.{start, hash_byte, hash_bytes}
 use Rattle.digests.specs.declared.Digest.{Digest}
-use Rattle.hash.proofs.HashLaws.{bytes_append}
+use Rattle.std.proofs.lemmas.List.Sums.{fold-append}
 
 -- A piece that was written into an output with room for the longest line: its bytes, and where it ended.
 record Ended (naming : Naming) (day : ℕ) (F : File) (L : Lengths) (n : ℕ) (output output' : List ℕ) (p : Piece) : Type 0 where
@@ -46,7 +46,6 @@ pub record Taken (naming : Naming) (day : ℕ) (F : File) (L : Lengths) (n size 
   pub hashes : hash ≡ hash_bytes start text
 
 taken_none : (naming : Naming) (day : ℕ) (F : File) (L : Lengths) → Taken naming day F L 0 0 start
-unfolding hash_bytes
 taken_none naming day F L = record { text = []; onward = λ more P. P; sizes = refl; hashes = refl }
 
 module _ {naming : Naming} {day : ℕ} {F : File} {L : Lengths} {n size hash : ℕ} (T : Taken naming day F L n size hash) {output output' : List ℕ} {p : Piece} (E : Ended naming day F L n output output' p) {hash' : ℕ} (h : hash' ≡ hash_bytes hash (take p.written output')) where
@@ -58,7 +57,7 @@ module _ {naming : Naming} {day : ℕ} {F : File} {L : Lengths} {n size hash : �
       h
       ∙ ap (hash_bytes hash) E.bytes
       ∙ ap (λ (k : ℕ). hash_bytes k (piece_bytes (line_of naming) day F L n 131072)) T.hashes
-      ∙ sym (bytes_append start T.text (piece_bytes (line_of naming) day F L n 131072))
+      ∙ sym (fold-append hash_byte start T.text (piece_bytes (line_of naming) day F L n 131072))
 
   taken_more : (m : ℕ) → p.rest ≡ GoOn m → Taken naming day F L m (size + p.written) hash'
   taken_more m q = record {

@@ -7,15 +7,23 @@ ghost use Rattle.digests.specs.Digest.{DigestAfter};
 use answer::Answer;
 use following::nodes::{Nodes, Origins};
 use following::values::ValueCells;
-use hash::with_bytes;
+use hash::{START, with_bytes};
 use numbering::Naming;
 use pieces::{Rest, write_piece};
+use std::fmt;
 
 // How many bytes there are, and their hash.
 #[derive(Clone, Copy)]
 pub struct Digest {
     pub length: usize,
     pub hash: u64,
+}
+
+// The length, a blank and the hash in 16 hexadecimal digits.
+impl fmt::Display for Digest {
+    fn fmt<W: fmt::Write>(&self, f: &mut fmt::Formatter<W>) -> fmt::Result {
+        write!(f, "{} {:016x}", self.length, self.hash)
+    }
 }
 
 // Goes through the readout piece by piece, by what the check left. The output has room for the longest line, so that no piece ends as
@@ -35,11 +43,11 @@ pub fn digest_of(
     ensures { DigestAfter naming clauses.now bindings.now nodes.now origins.now values.old values.new a result }
 {
     let mut output = [0u8; 131072];
-    let mut total: usize = 0;
-    let mut hash = 14695981039346656037u64;
+    let mut length = 0;
+    let mut hash = START;
     let mut clause: u16 = 0;
     loop {
-        let p = write_piece(
+        let piece = write_piece(
             clauses,
             bindings,
             nodes,
@@ -52,15 +60,11 @@ pub fn digest_of(
             clause,
             &mut output,
         );
-        let written = p.written;
-        hash = with_bytes(hash, &output[..written]);
-        total += written;
-        let rest = p.rest;
+        hash = with_bytes(hash, &output[..piece.written]);
+        length += piece.written;
+        let rest = piece.rest;
         let Rest::GoOn(next) = rest else {
-            return Digest {
-                length: total,
-                hash,
-            };
+            return Digest { length, hash };
         };
         clause = next;
     }

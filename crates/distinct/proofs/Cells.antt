@@ -89,18 +89,6 @@ module _ (N : List ℕ) (at : ℕ) (room : at + 8 ≤ length N) where
         let d : length numbers ≤ i = omega arith in
         rw (e, drop_of_length-le numbers d)
 
-  -- All eight, one by one.
-  eight_cells : take 8 (drop at N) ≡ get_or N at 0 ∷ get_or N (at + 1) 0 ∷ get_or N (at + 2) 0 ∷ get_or N (at + 3) 0 ∷ get_or N (at + 4) 0 ∷ get_or N (at + 5) 0 ∷ get_or N (at + 6) 0 ∷ get_or N (at + 7) 0 ∷ []
-  eight_cells =
-      let e1 : at + 1 ≡ suc at = omega arith in
-      let e2 : at + 2 ≡ suc (suc at) = omega arith in
-      let e3 : at + 3 ≡ suc (suc (suc at)) = omega arith in
-      let e4 : at + 4 ≡ suc (suc (suc (suc at))) = omega arith in
-      let e5 : at + 5 ≡ suc (suc (suc (suc (suc at)))) = omega arith in
-      let e6 : at + 6 ≡ suc (suc (suc (suc (suc (suc at))))) = omega arith in
-      let e7 : at + 7 ≡ suc (suc (suc (suc (suc (suc (suc at)))))) = omega arith in
-      rw (e1, e2, e3, e4, e5, e6, e7, drop-cons N at 0 (omega arith), drop-cons N (suc at) 0 (omega arith), drop-cons N (suc (suc at)) 0 (omega arith), drop-cons N (suc (suc (suc at))) 0 (omega arith), drop-cons N (suc (suc (suc (suc at)))) 0 (omega arith), drop-cons N (suc (suc (suc (suc (suc at))))) 0 (omega arith), drop-cons N (suc (suc (suc (suc (suc (suc at)))))) 0 (omega arith), drop-cons N (suc (suc (suc (suc (suc (suc (suc at))))))) 0 (omega arith))
-
 -- Seven numbers, one by one.
 seven_numbers : (xs : List ℕ) → length xs ≡ 7 → get_or xs 0 0 ∷ get_or xs 1 0 ∷ get_or xs 2 0 ∷ get_or xs 3 0 ∷ get_or xs 4 0 ∷ get_or xs 5 0 ∷ get_or xs 6 0 ∷ [] ≡ xs
 seven_numbers xs l = ext_get_or 0 (get_or xs 0 0 ∷ get_or xs 1 0 ∷ get_or xs 2 0 ∷ get_or xs 3 0 ∷ get_or xs 4 0 ∷ get_or xs 5 0 ∷ get_or xs 6 0 ∷ []) xs (sym l) at
@@ -126,11 +114,6 @@ bucket_room n =
     let q : n % 4294967296 < 4294967296 = mod-lt n (omega arith) in
     omega arith
 
--- The bucket of cells that are read one by one: of a row, and of those that are sought.
-pub row_bucket : (N : List ℕ) (r : ℕ) → length N ≡ 32768 → r < 4096 → {k : ℕ}
-    → k ≡ bucket_of (get_or N (8 * r) 0 ∷ get_or N (8 * r + 1) 0 ∷ get_or N (8 * r + 2) 0 ∷ get_or N (8 * r + 3) 0 ∷ get_or N (8 * r + 4) 0 ∷ get_or N (8 * r + 5) 0 ∷ get_or N (8 * r + 6) 0 ∷ get_or N (8 * r + 7) 0 ∷ [])
-    → k ≡ bucket_of (node_at N r)
-row_bucket N r l m e = e ∙ ap bucket_of (sym (eight_cells N (8 * r) (omega arith)))
-
+-- The bucket of cells that are sought, read one by one.
 pub sought_bucket : (code : ℕ) (ns : List ℕ) → length ns ≡ 7 → {k : ℕ} → k ≡ bucket_of (code ∷ get_or ns 0 0 ∷ get_or ns 1 0 ∷ get_or ns 2 0 ∷ get_or ns 3 0 ∷ get_or ns 4 0 ∷ get_or ns 5 0 ∷ get_or ns 6 0 ∷ []) → k ≡ bucket_of (code ∷ ns)
 sought_bucket code ns l e = e ∙ ap (λ (xs : List ℕ). bucket_of (code ∷ xs)) (seven_numbers ns l)

@@ -9,11 +9,12 @@ use lib.Dec.{eqb}
 use lib.ListN.{length, get_or, set, replicate, length-set, length-replicate}
 use lib.Seq.{get_or-set_same, get_or-set_other}
 use borrow.Author.Tests.{eqb-true, eqb-false}
+use Rattle.std.specs.Prelude.{None}
+use Rattle.std.specs.Prelude.{Option as Answer}
+use Rattle.record.specs.Answered.{answered}
 use Rattle.unification.specs.Nodes.{HasRow}
-use Rattle.distinct.specs.Rows.{node_at, with_node, row_with_cells, found_row}
+use Rattle.distinct.specs.Rows.{node_at, with_node, row_with_cells}
 use Rattle.distinct.specs.Index.{bucket_of, OnChain, first, later, Indexed, Findable, Listable}
-use Rattle.distinct.specs.declared.FoundRow.{FoundRow}
-use Rattle.distinct.specs.declared.FoundRow.TheVariants.{Nowhere}
 use Rattle.distinct.proofs.Cells.{listed_cells, cells_listed}
 use Rattle.distinct.proofs.Lowest.{no_row, found_nowhere}
 use Rattle.distinct.proofs.Writing.{written_length, written_own, written_below}
@@ -185,6 +186,6 @@ module _ {N : List ℕ} {n : ℕ} {H L : List ℕ} (A : Listable N n H L) (b : �
           A.index.once r q (omega arith) (omega arith) h j x
 
 -- After a search that found nothing, the cells are written as row n, and row n can be listed.
-pub not_found_listable : {N : List ℕ} {n : ℕ} {H L : List ℕ} {code : ℕ} {numbers : List ℕ} → Findable N n H L code numbers → n < 4096 → {f : FoundRow} → f ≡ found_row (row_with_cells N n (code ∷ numbers)) → f ≡ Nowhere
+pub not_found_listable : {N : List ℕ} {n : ℕ} {H L : List ℕ} {code : ℕ} {numbers : List ℕ} → Findable N n H L code numbers → n < 4096 → {f : Answer ℕ} → f ≡ answered (row_with_cells N n (code ∷ numbers)) → f ≡ None
     → Listable (with_node N n (code ∷ numbers)) n H L
 not_found_listable {N} {n} {H} {L} {code} {numbers} F l p q = index_listable F.index (code ∷ numbers) (let z = F.seven in omega arith) l F.coded (found_nowhere (row_with_cells N n (code ∷ numbers)) p q)

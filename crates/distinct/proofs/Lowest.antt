@@ -7,12 +7,13 @@ use Prim.Native.Nat.{ℕ, zero, suc, ◌+◌, ◌≤◌, ◌<◌}
 use native.Mathlib.Omega.{arith}
 use lib.Dec.{eqb}
 use borrow.Author.Tests.{eqb-true, eqb-false}
+use Rattle.std.specs.Prelude.{Some, None}
+use Rattle.std.specs.Prelude.{Option as Answer}
+use Rattle.record.specs.Answered.{answered}
 use Rattle.record.specs.Record.{pick}
 use Rattle.unification.specs.Repeated.{equal_lists, or_else}
 use Rattle.unification.proofs.Tests.{true_not_false, some_not_none, some_injective}
-use Rattle.distinct.specs.Rows.{node_at, row_with_cells, found_row}
-use Rattle.distinct.specs.declared.FoundRow.{FoundRow}
-use Rattle.distinct.specs.declared.FoundRow.TheVariants.{At, Nowhere}
+use Rattle.distinct.specs.Rows.{node_at, row_with_cells}
 use Rattle.distinct.proofs.Cells.{equal_lists_lem, lists_equal, lists_differ}
 
 -- No row has the cells.
@@ -55,8 +56,8 @@ first_has N (suc n) cells r l e f = try (eqb r n) refl (λ m. first_has N n cell
         ∙ ap some (sym z)
     try false q ih = let d : ¬ (r ≡ n) = eqb-false r n q in ap (λ (o : Option ℕ). or_else o (pick (equal_lists (node_at N n) cells) (some n) none)) (ih (omega arith))
 
-pub none_at_all : (N : List ℕ) (n : ℕ) (cells : List ℕ) (r : ℕ) → r ≤ n → n ≤ r → row_with_cells N r cells ≡ none → Nowhere ≡ found_row (row_with_cells N n cells)
-none_at_all N n cells r l m e = let z : n ≡ r = omega arith in sym (ap found_row (ap (λ (m : ℕ). row_with_cells N m cells) z ∙ e))
+pub none_at_all : (N : List ℕ) (n : ℕ) (cells : List ℕ) (r : ℕ) → r ≤ n → n ≤ r → row_with_cells N r cells ≡ none → None ≡ answered (row_with_cells N n cells)
+none_at_all N n cells r l m e = let z : n ≡ r = omega arith in sym (ap answered (ap (λ (m : ℕ). row_with_cells N m cells) z ∙ e))
 
 -- What an answer says of the rows.
 pub no_row : (N : List ℕ) (n : ℕ) (cells : List ℕ) → row_with_cells N n cells ≡ none → (q : ℕ) → q < n → ¬ (node_at N q ≡ cells)
@@ -86,10 +87,10 @@ a_row N (suc n) cells r h = try (row_with_cells N n cells) refl (equal_lists (no
     try none x false y z ih = absurd (some_not_none refl z)
 
 -- From the answer of a search back to the row.
-pub found_nowhere : (o : Option ℕ) {f : FoundRow} → f ≡ found_row o → f ≡ Nowhere → o ≡ none
+pub found_nowhere : (o : Option ℕ) {f : Answer ℕ} → f ≡ answered o → f ≡ None → o ≡ none
 found_nowhere none p q = refl
 found_nowhere (some r) p q = absurd (let z : ◌≡◌ {A = ℕ} 0 1 = cc in omega arith)
 
-pub found_at : (o : Option ℕ) {f : FoundRow} (r : ℕ) → f ≡ found_row o → f ≡ At r → o ≡ some r
+pub found_at : (o : Option ℕ) {f : Answer ℕ} (r : ℕ) → f ≡ answered o → f ≡ Some r → o ≡ some r
 found_at none r p q = absurd (let z : ◌≡◌ {A = ℕ} 0 1 = cc in omega arith)
 found_at (some q) r p e = cc

@@ -6,12 +6,13 @@ use mathlib.Core.Logic.{◌⊎◌, inl, inr}
 use Prim.Native.Nat.{ℕ, zero, suc, ◌-◌, ◌≤◌, ◌<◌}
 use native.Mathlib.Omega.{arith}
 use lib.ListN.{get_or}
+use Rattle.std.specs.Prelude.{Some, None}
+use Rattle.record.specs.Answered.{answered}
 use Rattle.unification.specs.Nodes.{HasRow}
 use Rattle.unification.specs.Repeated.{equal_lists}
 use Rattle.unification.proofs.Tests.{true_not_false}
-use Rattle.distinct.specs.Rows.{node_at, row_with_cells, found_row}
+use Rattle.distinct.specs.Rows.{node_at, row_with_cells}
 use Rattle.distinct.specs.Index.{bucket_of, OnChain, first, later, Findable}
-use Rattle.distinct.specs.declared.FoundRow.TheVariants.{At, Nowhere}
 use Rattle.distinct.proofs.Cells.{equal_lists_lem, lists_equal, listed_cells}
 use Rattle.distinct.proofs.Lowest.{none_has, one_has}
 
@@ -36,10 +37,6 @@ module _ {N : List ℕ} {n : ℕ} {H L : List ℕ} {code : ℕ} {numbers : List 
     left = λ r l e. subst (λ (k : ℕ). OnChain L (get_or H k 0) r) (ap bucket_of e ∙ sym q) (F.index.on_chain r l (listed r e));
   }
 
-  -- Links lead to lower rows.
-  pub chain_falls : (c q : ℕ) → q < c → get_or L q 0 < c
-  chain_falls c q l = let f = F.index.links_fall q in omega arith
-
   module _ (c : ℕ) (S : Sought N n L (code ∷ numbers) c) (l : 0 < c) {b : Bool} (t : b ≡ equal_lists (node_at N (c - 1)) (code ∷ numbers)) where
     pub sought_next : b ≡ false → Sought N n L (code ∷ numbers) (get_or L (c - 1) 0)
     sought_next z = record {
@@ -53,15 +50,15 @@ module _ {N : List ℕ} {n : ℕ} {H L : List ℕ} {code : ℕ} {numbers : List 
             absurd (true_not_false (lists_equal (node_at N (c - 1)) (code ∷ numbers) (ap (node_at N) x ∙ e)) (sym t ∙ z))
         on r e (inr h) = h.1
 
-    pub sought_found : b ≡ true → At (c - 1) ≡ found_row (row_with_cells N n (code ∷ numbers))
+    pub sought_found : b ≡ true → Some (c - 1) ≡ answered (row_with_cells N n (code ∷ numbers))
     sought_found z =
         let e : node_at N (c - 1) ≡ code ∷ numbers = equal_lists_lem (node_at N (c - 1)) (code ∷ numbers) (sym t ∙ z) in
         let g = S.below in
         let k : c - 1 < n = omega arith in
-        sym (ap found_row (one_has N n (code ∷ numbers) (c - 1) k e (λ q m x. F.index.once q (c - 1) m k (listed q x) (listed (c - 1) e) (x ∙ sym e))))
+        sym (ap answered (one_has N n (code ∷ numbers) (c - 1) k e (λ q m x. F.index.once q (c - 1) m k (listed q x) (listed (c - 1) e) (x ∙ sym e))))
 
-  pub sought_nowhere : (c : ℕ) → Sought N n L (code ∷ numbers) c → c ≤ 0 → Nowhere ≡ found_row (row_with_cells N n (code ∷ numbers))
-  sought_nowhere c S l = sym (ap found_row (none_has N n (code ∷ numbers) (λ q k e. ended (on_chain_lem c (S.left q k e)))))
+  pub sought_nowhere : (c : ℕ) → Sought N n L (code ∷ numbers) c → c ≤ 0 → None ≡ answered (row_with_cells N n (code ∷ numbers))
+  sought_nowhere c S l = sym (ap answered (none_has N n (code ∷ numbers) (λ q k e. ended (on_chain_lem c (S.left q k e)))))
     where
       ended : {q : ℕ} → (c ≡ suc q) ⊎ ((0 < c) × OnChain L (get_or L (c - 1) 0) q) → ⊥
       ended (inl e) = omega arith

@@ -3,8 +3,6 @@ use Rattle.std.proofs.Math.Option.{Option, none, some}
 use Rattle.std.specs.Prelude.{List, ◌++◌, ℕ, zero, suc, ◌+◌, ◌*◌, take, drop}
 use Rattle.record.specs.Record.{pick}
 use Rattle.unification.specs.Repeated.{equal_lists, or_else}
-use Rattle.distinct.specs.declared.FoundRow.{FoundRow}
-use Rattle.distinct.specs.declared.FoundRow.TheVariants.{At, Nowhere}
 
 -- The eight cells of row r.
 abbrev pub node_at : List ℕ → ℕ → List ℕ
@@ -18,8 +16,3 @@ with_node N r cells = take (8 * r) N ++ (cells ++ drop (8 * r + 8) N)
 unfoldable pub row_with_cells : List ℕ → ℕ → List ℕ → Option ℕ
 row_with_cells N zero cells = none
 row_with_cells N (suc n) cells = or_else (row_with_cells N n cells) (pick (equal_lists (node_at N n) cells) (some n) none)
-
--- The answer of a search.
-abbrev pub found_row : Option ℕ → FoundRow
-found_row none = Nowhere
-found_row (some r) = At r

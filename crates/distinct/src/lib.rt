@@ -12,13 +12,6 @@ pub type Heads = [u16; 4096];
 // For each listed row one more than the next older row of its bucket, or 0.
 pub type Links = [u16; 4096];
 
-// The row that a search found.
-#[derive(Clone, Copy)]
-pub enum FoundRow {
-    At(u16),
-    Nowhere,
-}
-
 // The bucket of eight cells. The products do not wait for each other.
 pub fn bucket(code: u16, a: u16, b: u16, c: u16, d: u16, e: u16, f: u16, g: u16) -> usize
     ensures { (result ≡ bucket_of (code ∷ a ∷ b ∷ c ∷ d ∷ e ∷ f ∷ g ∷ [])) × (result < 4096) }

@@ -21,11 +21,11 @@ use Rattle.unification.proofs.Tests.{to_t, both_true, some_not_none, some_inject
 use Rattle.derivation.specs.Derivation.{literals, input, RowLiteral, literal_of, input_literals, Derivation, placed, maximum_index, own_bindings}
 use Rattle.derivation.specs.Stored.{cells_of_origin, origin_table_of}
 use Rattle.distinct.specs.Rows.{with_node, row_with_cells}
-use Rattle.entry.specs.Program.{repeat_cells, taken_arguments, taken_literals, row_found, no_variable, more_symbols, more_rows, more_clauses, SymbolLeft, symbol_left, symbol_entered, RowLeft, row_left, row_entered, variable_entered, application_there, application_entered, InputLeft, input_left, input_entered}
+use Rattle.entry.specs.Program.{Entered, repeat_cells, taken_arguments, taken_literals, row_found, no_variable, more_symbols, more_rows, more_clauses, SymbolLeft, symbol_left, symbol_entered, RowLeft, row_left, row_entered, variable_entered, application_there, application_entered, InputLeft, input_left, input_entered}
 use Rattle.tables.specs.Cells.{with_clause_cells}
 use Rattle.fields.specs.Fields.{arity_in}
 use Rattle.entry.specs.Progress.{cells_of_row, cells_after, counts_of, Kept, Plain, Next}
-use Rattle.verdict.specs.Refusal.{outOfRange, notThere, crossedDays, variableLiteral, reason_number, kind_of_record, in_order, zeros, in_range, argument_rows, has_arity, all_below, arguments_there, all_applications}
+use Rattle.verdict.specs.Refusal.{outOfRange, notThere, crossedDays, variableLiteral, kind_of_record, in_order, zeros, in_range, argument_rows, has_arity, all_below, arguments_there, all_applications}
 use Rattle.verdict.specs.State.{arities, State, with_symbol, with_row, with_clause, with_days_beside, entry, rows_of, derivations, arity_of, row_of, earliest_of, record_of_row, next_clause}
 use Rattle.verdict.specs.Step.{stands, Result, require, new_application, new_literals, step}
 use Rattle.verdict.specs.Tables.{Tables, symbol_cells, row_cells, clause_cells, binding_cells, filled, filled_tables, bindings_of}
@@ -38,8 +38,9 @@ use Rattle.entry.proofs.Kept.{stand, Sizes, sizes, few_records, same_rows, few_s
 use Rattle.demands.proofs.RangeTests.{kind_at}
 use Rattle.demands.proofs.Resolution.{at_kind}
 use Rattle.entry.specs.declared.entry.Counts.{Counts}
-use Rattle.entry.specs.declared.entry.Entered.{Entered}
-use Rattle.entry.specs.declared.entry.Entered.TheVariants.{Stands, Refused}
+use Rattle.std.specs.Prelude.{Ok, Err}
+use Rattle.reasons.specs.declared.Reason.{Reason}
+use Rattle.reasons.specs.declared.Reason.TheVariants.{OutOfRange, NotThere, CrossedDays, VariableLiteral}
 
 -- The cells of symbols and rows, one more.
 pub record_cells_more : {A : Type 0} (k : ℕ) (x : A) (xs : List (ℕ × A)) → reverse (map (λ (y : ℕ × A). y.0) ((k, x) ∷ xs)) ≡ reverse (map (λ (y : ℕ × A). y.0) xs) ++ (k ∷ [])
@@ -144,11 +145,11 @@ module _ (F : File) (t : Tables) (k : ℕ) (S : State) (n : Counts) (here : Tabl
       made : here ≡ filled_tables S t → with_symbols (set here.symbols n.symbols k) ≡ filled_tables (with_symbol S k rec.count) t
       made h = λ i. record { symbols = symbol_table rec.count i; rows = rows_here i; clauses = clauses_here i; bindings = bindings_here i }
 
-      try : (b : Bool) → in_range symbolKind rec ≡ b → Next F t k S (with_symbols (pick b (symbol_left (Stands (more_symbols n)) (set here.symbols n.symbols k)) (symbol_left (Refused (reason_number outOfRange)) here.symbols)).symbols) N O A (pick b (symbol_left (Stands (more_symbols n)) (set here.symbols n.symbols k)) (symbol_left (Refused (reason_number outOfRange)) here.symbols)).answer
+      try : (b : Bool) → in_range symbolKind rec ≡ b → Next F t k S (with_symbols (pick b (symbol_left (Ok (more_symbols n)) (set here.symbols n.symbols k)) (symbol_left (Err OutOfRange) here.symbols)).symbols) N O A (pick b (symbol_left (Ok (more_symbols n)) (set here.symbols n.symbols k)) (symbol_left (Err OutOfRange) here.symbols)).answer
       try true q =
           let p = at ∙ ap (λ (b : Bool). require b outOfRange (stands (with_symbol S k rec.count))) q in
           (with_symbol S k rec.count, p, kept_next F t k S n here N O A K l (with_symbol S k rec.count) p (more_symbols n) (with_symbols (set here.symbols n.symbols k)) N O A (symbol_counts rec.count) (made K.tables) K.nodes K.origins K.values)
-      try false q = (outOfRange, at ∙ ap (λ (b : Bool). require b outOfRange (stands (with_symbol S k rec.count))) q, refl, K.tables, K.nodes, K.origins, K.values)
+      try false q = (at ∙ ap (λ (b : Bool). require b outOfRange (stands (with_symbol S k rec.count))) q, K.tables, K.nodes, K.origins, K.values)
 
   -- One row more, with record j in the table of rows.
   row_table : (j : ℕ) (w : Row) → set here.rows n.rows j ≡ filled 4096 (row_cells (with_row S j w)) t.rows
@@ -193,7 +194,7 @@ module _ (F : File) (t : Tables) (k : ℕ) (S : State) (n : Counts) (here : Tabl
       found : row_with_cells N n.rows (code ∷ ns) ≡ earliest_equal w (rows_of S)
       found = ap (λ (i : ℕ). row_with_cells N i (code ∷ ns)) rows_count ∙ row_found_lem (rows_of S) fitting few N K.nodes w (code ∷ ns) c
 
-      next : (j : ℕ) → step S k (record_at F k) ≡ stands (with_row S j w) → (cells : List ℕ) → cells ≡ cells_after (rows_of S) w → RowNext (row_left (Stands (more_rows n)) (set here.rows n.rows j) (with_node N n.rows cells))
+      next : (j : ℕ) → step S k (record_at F k) ≡ stands (with_row S j w) → (cells : List ℕ) → cells ≡ cells_after (rows_of S) w → RowNext (row_left (Ok (more_rows n)) (set here.rows n.rows j) (with_node N n.rows cells))
       next j s cells e = (
         with_row S j w,
         s,
@@ -224,9 +225,9 @@ module _ (F : File) (t : Tables) (k : ℕ) (S : State) (n : Counts) (here : Tabl
       at : step S k (record_at F k) ≡ require (in_range variableKind rec) outOfRange (stands (with_row S (record_of_row S k (variable (field_a rec))) (variable (field_a rec))))
       at = plain S ∙ at_kind S k rec variableKind kd
 
-      try : (b : Bool) → in_range variableKind rec ≡ b → RowNext (pick b (row_entered (fields_of part) k 1 n here.rows N) (row_left (Refused (reason_number outOfRange)) here.rows N))
+      try : (b : Bool) → in_range variableKind rec ≡ b → RowNext (pick b (row_entered (fields_of part) k 1 n here.rows N) (row_left (Err OutOfRange) here.rows N))
       try true q = row_entered_lem (variable (field_a rec)) 1 (fields_of part) (variable_cells part q) (at ∙ ap (λ (b : Bool). require b outOfRange (stands (with_row S (record_of_row S k (variable (field_a rec))) (variable (field_a rec))))) q)
-      try false q = (outOfRange, at ∙ ap (λ (b : Bool). require b outOfRange (stands (with_row S (record_of_row S k (variable (field_a rec))) (variable (field_a rec))))) q, refl, K.tables, K.nodes, K.origins, K.values)
+      try false q = (at ∙ ap (λ (b : Bool). require b outOfRange (stands (with_row S (record_of_row S k (variable (field_a rec))) (variable (field_a rec))))) q, K.tables, K.nodes, K.origins, K.values)
 
   -- The arity of a symbol, off its record.
   arity_read : (s : ℕ) → arity_in F here.symbols n.symbols s ≡ arity_of S s
@@ -262,13 +263,13 @@ module _ (F : File) (t : Tables) (k : ℕ) (S : State) (n : Counts) (here : Tabl
       arguments : application_there F part n here.symbols ≡ true → Each (λ r. r < length (rows_of S)) (argument_rows rec)
       arguments p = all_below_lem (length (rows_of S)) (argument_rows rec) (both_true (has_arity (count_of part) (arity_of S (field_a rec))) (all_below (length (rows_of S)) (argument_rows rec)) (sym there ∙ p)).1
 
-      second : in_range applicationKind rec ≡ true → (b : Bool) → application_there F part n here.symbols ≡ b → RowNext (pick b (row_entered (taken_arguments N (fields_of part)) k (2 + count_of part) n here.rows N) (row_left (Refused (reason_number notThere)) here.rows N))
+      second : in_range applicationKind rec ≡ true → (b : Bool) → application_there F part n here.symbols ≡ b → RowNext (pick b (row_entered (taken_arguments N (fields_of part)) k (2 + count_of part) n here.rows N) (row_left (Err NotThere) here.rows N))
       second q true p = row_entered_lem (new_application S rec) (2 + count_of part) (taken_arguments N (fields_of part)) (application_cells (rows_of S) fitting few N K.nodes part q (arguments p)) (at ∙ ap₂ (λ (a b : Bool). require a outOfRange (require b notThere last)) q (sym there ∙ p))
-      second q false p = (notThere, at ∙ ap₂ (λ (a b : Bool). require a outOfRange (require b notThere last)) q (sym there ∙ p), refl, K.tables, K.nodes, K.origins, K.values)
+      second q false p = (at ∙ ap₂ (λ (a b : Bool). require a outOfRange (require b notThere last)) q (sym there ∙ p), K.tables, K.nodes, K.origins, K.values)
 
-      try : (b : Bool) → in_range applicationKind rec ≡ b → RowNext (pick b (pick (application_there F part n here.symbols) (row_entered (taken_arguments N (fields_of part)) k (2 + count_of part) n here.rows N) (row_left (Refused (reason_number notThere)) here.rows N)) (row_left (Refused (reason_number outOfRange)) here.rows N))
+      try : (b : Bool) → in_range applicationKind rec ≡ b → RowNext (pick b (pick (application_there F part n here.symbols) (row_entered (taken_arguments N (fields_of part)) k (2 + count_of part) n here.rows N) (row_left (Err NotThere) here.rows N)) (row_left (Err OutOfRange) here.rows N))
       try true q = second q (application_there F part n here.symbols) refl
-      try false q = (outOfRange, at ∙ ap (λ (b : Bool). require b outOfRange (require (arguments_there S rec) notThere last)) q, refl, K.tables, K.nodes, K.origins, K.values)
+      try false q = (at ∙ ap (λ (b : Bool). require b outOfRange (require (arguments_there S rec) notThere last)) q, K.tables, K.nodes, K.origins, K.values)
 
   -- One clause more, with the cells of a clause that adds bindings up to h.
   pub clause_table : (c : Derivation) (a b d e : ℕ) → a ≡ length (literals c) → b ≡ maximum_index c → d ≡ bindings_of (derivations S) → e ≡ length (own_bindings c)
@@ -314,10 +315,10 @@ module _ (F : File) (t : Tables) (k : ℕ) (S : State) (n : Counts) (here : Tabl
 
   -- The cells of the clause, and what is left of a record that stands.
   abbrev input_stands : InputLeft
-  input_stands = input_left (Stands (more_clauses n)) (with_clause_cells here.clauses n.clauses k (count_of part) 1 n.bindings 0) (with_node O n.clauses (1 ∷ taken_literals N (fields_of part)))
+  input_stands = input_left (Ok (more_clauses n)) (with_clause_cells here.clauses n.clauses k (count_of part) 1 n.bindings 0) (with_node O n.clauses (1 ∷ taken_literals N (fields_of part)))
 
-  abbrev input_refused : ℕ → InputLeft
-  input_refused q = input_left (Refused q) here.clauses O
+  abbrev input_refused : Reason → InputLeft
+  input_refused r = input_left (Err r) here.clauses O
 
   pub input_read : kind_of (record_part F k) ≡ 4 → (e : Entered) (clauses' O' : List ℕ) → input_left e clauses' O' ≡ input_entered F.form (record_part F k) k n here.clauses N O
       → Next F t k S (record { symbols = here.symbols; rows = here.rows; clauses = clauses'; bindings = here.bindings }) N O' A e
@@ -346,27 +347,27 @@ module _ (F : File) (t : Tables) (k : ℕ) (S : State) (n : Counts) (here : Tabl
       origin q h = clause_origin made (1 ∷ taken_literals N (fields_of part)) (input_cells (rows_of S) fitting few N K.nodes part (next_clause S) q h)
 
       fourth : in_range inputKind rec ≡ true → all_below n.rows (map (λ (x : RowLiteral). x.1) (input_literals rec)) ≡ true → in_order days ≡ true → (b : Bool) → no_variable N (input_literals rec) ≡ b
-          → InputNext (pick b input_stands (input_refused (reason_number variableLiteral)))
+          → InputNext (pick b input_stands (input_refused VariableLiteral))
       fourth q p d b v = by b (sym (variable_tests (rows_of S) (rows_fit_lem F t k S n here N O A K l) (omega (arith, many)) N K.nodes (input_literals rec) (below_all p)) ∙ v)
         where
           path : (b : Bool) → all_applications (row_of S) (input_literals rec) ≡ b → step S k (record_at F k) ≡ require b variableLiteral (stands with_made)
           path b z = input_step four ∙ (λ i. input_tests (q i) ((sym rows ∙ p) i) (d i) (z i))
 
-          by : (b : Bool) → all_applications (row_of S) (input_literals rec) ≡ b → InputNext (pick b input_stands (input_refused (reason_number variableLiteral)))
+          by : (b : Bool) → all_applications (row_of S) (input_literals rec) ≡ b → InputNext (pick b input_stands (input_refused VariableLiteral))
           by true z = (with_made, path true z, kept_next F t k S n here N O A K l with_made (path true z) (more_clauses n) (with_clauses input_stands.clauses) N input_stands.origins A counts (tables q) K.nodes (origin q (below_all p)) K.values)
-          by false z = (variableLiteral, path false z, refl, K.tables, K.nodes, K.origins, K.values)
+          by false z = (path false z, K.tables, K.nodes, K.origins, K.values)
 
       third : in_range inputKind rec ≡ true → all_below n.rows (map (λ (x : RowLiteral). x.1) (input_literals rec)) ≡ true → (b : Bool) → in_order days ≡ b
-          → InputNext (pick b (pick (no_variable N (input_literals rec)) input_stands (input_refused (reason_number variableLiteral))) (input_refused (reason_number crossedDays)))
+          → InputNext (pick b (pick (no_variable N (input_literals rec)) input_stands (input_refused VariableLiteral)) (input_refused CrossedDays))
       third q p true d = fourth q p d (no_variable N (input_literals rec)) refl
-      third q p false d = (crossedDays, input_step four ∙ (λ i. input_tests (q i) ((sym rows ∙ p) i) (d i) (all_applications (row_of S) (input_literals rec))), refl, K.tables, K.nodes, K.origins, K.values)
+      third q p false d = (input_step four ∙ (λ i. input_tests (q i) ((sym rows ∙ p) i) (d i) (all_applications (row_of S) (input_literals rec))), K.tables, K.nodes, K.origins, K.values)
 
       second : in_range inputKind rec ≡ true → (b : Bool) → all_below n.rows (map (λ (x : RowLiteral). x.1) (input_literals rec)) ≡ b
-          → InputNext (pick b (pick (in_order days) (pick (no_variable N (input_literals rec)) input_stands (input_refused (reason_number variableLiteral))) (input_refused (reason_number crossedDays))) (input_refused (reason_number notThere)))
+          → InputNext (pick b (pick (in_order days) (pick (no_variable N (input_literals rec)) input_stands (input_refused VariableLiteral)) (input_refused CrossedDays)) (input_refused NotThere))
       second q true p = third q p (in_order days) refl
-      second q false p = (notThere, input_step four ∙ (λ i. input_tests (q i) ((sym rows ∙ p) i) (in_order days) (all_applications (row_of S) (input_literals rec))), refl, K.tables, K.nodes, K.origins, K.values)
+      second q false p = (input_step four ∙ (λ i. input_tests (q i) ((sym rows ∙ p) i) (in_order days) (all_applications (row_of S) (input_literals rec))), K.tables, K.nodes, K.origins, K.values)
 
       try : (b : Bool) → in_range inputKind rec ≡ b
-          → InputNext (pick b (pick (all_below n.rows (map (λ (x : RowLiteral). x.1) (input_literals rec))) (pick (in_order days) (pick (no_variable N (input_literals rec)) input_stands (input_refused (reason_number variableLiteral))) (input_refused (reason_number crossedDays))) (input_refused (reason_number notThere))) (input_refused (reason_number outOfRange)))
+          → InputNext (pick b (pick (all_below n.rows (map (λ (x : RowLiteral). x.1) (input_literals rec))) (pick (in_order days) (pick (no_variable N (input_literals rec)) input_stands (input_refused VariableLiteral)) (input_refused CrossedDays)) (input_refused NotThere)) (input_refused OutOfRange))
       try true q = second q (all_below n.rows (map (λ (x : RowLiteral). x.1) (input_literals rec))) refl
-      try false q = (outOfRange, input_step four ∙ (λ i. input_tests (q i) rows_there (in_order days) (all_applications (row_of S) (input_literals rec))), refl, K.tables, K.nodes, K.origins, K.values)
+      try false q = (input_step four ∙ (λ i. input_tests (q i) rows_there (in_order days) (all_applications (row_of S) (input_literals rec))), K.tables, K.nodes, K.origins, K.values)

@@ -1,18 +1,22 @@
 -- How the program keeps the state of a check: the contracts of its inner functions. No demand needs this file.
-use Rattle.std.specs.Prelude.{◌≡◌, Bool, true, ◌&&◌, not, List, [], ◌∷◌, map, ℕ, ◌+◌, ◌*◌, ◌/◌, ◌%◌, ◌<◌, eqb, length, get_or, set}
+use Rattle.std.specs.Prelude.{◌≡◌, Bool, true, ◌&&◌, not, List, [], ◌∷◌, map, ℕ, ◌+◌, ◌*◌, ◌/◌, ◌%◌, ◌<◌, eqb, length, get_or, set, Result, Ok, Err}
 use Rattle.std.proofs.Math.Option.{Option, none, some}
 use Rattle.record.specs.Record.{pick, File, count_of, field_of, fields_of, decoded, decoded_in, symbolKind, variableKind, applicationKind, inputKind}
 use Rattle.unification.specs.Nodes.{is_variable, part}
 use Rattle.derivation.specs.Derivation.{RowLiteral, input_literals}
-use Rattle.verdict.specs.Refusal.{outOfRange, notThere, crossedDays, variableLiteral, reason_number, in_range, in_order, argument_rows, has_arity, all_below}
+use Rattle.verdict.specs.Refusal.{in_range, in_order, argument_rows, has_arity, all_below}
 use Rattle.tables.specs.Cells.{with_clause_cells}
 use Rattle.fields.specs.Fields.{arity_in}
 use Rattle.distinct.specs.Index.{Indexed}
 use Rattle.distinct.specs.Rows.{with_node, row_with_cells}
 use Rattle.record.specs.declared.Form.{Form}
 use Rattle.entry.specs.declared.entry.Counts.{Counts}
-use Rattle.entry.specs.declared.entry.Entered.{Entered}
-use Rattle.entry.specs.declared.entry.Entered.TheVariants.{Stands, Refused}
+use Rattle.reasons.specs.declared.Reason.{Reason}
+use Rattle.reasons.specs.declared.Reason.TheVariants.{OutOfRange, NotThere, CrossedDays, VariableLiteral}
+
+-- What becomes of a record: it stands, with the counts after it, or is refused.
+abbrev pub Entered : Type 0
+Entered = Result Counts Reason
 
 -- The eight cells of a repeat of row q in the node table: 0 for no row, which no walk ever reads, and q.
 abbrev pub repeat_cells : ℕ → List ℕ
@@ -69,8 +73,8 @@ symbol_left e symbols = record { answer = e; symbols = symbols }
 unfoldable pub symbol_entered : List ℕ → ℕ → Counts → List ℕ → SymbolLeft
 symbol_entered part k n symbols =
     pick (in_range symbolKind (decoded part))
-    (symbol_left (Stands (more_symbols n)) (set symbols n.symbols k))
-    (symbol_left (Refused (reason_number outOfRange)) symbols)
+    (symbol_left (Ok (more_symbols n)) (set symbols n.symbols k))
+    (symbol_left (Err OutOfRange) symbols)
 
 -- Kinds 2 and 3: the answer, the table of rows and the node table after it.
 pub record RowLeft : Type 0 where
@@ -83,16 +87,16 @@ row_left e rows N = record { answer = e; rows = rows; nodes = N }
 
 -- A row that no earlier row equals gets its cells and its record's number; a repeat names the earliest equal row and gets the number of its record.
 abbrev pub row_found : Option ℕ → List ℕ → ℕ → ℕ → Counts → List ℕ → List ℕ → RowLeft
-row_found none ns k code n rows N = row_left (Stands (more_rows n)) (set rows n.rows k) (with_node N n.rows (code ∷ ns))
-row_found (some q) ns k code n rows N = row_left (Stands (more_rows n)) (set rows n.rows (get_or rows q 0)) (with_node N n.rows (repeat_cells q))
+row_found none ns k code n rows N = row_left (Ok (more_rows n)) (set rows n.rows k) (with_node N n.rows (code ∷ ns))
+row_found (some q) ns k code n rows N = row_left (Ok (more_rows n)) (set rows n.rows (get_or rows q 0)) (with_node N n.rows (repeat_cells q))
 
 unfoldable pub row_entered : List ℕ → ℕ → ℕ → Counts → List ℕ → List ℕ → RowLeft
 row_entered ns k code n rows N = row_found (row_with_cells N n.rows (code ∷ ns)) ns k code n rows N
 
 -- How many rows there are after a record, and the index of them that it asks for and leaves.
 abbrev pub rows_after : Counts → Entered → ℕ
-rows_after n (Stands m) = m.rows
-rows_after n (Refused q) = n.rows
+rows_after n (Ok m) = m.rows
+rows_after n (Err r) = n.rows
 
 pub record RowsIndexed (N : List ℕ) (n : Counts) (H L : List ℕ) : Type 0 where
   pub index : Indexed N n.rows H L
@@ -111,7 +115,7 @@ unfoldable pub variable_entered : List ℕ → ℕ → Counts → List ℕ → L
 variable_entered part k n rows N =
     pick (in_range variableKind (decoded part))
     (row_entered (fields_of part) k 1 n rows N)
-    (row_left (Refused (reason_number outOfRange)) rows N)
+    (row_left (Err OutOfRange) rows N)
 
 -- Kind 3: 5, off the tables; and an application's code in the node table is 2 more than the number of its arguments.
 unfoldable pub application_there : File → List ℕ → Counts → List ℕ → Bool
@@ -123,8 +127,8 @@ application_entered F part k n symbols rows N =
     pick (in_range applicationKind (decoded part))
     (pick (application_there F part n symbols)
     (row_entered (taken_arguments N (fields_of part)) k (2 + count_of part) n rows N)
-    (row_left (Refused (reason_number notThere)) rows N))
-    (row_left (Refused (reason_number outOfRange)) rows N)
+    (row_left (Err NotThere) rows N))
+    (row_left (Err OutOfRange) rows N)
 
 -- Kind 4: the answer, the table of clauses and the table of origins after it.
 pub record InputLeft : Type 0 where
@@ -142,8 +146,8 @@ input_entered form part k n clauses N O =
     (pick (all_below n.rows (map (λ l. l.1) (input_literals (decoded part))))
     (pick (in_order (decoded_in form part).days)
     (pick (no_variable N (input_literals (decoded part)))
-    (input_left (Stands (more_clauses n)) (with_clause_cells clauses n.clauses k (count_of part) 1 n.bindings 0) (with_node O n.clauses (1 ∷ taken_literals N (fields_of part))))
-    (input_left (Refused (reason_number variableLiteral)) clauses O))
-    (input_left (Refused (reason_number crossedDays)) clauses O))
-    (input_left (Refused (reason_number notThere)) clauses O))
-    (input_left (Refused (reason_number outOfRange)) clauses O)
+    (input_left (Ok (more_clauses n)) (with_clause_cells clauses n.clauses k (count_of part) 1 n.bindings 0) (with_node O n.clauses (1 ∷ taken_literals N (fields_of part))))
+    (input_left (Err VariableLiteral) clauses O))
+    (input_left (Err CrossedDays) clauses O))
+    (input_left (Err NotThere) clauses O))
+    (input_left (Err OutOfRange) clauses O)

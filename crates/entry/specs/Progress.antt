@@ -1,21 +1,20 @@
 -- The program's own tables for a state: the contracts of its inner functions. No demand needs this file. In the contracts of `check_with` and of what goes on after
 -- it stand `tables_with`, `node_table_of` with the three definitions before it, and `ReadTo` with `Kept` and `counts_of`.
-use Rattle.std.specs.Prelude.{◌≡◌, true, List, [], ◌∷◌, ◌++◌, ℕ, suc, ◌+◌, ◌-◌, ◌*◌, ◌≤◌, ◌<◌, length, take, replicate}
+use Rattle.std.specs.Prelude.{◌≡◌, true, List, [], ◌∷◌, ◌++◌, ℕ, suc, ◌+◌, ◌-◌, ◌*◌, ◌≤◌, ◌<◌, length, take, replicate, Ok, Err}
 use Rattle.std.proofs.Math.Option.{none, some}
 use Rattle.record.specs.Record.{File, records, record_count, record_part, decoded, record_at}
 use Rattle.unification.specs.Repeated.{earliest_equal}
 use Rattle.unification.specs.Row.{variable, Row, application}
 use Rattle.derivation.specs.Stored.{origin_table_of}
-use Rattle.verdict.specs.Refusal.{Reason, reason_number}
+use Rattle.reasons.specs.Reasons.{meant}
 use Rattle.verdict.specs.State.{State, empty_state, rows_of, derivations}
 use Rattle.verdict.specs.Step.{stands, refused, step, read, all_stand}
+use Rattle.tables.specs.declared.lent.LentTables.{LentTables}
 use Rattle.verdict.specs.Tables.{Tables, lengths_of, filled_tables}
 use Rattle.demands.specs.Total.{fifth_cells}
 use Rattle.verdict.specs.Verdict.{long_enough, fitting}
-use Rattle.entry.specs.Program.{repeat_cells}
+use Rattle.entry.specs.Program.{repeat_cells, Entered}
 use Rattle.entry.specs.declared.entry.Counts.{Counts}
-use Rattle.entry.specs.declared.entry.Entered.{Entered}
-use Rattle.entry.specs.declared.entry.Entered.TheVariants.{Stands, Refused}
 
 -- The eight cells of a row, by itself and after the rows ws; the cells of all rows, row 0 first; and the node table with zeros after them.
 abbrev pub cells_of_row : Row → List ℕ
@@ -39,6 +38,10 @@ counts_of S = record { symbols = length S.symbols; rows = length S.rows; clauses
 -- The four tables.
 abbrev pub tables_with : List ℕ → List ℕ → List ℕ → List ℕ → Tables
 tables_with symbols rows C B = record { symbols = symbols; rows = rows; clauses = C; bindings = B }
+
+-- The same off the tables that a caller lends.
+abbrev pub tables_of : LentTables → Tables
+tables_of t = tables_with t.symbols.now t.rows.now t.clauses.now t.bindings.now
 
 -- What the program has after k records of the file F, begun on the tables t: the counts, tables, node table and table of origins of the
 -- state that these records leave. What the array of values holds between steps does not matter. Document 02, Q-4: the bindings counted, the
@@ -66,10 +69,10 @@ pub record Reading (F : File) (k : ℕ) (n : Counts) (here : Tables) (N O A : Li
   pub state : State
   pub kept : Kept F tables_before k state n here N O A
 
--- What it answers: a record that stands leaves what belongs to the next state; a refused one its number, and all tables as they were.
+-- What it answers: a record that stands leaves what belongs to the next state; a refused one its reason, and all tables as they were.
 abbrev pub Next : File → Tables → ℕ → State → Tables → List ℕ → List ℕ → List ℕ → Entered → Type 0
-Next F t k S here N O A (Stands n) = (T : State) × (step S k (record_at F k) ≡ stands T) × Kept F t (suc k) T n here N O A
-Next F t k S here N O A (Refused q) = (reason : Reason) × (step S k (record_at F k) ≡ refused reason) × (q ≡ reason_number reason) × (here ≡ filled_tables S t) × (N ≡ node_table_of (rows_of S)) × (O ≡ origin_table_of (derivations S)) × (length A ≡ 524416)
+Next F t k S here N O A (Ok n) = (T : State) × (step S k (record_at F k) ≡ stands T) × Kept F t (suc k) T n here N O A
+Next F t k S here N O A (Err r) = (step S k (record_at F k) ≡ refused (meant r)) × (here ≡ filled_tables S t) × (N ≡ node_table_of (rows_of S)) × (O ≡ origin_table_of (derivations S)) × (length A ≡ 524416)
 
 pub record RecordRead (F : File) (k : ℕ) (n : Counts) (here : Tables) (N O A : List ℕ) (e : Entered) (here' : Tables) (N' O' A' : List ℕ) : Type 0 where
   pub next : (t : Tables) (S : State) → Kept F t k S n here N O A → Next F t k S here' N' O' A' e

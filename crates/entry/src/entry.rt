@@ -1,4 +1,4 @@
-// What has been declared, and what becomes of a record.
+// What has been declared.
 
 // How many symbols, rows, clauses and bindings the records read so far have declared.
 #[derive(Clone, Copy)]
@@ -7,11 +7,4 @@ pub struct Counts {
     pub rows: u16,
     pub clauses: u16,
     pub bindings: u16,
-}
-
-// A record stands, with the counts after it; or it is refused with a number.
-#[derive(Clone, Copy)]
-pub enum Entered {
-    Stands(Counts),
-    Refused(u8),
 }

@@ -1,4 +1,4 @@
--- The seven cells of an answer, and the contract of the exported check from that of the check.
+-- The contract of the exported check from that of the check.
 use mathlib.Core.Path.{◌≡◌, refl, ap, ◌∙◌}
 use mathlib.Core.List.{List, [], ◌∷◌, ◌++◌}
 use Prim.Native.Nat.{ℕ, ◌<◌, ◌≤◌}
@@ -11,22 +11,6 @@ use Rattle.verdict.specs.Tables.{Tables}
 use Rattle.answer.specs.declared.Answer.{Answer}
 use Rattle.exported.specs.Exported.{Exported}
 use Rattle.exported.specs.ExportedWith.{ExportedWith}
-
--- Seven stores put seven numbers before the rest.
-seven : (xs : List ℕ) (a b c d e f g : ℕ) → 7 ≤ length xs → set (set (set (set (set (set (set xs 0 a) 1 b) 2 c) 3 d) 4 e) 5 f) 6 g ≡ a ∷ b ∷ c ∷ d ∷ e ∷ f ∷ g ∷ drop 7 xs
-seven (_ ∷ _ ∷ _ ∷ _ ∷ _ ∷ _ ∷ _ ∷ xs) a b c d e f g l = refl
-seven (_ ∷ _ ∷ _ ∷ _ ∷ _ ∷ _ ∷ []) a b c d e f g l = absurd (omega arith)
-seven (_ ∷ _ ∷ _ ∷ _ ∷ _ ∷ []) a b c d e f g l = absurd (omega arith)
-seven (_ ∷ _ ∷ _ ∷ _ ∷ []) a b c d e f g l = absurd (omega arith)
-seven (_ ∷ _ ∷ _ ∷ []) a b c d e f g l = absurd (omega arith)
-seven (_ ∷ _ ∷ []) a b c d e f g l = absurd (omega arith)
-seven (_ ∷ []) a b c d e f g l = absurd (omega arith)
-seven [] a b c d e f g l = absurd (omega arith)
-
-pub written : (a : Answer) (k w r : ℕ) (xs : List ℕ) → (k ∷ w ∷ r ∷ []) ≡ verdict_coded a.verdict → 7 ≤ length xs → set (set (set (set (set (set (set xs 0 k) 1 w) 2 r) 3 a.symbols) 4 a.rows) 5 a.clauses) 6 a.bindings ≡ answer_given a ++ drop 7 xs
-written a k w r xs q l =
-    seven xs k w r a.symbols a.rows a.clauses a.bindings l
-    ∙ ap (λ (v : List ℕ). (v ++ (a.symbols ∷ a.rows ∷ a.clauses ∷ a.bindings ∷ [])) ++ drop 7 xs) q
 
 -- The two ways that the exported check can go.
 pub left_alone : (day : ℕ) (F : File) (t : Tables) (A : List ℕ) → length A < 7 → Exported day F t A t A

@@ -7,7 +7,8 @@ use lib.ListN.{length, drop}
 use Rattle.record.specs.Record.{File}
 use Rattle.verdict.specs.Tables.{Tables}
 use Rattle.writing_answer.specs.Given.{writing_given}
-use Rattle.writing_answer.specs.declared.WritingOutcome.{WritingOutcome}
+use Rattle.writing_answer.specs.declared.NotWritten.{NotWritten}
+use Rattle.std.specs.Prelude.{Result}
 use Rattle.convert.specs.Contract.{ConversionAnswered}
 use Rattle.exported_conversion.specs.ExportedConversion.{ExportedConversion}
 
@@ -23,7 +24,7 @@ conversion_left_alone file t O A l = record {
   promised = λ m. absurd (omega arith);
 }
 
-pub conversion_exported : (file : File) (t : Tables) (O A : List ℕ) (m : WritingOutcome) (here : Tables) (O' A' : List ℕ) → 4 ≤ length A → ConversionAnswered file t O m here O' → A' ≡ writing_given m ++ drop 4 A → ExportedConversion file t O A here O' A'
+pub conversion_exported : (file : File) (t : Tables) (O A : List ℕ) (m : Result ℕ NotWritten) (here : Tables) (O' A' : List ℕ) → 4 ≤ length A → ConversionAnswered file t O m here O' → A' ≡ writing_given m ++ drop 4 A → ExportedConversion file t O A here O' A'
 conversion_exported file t O A m here O' A' l K q = record {
   answer_left = λ x. absurd (omega arith);
   output_kept = λ x. absurd (omega arith);

@@ -1,51 +1,21 @@
 // Whether a clause covers another, in ten numbers, for C. `ExportedCovers` in specs/ says what `checker_covers` promises.
 #![tactic(auto)]
 
-ghost use Rattle.std.specs.Prelude.{◌≡◌, [], ◌∷◌, ◌++◌, ◌≤◌, length, drop};
-ghost use Rattle.comparing.specs.Given.{outcome_numbers, covering_given};
+ghost use Rattle.std.specs.Prelude.{◌≡◌, ◌++◌, ◌≤◌, length, drop};
+ghost use Rattle.comparing.specs.Given.{covering_given};
 
-use comparing::covering::{Covering, Outcome};
+use comparing::covering::{Covering, NothingToCompare};
 
-// An outcome in numbers: 0 no, 1 yes, 2 refused; the reason; the record.
-#[derive(Clone, Copy)]
-struct Numbers {
-    kind: u16,
-    reason: u16,
-    record: u16,
-}
-
-// The numbers of an outcome.
-fn outcome_numbers(outcome: Outcome) -> Numbers
-    ensures { (result.kind ∷ result.reason ∷ result.record ∷ []) ≡ outcome_numbers outcome }
+// The ten numbers of an answer: 0 no, 1 yes, 2 refused; the reason, 15 for nothing to compare; the record; and the literals chosen.
+fn covering_numbers(r: Covering) -> [u16; 10]
+    ensures { result ≡ covering_given r }
 {
-    match outcome {
-        Outcome::Yes => Numbers {
-            kind: 1,
-            reason: 0,
-            record: 0,
-        },
-        Outcome::No => Numbers {
-            kind: 0,
-            reason: 0,
-            record: 0,
-        },
-        Outcome::Refused(q, k) => Numbers {
-            kind: 2,
-            reason: q as u16,
-            record: k,
-        },
-    }
-}
-
-// Writes the three numbers of an outcome to the first three cells.
-fn put_outcome(outcome: Outcome, answer: &mut [u16])
-    requires { 10 ≤ length answer.old }
-    ensures { (answer.new ≡ outcome_numbers outcome ++ drop 3 answer.old) × (10 ≤ length answer.new) }
-{
-    let n = outcome_numbers(outcome);
-    answer[0] = n.kind;
-    answer[1] = n.reason;
-    answer[2] = n.record;
+    let (kind, reason, n) = match r {
+        Ok(Some(chosen)) => (1, 0, chosen),
+        Ok(None) => (0, 0, [0; 7]),
+        Err(NothingToCompare) => (2, 15, [0; 7]),
+    };
+    [kind, reason, 0, n[0], n[1], n[2], n[3], n[4], n[5], n[6]]
 }
 
 // Writes the ten numbers of an answer to the first ten cells.
@@ -53,14 +23,5 @@ pub fn put_covering(r: Covering, answer: &mut [u16])
     requires { 10 ≤ length answer.old }
     ensures { answer.new ≡ covering_given r ++ drop 10 answer.old }
 {
-    let outcome = r.outcome;
-    put_outcome(outcome, answer);
-    // The last cell comes first: what is known of the length reaches over five writes.
-    answer[9] = r.seventh;
-    answer[3] = r.first;
-    answer[4] = r.second;
-    answer[5] = r.third;
-    answer[6] = r.fourth;
-    answer[7] = r.fifth;
-    answer[8] = r.sixth;
+    answer[..10].copy_from_slice(&covering_numbers(r));
 }

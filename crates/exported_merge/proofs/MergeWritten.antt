@@ -7,7 +7,8 @@ use lib.ListN.{length, drop}
 use Rattle.verdict.specs.Tables.{Tables}
 use Rattle.merge.specs.Contract.{MergeAnswered}
 use Rattle.writing_answer.specs.Given.{writing_given}
-use Rattle.writing_answer.specs.declared.WritingOutcome.{WritingOutcome}
+use Rattle.writing_answer.specs.declared.NotWritten.{NotWritten}
+use Rattle.std.specs.Prelude.{Result}
 use Rattle.exported_merge.specs.ExportedMerge.{ExportedMerge}
 
 -- The two ways that the exported function can go.
@@ -22,7 +23,7 @@ merge_left_alone first second t O A l = record {
   promised = λ m. absurd (omega arith);
 }
 
-pub merge_exported : (first second : List ℕ) (t : Tables) (O A : List ℕ) (m : WritingOutcome) (here : Tables) (O' A' : List ℕ) → 4 ≤ length A → MergeAnswered first second t O m here O' → A' ≡ writing_given m ++ drop 4 A → ExportedMerge first second t O A here O' A'
+pub merge_exported : (first second : List ℕ) (t : Tables) (O A : List ℕ) (m : Result ℕ NotWritten) (here : Tables) (O' A' : List ℕ) → 4 ≤ length A → MergeAnswered first second t O m here O' → A' ≡ writing_given m ++ drop 4 A → ExportedMerge first second t O A here O' A'
 merge_exported first second t O A m here O' A' l K q = record {
   answer_left = λ x. absurd (omega arith);
   output_kept = λ x. absurd (omega arith);

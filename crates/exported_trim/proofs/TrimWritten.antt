@@ -6,7 +6,8 @@ use native.Mathlib.Omega.{arith}
 use lib.ListN.{length, drop}
 use Rattle.verdict.specs.Tables.{Tables}
 use Rattle.writing_answer.specs.Given.{writing_given}
-use Rattle.writing_answer.specs.declared.WritingOutcome.{WritingOutcome}
+use Rattle.writing_answer.specs.declared.NotWritten.{NotWritten}
+use Rattle.std.specs.Prelude.{Result}
 use Rattle.trim.specs.Contract.{TrimAnswered}
 use Rattle.exported_trim.specs.ExportedTrim.{ExportedTrim}
 
@@ -22,7 +23,7 @@ trim_left_alone day file t O A l = record {
   promised = λ m. absurd (omega arith);
 }
 
-pub trim_exported : (day : ℕ) (file : List ℕ) (t : Tables) (O A : List ℕ) (m : WritingOutcome) (here : Tables) (O' A' : List ℕ) → 4 ≤ length A → TrimAnswered day file t O m here O' → A' ≡ writing_given m ++ drop 4 A → ExportedTrim day file t O A here O' A'
+pub trim_exported : (day : ℕ) (file : List ℕ) (t : Tables) (O A : List ℕ) (m : Result ℕ NotWritten) (here : Tables) (O' A' : List ℕ) → 4 ≤ length A → TrimAnswered day file t O m here O' → A' ≡ writing_given m ++ drop 4 A → ExportedTrim day file t O A here O' A'
 trim_exported day file t O A m here O' A' l K q = record {
   answer_left = λ x. absurd (omega arith);
   output_kept = λ x. absurd (omega arith);

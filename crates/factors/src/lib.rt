@@ -5,11 +5,13 @@
 ghost use Rattle.inference.specs.Stepping.{FactorNamed, StepRead};
 
 use clauses::{index_cell, literals_cell};
-use entry::entry::{Counts, Entered};
+use entry::entry::Counts;
+use following::failure::Failure;
 use following::nodes::{Nodes, Origins};
 use following::values::ValueCells;
 use inference::Atom;
 use outlines::outlines_clash;
+use reasons::Reason;
 use step_end::finish_step;
 use step_unify::unify_factor;
 
@@ -25,12 +27,12 @@ pub fn factor_atoms(
     values: &mut ValueCells,
     kept: Atom,
     deleted: Atom,
-) -> Entered
+) -> Result<Counts, Reason>
     requires { FactorNamed numbers.now k counts clauses.old bindings.old nodes.now origins.old values.old kept deleted }
     ensures { (R : FactorNamed numbers.now k counts clauses.old bindings.old nodes.now origins.old values.old kept deleted) → StepRead R.file k counts clauses.old bindings.old nodes.now origins.old values.old R.step clauses.new bindings.new origins.new values.new result }
 {
     if outlines_clash(nodes, kept.row, deleted.row) {
-        return Entered::Refused(10);
+        return Err(Reason::Unification(Failure::SymbolsDiffer));
     }
     let literals = literals_cell(clauses, kept.clause) - 1;
     let index = index_cell(clauses, kept.clause);

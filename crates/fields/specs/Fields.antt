@@ -3,17 +3,10 @@ use Rattle.std.specs.Prelude.{Bool, ◌&&◌, List, ℕ, eqb, ltb, get_or, drop}
 use Rattle.std.proofs.Math.Option.{Option, none, some}
 use Rattle.record.specs.Record.{pick, File, Record, record_part, kind_of, count_of, decoded, resolveKind, severalKind}
 use Rattle.verdict.specs.Refusal.{zeros, in_range}
-use Rattle.fields.specs.declared.Arity.{Arity}
-use Rattle.fields.specs.declared.Arity.TheVariants.{Is, Missing}
 
 -- The arity of a symbol, off the file and the table of symbols: none for a number that is not below the count.
 abbrev pub arity_in : File → List ℕ → ℕ → ℕ → Option ℕ
 arity_in F symbols n s = pick (ltb s n) (some (count_of (record_part F (get_or symbols s 0)))) none
-
--- The arity as the program answers it.
-abbrev pub arity_answer : Option ℕ → Arity
-arity_answer none = Missing
-arity_answer (some n) = Is n
 
 -- Byte 1 of a step is zero, and so are the fields that it does not use.
 abbrev pub step_in_range : ℕ → Record → Bool

@@ -12,11 +12,11 @@ use borrow.Author.Tests.{ne_eqb}
 use Rattle.record.specs.Record.{pick, File}
 use Rattle.derivation.specs.Derivation.{literals, Derivation}
 use Rattle.derivation.specs.Stored.{origin_table_of, literals_cell}
-use Rattle.answer.specs.Given.{answer_given, numbers_with, accepts, first_accepted, standing_numbers, all_set, ended_numbers}
+use Rattle.answer.specs.Given.{answer_given, numbers_with, accepts, first_accepted, standing_numbers, all_set, Ended, ended_numbers}
 use Rattle.tables.specs.Cells.{cleared_part}
 use Rattle.entry.specs.Progress.{node_table_of, counts_of, ReadTo, tables_with}
 use Rattle.reading.specs.Reader.{Begun, EndsAs, EndedWith, Readable, FileRead, FileReadWith}
-use Rattle.verdict.specs.Refusal.{Reason, reason_number}
+use Rattle.verdict.specs.Refusal.{reason_number}
 use Rattle.verdict.specs.Force.{uses_in_force}
 use Rattle.verdict.specs.State.{State, entry, clause_of}
 use Rattle.verdict.specs.Step.{Ending, all_stand, refused_at, state_of}
@@ -28,8 +28,9 @@ use Rattle.force.specs.Flags.{flags_in_force}
 use Rattle.file_reading.proofs.KeptFlags.{kept_flag}
 use Rattle.entry.proofs.Kept.{Sizes, sizes}
 use Rattle.entry.specs.declared.entry.Counts.{Counts}
-use Rattle.answer.specs.declared.Ended.{Ended}
-use Rattle.answer.specs.declared.Ended.TheVariants.{All, Refused}
+use Rattle.std.specs.Prelude.{Ok, Err}
+use Rattle.reasons.specs.Reasons.{meant}
+use Rattle.answer.specs.declared.Refused.{Refused}
 use Rattle.answer.specs.declared.Answer.{Answer}
 
 -- Before the first record.
@@ -100,7 +101,7 @@ module _ (day : ℕ) (F : File) (t : Tables) (here : Tables) (a : Answer) where
   flags_kept S N O A X q n d p =
       kept_flag day F t S here N O A X (record { fits = X.kept.fit; reads = q }) n d p
 
-  all_read_numbers : (n : Counts) (S : State) (N O A : List ℕ) → n ≡ counts_of S → ending F ≡ all_stand S → ReadTo F t S here N O A → answer_given a ≡ ended_numbers day F (All n) here.clauses O → FileRead day F t a here
+  all_read_numbers : (n : Counts) (S : State) (N O A : List ℕ) → n ≡ counts_of S → ending F ≡ all_stand S → ReadTo F t S here N O A → answer_given a ≡ ended_numbers day F (Ok n) here.clauses O → FileRead day F t a here
   all_read_numbers n S N O A c q X p = record {
     numbers = p ∙ ap₂ (λ (x : List ℕ) (m : Counts). numbers_with (standing_numbers x (flags_in_force day F O m.clauses all_set) m.clauses) m) (ap (λ (x : Tables). x.clauses) X.kept.tables) c
         ∙ ap (λ (o : Option ℕ). numbers_with (verdict_numbers (standing o)) (counts_of S)) (first_accepted_lem (uses_in_force S day) S.clauses (replicate (20480 - length (clause_cells S.clauses)) 0 ++ drop 20480 t.clauses) (flags_in_force day F O (length S.clauses) all_set) (flags_kept S N O A X q))
@@ -108,20 +109,20 @@ module _ (day : ℕ) (F : File) (t : Tables) (here : Tables) (a : Answer) where
     tables = X.kept.tables ∙ ap (λ (x : Ending). filled_tables (state_of x) t) (sym q);
   }
 
-  refused_read_numbers : (number k : ℕ) (n : Counts) (S : State) (reason : Reason) → n ≡ counts_of S → ending F ≡ refused_at S reason k → number ≡ reason_number reason → here ≡ filled_tables S t → (O : List ℕ) → answer_given a ≡ ended_numbers day F (Refused number k n) here.clauses O → FileRead day F t a here
-  refused_read_numbers number k n S reason c q z h O p = record {
-    numbers = p ∙ ap₂ (λ (x : ℕ) (m : Counts). numbers_with (2 ∷ x ∷ k ∷ []) m) z c ∙ sym (ap (whole_answer day) q);
+  refused_read_numbers : (r : Refused) (S : State) → r.counts ≡ counts_of S → ending F ≡ refused_at S (meant r.reason) r.number → here ≡ filled_tables S t → (O : List ℕ) → answer_given a ≡ ended_numbers day F (Err r) here.clauses O → FileRead day F t a here
+  refused_read_numbers r S c q h O p = record {
+    numbers = p ∙ ap (λ (m : Counts). numbers_with (2 ∷ reason_number (meant r.reason) ∷ r.number ∷ []) m) c ∙ sym (ap (whole_answer day) q);
     tables = h ∙ ap (λ (x : Ending). filled_tables (state_of x) t) (sym q);
   }
 
   file_read : (e : Ended) (N O A : List ℕ) → EndedWith F t e here N O A → answer_given a ≡ ended_numbers day F e here.clauses O → FileRead day F t a here
-  file_read (All n) N O A X p = all_read_numbers n X.state N O A X.ended.0 X.ended.1 X.left p
-  file_read (Refused number k n) N O A X p = refused_read_numbers number k n X.state X.ended.1.0 X.ended.0 X.ended.1.1 X.ended.1.2 X.left.kept.tables O p
+  file_read (Ok n) N O A X p = all_read_numbers n X.state N O A X.ended.0 X.ended.1 X.left p
+  file_read (Err r) N O A X p = refused_read_numbers r X.state X.ended.0 X.ended.1 X.left.kept.tables O p
 
   -- The state that reading ended with is the definition's.
   ended_state : (e : Ended) (S : State) → EndsAs F S e → S ≡ state_of (ending F)
-  ended_state (All n) S q = sym (ap state_of q.1)
-  ended_state (Refused number k n) S q = sym (ap state_of q.1.1)
+  ended_state (Ok n) S q = sym (ap state_of q.1)
+  ended_state (Err r) S q = sym (ap state_of q.1)
 
   pub file_read_with : (e : Ended) (N O A : List ℕ) → EndedWith F t e here N O A → answer_given a ≡ ended_numbers day F e here.clauses O → FileReadWith day F t a here N O A
   file_read_with e N O A X p = record { file = file_read e N O A X p; left = subst (λ (S : State). ReadTo F t S here N O A) (ended_state e X.state X.ended) X.left }

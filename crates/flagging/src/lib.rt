@@ -1,7 +1,7 @@
-// Which clauses are in force on a day: a flag for each clause, 1 where it is and 0 where it is not. `Flags` in specs/ of the crate force has the contracts.
+// Which clauses are in force on a day: a flag for each clause, a number since `flags_in_force` is so read by the crate standing, 1 where it is and 0 where it is not. `Flags` in specs/ of the crate force has the contracts.
 #![tactic(auto)]
 
-ghost use Rattle.std.specs.Prelude.{◌≡◌, length};
+ghost use Rattle.std.specs.Prelude.{◌≡◌};
 ghost use Rattle.force.specs.Flags.{day_flag, with_record, flags_after, flag_from, derived_flags, flags_in_force};
 ghost use Rattle.record.specs.Record.{in_form, record_count, decoded_in};
 
@@ -15,13 +15,11 @@ use tables::{cell, set_cell};
 fn day_flag(day: u16, first: u16, last: u16) -> u16
     ensures { result ≡ day_flag day first last }
 {
-    if day < first {
-        return 0;
-    }
-    if last < day { 0 } else { 1 }
+    u16::from(first <= day && day <= last)
 }
 
 // The flags after a record, where c clauses stand before it: a window sets that of its clause, whatever it was, and in the new form an input clause its own.
+#[tactic(auto, unfolding(force::specs::Flags::with_record))]
 fn put_days(form: Form, day: u16, part: &[u8], c: usize, flags: &mut [u16])
     ensures { flags.new ≡ with_record day c (decoded_in form part.now) flags.old }
 {
@@ -45,19 +43,17 @@ fn put_days(form: Form, day: u16, part: &[u8], c: usize, flags: &mut [u16])
 fn put_windows(form: Form, day: u16, file: &[u8], flags: &mut [u16])
     ensures { flags.new ≡ flags_after day (in_form form file.now) (record_count (in_form form file.now)) flags.old }
 {
-    let mut k: usize = 0;
     let mut c: usize = 0;
-    while k < record_count(form, file) {
+    for k in 0..record_count(form, file) {
         let part = record_part(form, file, k);
         put_days(form, day, part, c, flags);
         c += clauses_of(part);
-        k += 1;
     }
 }
 
 // The flag of clause c: an input clause's own; of a factor its parent's; of a resolve 1 if both its parents' are.
+#[tactic(auto, unfolding(force::specs::Flags::flag_from))]
 fn flag_from(origins: &Origins, c: u16, flags: &[u16]) -> u16
-    requires { length origins.now ≡ 32768 }
     ensures { result ≡ flag_from origins.now c flags.now }
 {
     let code = origin_code(origins, c);
@@ -76,21 +72,19 @@ fn flag_from(origins: &Origins, c: u16, flags: &[u16]) -> u16
 }
 
 // The flags of derived clauses, each from its parents, which have smaller numbers.
+#[tactic(auto, unfolding(force::specs::Flags::with_flag))]
 fn derived(origins: &Origins, count: u16, flags: &mut [u16])
-    requires { length origins.now ≡ 32768 }
     ensures { flags.new ≡ derived_flags origins.now count flags.old }
 {
-    let mut c: u16 = 0;
-    while c < count {
+    for c in 0..count {
         let f = flag_from(origins, c, flags);
         set_cell(flags, c as usize, f);
-        c += 1;
     }
 }
 
 // Which of so many clauses are in force on a day: by the days that the records of the file give, and the clauses' parents. The flags are 1 before.
+#[tactic(auto, unfolding(force::specs::Flags::flags_in_force))]
 pub fn in_force(form: Form, day: u16, file: &[u8], origins: &Origins, count: u16, flags: &mut [u16])
-    requires { length origins.now ≡ 32768 }
     ensures { flags.new ≡ flags_in_force day (in_form form file.now) origins.now count flags.old }
 {
     put_windows(form, day, file, flags);

@@ -1,4 +1,3 @@
-pub mod Clearing
 pub mod Links
 pub mod Writing
 pub mod Halving

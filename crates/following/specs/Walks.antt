@@ -1,17 +1,24 @@
 -- The contracts of following and of the occurrence test. This file only says how the parts of the program fit together. Each
 -- function asks for an environment that the array stands for. What it ensures is stated for every such environment, and for every rest
 -- of the machine's task.
-use Rattle.std.specs.Prelude.{◌≡◌, Bool, true, false, List, ◌∷◌, ℕ, ◌+◌, ◌≤◌, ◌<◌, eqb, length, get_or}
+use Rattle.std.specs.Prelude.{◌≡◌, Bool, true, false, List, ◌∷◌, ℕ, ◌+◌, ◌≤◌, ◌<◌, eqb, length, get_or, Result, Ok, Err}
 use Rattle.record.specs.Record.{pick}
 use Rattle.unification.specs.Environment.{follow, Binding, Environment, extend, unbound, View, applied}
 use Rattle.unification.specs.Nodes.{is_variable, part, node_arity, arguments_from, node_row}
 use Rattle.unification.specs.Row.{Row, Expression}
-use Rattle.unification.specs.Unification.{most_links, Failure, occurs, overwork, full, Outcome, unified, failed, Pair, unifying, testing, arguments, argument_pairs, test_rest, with_work, run}
+use Rattle.unification.specs.Unification.{most_links, Failure, clash, occurs, overwork, full, Outcome, unified, failed, Pair, unifying, testing, arguments, argument_pairs, test_rest, with_work, run}
 use Rattle.unification.specs.ValueArray.{slot, put, InStep, Models}
 use Rattle.following.specs.declared.follow.Followed.{Followed}
 use Rattle.following.specs.declared.follow.Followed.TheVariants.{Variable, Application}
-use Rattle.following.specs.declared.occurs.Occurs.{Occurs}
-use Rattle.following.specs.declared.occurs.Occurs.TheVariants.{No, Yes, Spent}
+use Rattle.following.specs.declared.failure.Failure.{Failure as Refusal}
+use Rattle.following.specs.declared.failure.Failure.TheVariants.{SymbolsDiffer, VariableOccurs, WorkSpent, NoRoom}
+
+-- The failures of unification by their names in the program.
+abbrev pub failure_of : Refusal → Failure
+failure_of SymbolsDiffer = clash
+failure_of VariableOccurs = occurs
+failure_of WorkSpent = overwork
+failure_of NoRoom = full
 
 -- What following answers, as a view of the machine, and the expression that it ended on.
 abbrev pub view_of : List ℕ → Followed → View
@@ -56,21 +63,18 @@ pub data Tested : Type 0 where
   absent : ℕ → Tested
   broken : Failure → Tested
 
-abbrev pub tested_of : Occurs → Tested
-tested_of (No w) = absent w
-tested_of Yes = broken occurs
-tested_of Spent = broken overwork
+abbrev pub tested_of : Result ℕ Refusal → Tested
+tested_of (Ok w) = absent w
+tested_of (Err f) = broken (failure_of f)
 
 -- Less work is left than w; no more than w.
-abbrev pub TestLeavesLess : ℕ → Occurs → Type 0
-TestLeavesLess w (No l) = l < w
-TestLeavesLess w Yes = Unit {0}
-TestLeavesLess w Spent = Unit {0}
+abbrev pub TestLeavesLess : ℕ → Result ℕ Refusal → Type 0
+TestLeavesLess w (Ok l) = l < w
+TestLeavesLess w (Err f) = Unit {0}
 
-abbrev pub TestLeavesNoMore : ℕ → Occurs → Type 0
-TestLeavesNoMore w (No l) = l ≤ w
-TestLeavesNoMore w Yes = Unit {0}
-TestLeavesNoMore w Spent = Unit {0}
+abbrev pub TestLeavesNoMore : ℕ → Result ℕ Refusal → Type 0
+TestLeavesNoMore w (Ok l) = l ≤ w
+TestLeavesNoMore w (Err f) = Unit {0}
 
 -- The machine from the task at hand comes to the same as from where the function leaves it, whatever is to be done after.
 module _ (row : ℕ → Row) (links : ℕ) (isFull : List Binding → Bool) (base : Environment) where
@@ -103,18 +107,18 @@ module _ (row : ℕ → Row) (links : ℕ) (isFull : List Binding → Bool) (bas
 
 -- The array afterwards, and the machine at the test of o for x.
 module _ (N : List ℕ) (top : ℕ) (A : List ℕ) (isFull : List Binding → Bool) (base : Environment) (bs : List Binding) (x : Expression) where
-  pub record Looking (o : Expression) (w : ℕ) (r : Occurs) : Type 0 where
+  pub record Looking (o : Expression) (w : ℕ) (r : Result ℕ Refusal) : Type 0 where
     pub models : Models N top A (extend base bs)
     pub ok : (e : Expression) → TestRuns (node_row N) most_links isFull base w bs x e o (tested_of r)
 
-  pub record LookingArguments (r k w : ℕ) (q : Occurs) : Type 0 where
+  pub record LookingArguments (r k w : ℕ) (q : Result ℕ Refusal) : Type 0 where
     pub models : Models N top A (extend base bs)
     pub ok : (e : Expression) → TestsRun (node_row N) most_links isFull base w bs x e (arguments_from N r (node_arity N r) 1) k (tested_of q)
 
-abbrev pub Looked : List ℕ → List ℕ → List ℕ → Expression → Expression → ℕ → Occurs → Type 0
+abbrev pub Looked : List ℕ → List ℕ → List ℕ → Expression → Expression → ℕ → Result ℕ Refusal → Type 0
 Looked N A A' x o w r = (top : ℕ) (isFull : List Binding → Bool) (base : Environment) (bs : List Binding) → Models N top A (extend base bs) → InStep N top o → Looking N top A' isFull base bs x o w r
 
-abbrev pub LookedArguments : List ℕ → List ℕ → List ℕ → Expression → ℕ → ℕ → ℕ → Occurs → Type 0
+abbrev pub LookedArguments : List ℕ → List ℕ → List ℕ → Expression → ℕ → ℕ → ℕ → Result ℕ Refusal → Type 0
 LookedArguments N A A' x r k w q = (top : ℕ) (isFull : List Binding → Bool) (base : Environment) (bs : List Binding) → Models N top A (extend base bs) → InStep N top (r, k) → is_variable N r ≡ false → LookingArguments N top A' isFull base bs x r k w q
 
 -- In the arguments of r at index k: what holds from argument n on, of which `rest` are left, holds of all.
@@ -127,12 +131,11 @@ abbrev pub Scanned : List ℕ → List ℕ → List ℕ → Expression → ℕ �
 Scanned N A A' x r k w n rest left = (top : ℕ) (isFull : List Binding → Bool) (base : Environment) (bs : List Binding) → Models N top A (extend base bs) → InStep N top (r, k) → is_variable N r ≡ false → Scanning N top A' isFull base bs x r k w n rest left
 
 -- The arguments before the last: the last is left to be taken up, or the test of all of them ended.
-abbrev pub LookedBefore : List ℕ → List ℕ → List ℕ → Expression → ℕ → ℕ → ℕ → Occurs → Type 0
-LookedBefore N A A' x r k w (No l) = Scanned N A A' x r k w (node_arity N r) 1 l
-LookedBefore N A A' x r k w Yes = LookedArguments N A A' x r k w Yes
-LookedBefore N A A' x r k w Spent = LookedArguments N A A' x r k w Spent
+abbrev pub LookedBefore : List ℕ → List ℕ → List ℕ → Expression → ℕ → ℕ → ℕ → Result ℕ Refusal → Type 0
+LookedBefore N A A' x r k w (Ok l) = Scanned N A A' x r k w (node_arity N r) 1 l
+LookedBefore N A A' x r k w (Err f) = LookedArguments N A A' x r k w (Err f)
 
 -- The answer of a test that ends on an unbound variable: it is the one sought, or not.
-abbrev pub met_variable : Bool → ℕ → Occurs
-met_variable true left = Yes
-met_variable false left = No left
+abbrev pub met_variable : Bool → ℕ → Result ℕ Refusal
+met_variable true left = Err VariableOccurs
+met_variable false left = Ok left

@@ -5,7 +5,8 @@ ghost use Rattle.unification.specs.Row.{same};
 ghost use Rattle.following.specs.Walks.{Followable, Follows, halved};
 
 use super::nodes::{Nodes, is_variable};
-use super::values::{ValueCells, slot_of, value, write_value};
+use super::values::{ValueCells, slot_of, write_cells};
+use tables::cell;
 
 // Where following ends: an unbound variable or an application, its row and index.
 #[derive(Clone, Copy)]
@@ -16,16 +17,15 @@ pub enum Followed {
 
 // The cells at `at` hold row t at index k. If that is a bound variable, they are set to what its own cells hold.
 fn halve(nodes: &Nodes, values: &mut ValueCells, at: usize, t: u16, k: u16)
-    requires nodes_len { (length nodes.now ≡ 32768) × (length values.old ≡ 524416) }
-    requires at_bound { at < 8519680 }
-    ensures { (values.new ≡ halved nodes.now values.old at t k) × (length values.new ≡ 524416) }
+    requires { at < 8519680 }
+    ensures { values.new ≡ halved nodes.now values.old at t k }
 {
     if is_variable(nodes, t) {
         let next = slot_of(nodes, t, k);
-        let q = value(values, next);
-        let j = value(values, next + 1);
+        let q = cell(values, next);
+        let j = cell(values, next + 1);
         if q != 0 {
-            write_value(values, at, q, j);
+            write_cells(values, at, q, j);
         }
     }
 }
@@ -43,11 +43,11 @@ pub fn follow(nodes: &Nodes, values: &mut ValueCells, row: u16, index: u16) -> F
             return Followed::Application(v, j);
         }
         let at = slot_of(nodes, v, j);
-        let r = value(values, at);
+        let r = cell(values, at);
         if r == 0 {
             return Followed::Variable(v, j);
         }
-        let k = value(values, at + 1);
+        let k = cell(values, at + 1);
         halve(nodes, values, at, r - 1, k);
         v = r - 1;
         j = k;
@@ -60,5 +60,5 @@ pub fn follow(nodes: &Nodes, values: &mut ValueCells, row: u16, index: u16) -> F
 pub fn is_same(v: u16, i: u16, t: u16, j: u16) -> bool
     ensures { result ≡ same (v, i) (t, j) }
 {
-    v == t && i == j
+    (v, i) == (t, j)
 }

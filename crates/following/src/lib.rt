@@ -2,7 +2,8 @@
 // test, which is in the crate occurrence; what following is stands in the crate unification.
 #![tactic(auto)]
 
+pub mod failure;
 pub mod follow;
+pub mod lent;
 pub mod nodes;
-pub mod occurs;
 pub mod values;

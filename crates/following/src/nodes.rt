@@ -1,5 +1,5 @@
 // Reading the node table: the rows of a file, eight cells a row. Every function takes any row; what is not there reads 0.
-ghost use Rattle.std.specs.Prelude.{◌≡◌, ◌<◌, length, get_or};
+ghost use Rattle.std.specs.Prelude.{◌≡◌, ◌<◌, get_or};
 ghost use Rattle.unification.specs.Nodes.{is_variable, part, node_arity};
 
 // The node table: eight cells for each of 4,096 rows.
@@ -10,15 +10,13 @@ pub type Origins = [u16; 32768];
 
 // A cell of the node table, 0 outside.
 pub fn node(nodes: &Nodes, at: usize) -> u16
-    requires { length nodes.now ≡ 32768 }
     ensures { result ≡ get_or nodes.now at 0 }
 {
-    if at < 32768 { nodes[at] } else { 0 }
+    nodes.get(at).copied().unwrap_or(0)
 }
 
 // Whether the row is a variable.
 pub fn is_variable(nodes: &Nodes, r: u16) -> bool
-    requires { length nodes.now ≡ 32768 }
     ensures { result ≡ is_variable nodes.now r }
 {
     node(nodes, 8 * (r as usize)) == 1
@@ -26,7 +24,6 @@ pub fn is_variable(nodes: &Nodes, r: u16) -> bool
 
 // Part 0 is the number of a variable or the symbol of an application; the parts from 1 on are its arguments.
 pub fn part_of(nodes: &Nodes, r: u16, n: u16) -> u16
-    requires { length nodes.now ≡ 32768 }
     ensures { result ≡ part nodes.now r n }
 {
     node(nodes, 8 * (r as usize) + 1 + (n as usize))
@@ -34,9 +31,7 @@ pub fn part_of(nodes: &Nodes, r: u16, n: u16) -> u16
 
 // How many arguments the row has; none for a variable.
 pub fn arity_of(nodes: &Nodes, r: u16) -> u16
-    requires { length nodes.now ≡ 32768 }
     ensures { (result ≡ node_arity nodes.now r) × (result < 65534) }
 {
-    let a = node(nodes, 8 * (r as usize));
-    if a > 2 { a - 2 } else { 0 }
+    node(nodes, 8 * (r as usize)).saturating_sub(2)
 }

@@ -10,7 +10,6 @@ use following::nodes::{Nodes, Origins};
 use following::values::ValueCells;
 use literal_text::write_literal;
 use literal_walk::literal;
-use named_literals::NamedLiteral;
 use names::Place;
 use numbering::Naming;
 use text::TextBuffer;
@@ -33,15 +32,9 @@ fn write_numbered(
     requires { NumberedReady naming origins.now clauses.now nodes.now values.old text.old cells.old order.old numbered c n }
     ensures { WritesNumbered naming origins.now clauses.now nodes.now values.old values.new text.old text.new cells.old cells.new order.old order.new numbered at c n result × (result.count ≤ numbered + 64) × Sized nodes.now values.new text.new }
 {
-    let l = literal(origins, clauses, c, n);
-    let NamedLiteral::Found(positive, row, index) = l else {
-        return Place {
-            end: at,
-            count: numbered,
-        };
-    };
+    let l = literal(origins, clauses, c, n).unwrap();
     write_literal(
-        nodes, values, text, at, naming, cells, order, numbered, positive, row, index,
+        nodes, values, text, at, naming, cells, order, numbered, l.positive, l.row, l.index,
     )
 }
 
@@ -64,11 +57,20 @@ pub fn write_found_literals(
     let count = literals_cell(clauses, c);
     let mut end = at;
     let mut numbered: u16 = 0;
-    let mut n: u16 = 0;
-    while n < count {
-        n += 1;
+    for n in 0..count {
         let p = write_numbered(
-            origins, clauses, nodes, values, text, end, naming, cells, order, numbered, c, n,
+            origins,
+            clauses,
+            nodes,
+            values,
+            text,
+            end,
+            naming,
+            cells,
+            order,
+            numbered,
+            c,
+            n + 1,
         );
         end = p.end;
         numbered = p.count;

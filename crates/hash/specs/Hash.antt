@@ -1,5 +1,5 @@
 -- FNV-1a with 64 bits, as `rust/vectors/README.md` has it.
-use Rattle.std.specs.Prelude.{List, [], ◌∷◌, ℕ, ◌*◌, ◌/◌, ◌%◌, ◌^◌}
+use Rattle.std.specs.Prelude.{List, ℕ, ◌*◌, ◌/◌, ◌%◌, ◌^◌, fold}
 use Rattle.std.specs.Int.Bits.{bit_xor}
 
 -- The number to begin with.
@@ -15,11 +15,9 @@ unfoldable pub hash_cell : ℕ → ℕ → ℕ
 hash_cell h c = hash_byte (hash_byte h (c % 256)) (c / 256)
 
 -- The cells of a table in order, taken into a hash.
-unfoldable pub hash_cells : ℕ → List ℕ → ℕ
-hash_cells h [] = h
-hash_cells h (c ∷ cs) = hash_cells (hash_cell h c) cs
+abbrev pub hash_cells : ℕ → List ℕ → ℕ
+hash_cells h cs = fold hash_cell h cs
 
 -- Bytes in order, taken into a hash.
-unfoldable pub hash_bytes : ℕ → List ℕ → ℕ
-hash_bytes h [] = h
-hash_bytes h (b ∷ bs) = hash_bytes (hash_byte h b) bs
+abbrev pub hash_bytes : ℕ → List ℕ → ℕ
+hash_bytes h bs = fold hash_byte h bs

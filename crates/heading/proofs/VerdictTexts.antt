@@ -11,10 +11,9 @@ use Rattle.answer.specs.Given.{verdict_coded, answer_given}
 use Rattle.answer.specs.declared.Answer as given-answer
 use Rattle.answer.specs.declared.Verdict as goal
 use Rattle.answer.specs.declared.Verdict.TheVariants.{Open, Accepted, Refused}
-use Rattle.heading.specs.Heading.{given_text, VerdictWritten}
+use Rattle.heading.specs.Heading.{given_text}
 use Rattle.verdict.specs.Readout.{verdict_text, verdict_line}
 use Rattle.text.specs.Buffer.{Wrote}
-use Rattle.text.proofs.Positions.{wrote_then}
 
 -- Three numbers decide the words.
 pub given_words : (v : goal.Verdict) (u : Verdict) → verdict_coded v ≡ verdict_numbers u → given_text v ≡ verdict_text u
@@ -34,16 +33,9 @@ given_words (Refused p j) (refusal reason k) q =
 pub given_written : {v : goal.Verdict} {T T' : List ℕ} {at end : ℕ} (u : goal.Verdict) → v ≡ u → Wrote T T' at end (given_text u) → Wrote T T' at end (given_text v)
 given_written {v} {T} {T'} {at} {end} u q w = subst (λ (x : goal.Verdict). Wrote T T' at end (given_text x)) (sym q) w
 
-pub verdict_written : (v : goal.Verdict) (T T₁ T₂ : List ℕ) (at last end : ℕ) → length T ≡ 131072 → Wrote T T₁ at last (given_text v) → Wrote T₁ T₂ last end (10 ∷ []) → VerdictWritten v T T₂ at end
-verdict_written v T T₁ T₂ at last end z w x =
-    record {
-      wrote = wrote_then T T₁ T₂ at last end (given_text v) (10 ∷ []) w x;
-      room = x.kept.room ∙ w.kept.room ∙ z;
-    }
-
 -- The line written is that of the definition's verdict with the same three numbers.
-pub verdict_line_lem : {v : goal.Verdict} {T T' : List ℕ} {at end : ℕ} (u : Verdict) → verdict_coded v ≡ verdict_numbers u → VerdictWritten v T T' at end → Wrote T T' at end (verdict_line u)
-verdict_line_lem {v} {T} {T'} {at} {end} u q W = subst (λ (x : List ℕ). Wrote T T' at end (x ++ (10 ∷ []))) (given_words v u q) W.wrote
+pub verdict_line_lem : (v : goal.Verdict) {T T' : List ℕ} {at end : ℕ} (u : Verdict) → verdict_coded v ≡ verdict_numbers u → Wrote T T' at end (given_text v ++ (10 ∷ [])) → Wrote T T' at end (verdict_line u)
+verdict_line_lem v {T} {T'} {at} {end} u q W = subst (λ (x : List ℕ). Wrote T T' at end (x ++ (10 ∷ []))) (given_words v u q) W
 
 -- The verdict's numbers are the first three of an answer's seven.
 pub verdict_told : (a : given-answer.Answer) (b : Answer) → answer_given a ≡ answer_numbers b → verdict_coded a.verdict ≡ verdict_numbers b.verdict

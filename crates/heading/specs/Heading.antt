@@ -1,17 +1,11 @@
--- The contracts of the functions that write the first line. What the line is stands in `Readout` of the crate verdict.
-use Rattle.std.specs.Prelude.{◌≡◌, List, [], ◌∷◌, ◌++◌, ℕ, length}
+-- What the functions say that write the first line. What the line is stands in `Readout` of the crate verdict.
+use Rattle.std.specs.Prelude.{List, ℕ}
 use Rattle.answer.specs.declared.Verdict as given
 use Rattle.answer.specs.declared.Verdict.TheVariants as given-variants
 use Rattle.verdict.specs.Readout.{accepted_text, open_text, refused_text}
-use Rattle.text.specs.Buffer.{Wrote}
 
 -- The words of a verdict as the program gives it.
 abbrev pub given_text : given.Verdict → List ℕ
 given_text given-variants.Open = open_text
 given_text (given-variants.Accepted n) = accepted_text n
 given_text (given-variants.Refused q k) = refused_text q k
-
--- What writing the verdict says: its line, whatever the verdict, and the buffer's length.
-pub record VerdictWritten (v : given.Verdict) (T T' : List ℕ) (at end : ℕ) : Type 0 where
-  pub wrote : Wrote T T' at end (given_text v ++ (10 ∷ []))
-  pub room : length T' ≡ 131072

@@ -1,13 +1,12 @@
 -- Right literals looked up one after another.
 use mathlib.Core.Path.{◌≡◌, refl, sym, ap, ap₂, ◌∙◌}
-use mathlib.Core.Bool.{Bool, true, false, ◌&&◌, not}
+use mathlib.Core.Bool.{Bool, true, false, ◌&&◌, not, beq}
 use mathlib.Core.Option.{Option, none, some}
 use mathlib.Core.List.{List, [], ◌∷◌, ◌++◌}
 use Prim.Native.Nat.{ℕ, zero, suc, ◌+◌, ◌*◌, ◌≤◌, ◌<◌}
 use native.Mathlib.Omega.{arith}
 use lib.ListN.{length, get_or, set, take, drop, length-set, length-drop, length-map}
 use lib.Seq.{get_or-set_same, get_or-set_other, get_or-drop}
-use Rattle.record.specs.Record.{pick}
 use Rattle.unification.specs.Listed.{listed_at, listed_from}
 use Rattle.unification.specs.Row.{Expression}
 use Rattle.unification.proofs.Lists.{map_append}
@@ -15,18 +14,17 @@ use Rattle.unification.proofs.Tests.{some_not_none, some_injective}
 use Rattle.derivation.specs.Derivation.{literals, Literal, Derivation, numbered, numbered_all}
 use Rattle.derivation.specs.Stored.{Stored}
 use Rattle.derivation.proofs.Literals.{numbered_cons, numbered_all_cons}
-use Rattle.named_literals.specs.Named.{named_literal}
+use Rattle.named_literals.specs.Named.{fields_of_literal, named_literal}
 use Rattle.verdict.specs.Refusal.{literals_in, equal_signs, all_opposite}
 use Rattle.verdict.specs.State.{derivations, clause_of}
 use Rattle.verdict.specs.Step.{atoms}
 use Rattle.demands.proofs.Inversions.{entry_none, entry_some}
 use Rattle.inference.specs.Rights.{AtomListed, rights_answer, RightsNamed}
 use Rattle.inference.specs.Stepping.{ClausesStored}
+use Rattle.inference.proofs.StepTests.{equal_signs-beq}
 use Rattle.named_literals.specs.declared.NamedLiteral.{NamedLiteral}
-use Rattle.named_literals.specs.declared.NamedLiteral.TheVariants.{Found, Absent}
-use Rattle.inference.specs.declared.rights.NamedRights.{NamedRights}
-use Rattle.inference.specs.declared.rights.NamedRights.TheVariants.{Opposite, Equal}
-use Rattle.inference.specs.declared.rights.NamedRights.TheVariants as rights
+use Rattle.std.specs.Prelude.{Some, None}
+use Rattle.std.specs.Prelude as std
 
 -- Two cells written are one more expression listed.
 module _ (L : List ℕ) (j row index : ℕ) (long : length L ≡ 8) (inside : j < 4) where
@@ -48,7 +46,7 @@ module _ (L : List ℕ) (j row index : ℕ) (long : length L ≡ 8) (inside : j 
   up_to i (suc n) e = ap₂ (λ (a : Expression) (as' : List Expression). a ∷ as') (others i (omega arith)) (up_to (suc i) n (omega arith))
 
   pub atom_listed : AtomListed L (set (set L (2 * j) row) (2 * j + 1) index) j (row, index)
-  atom_listed = record { room = length-set (set L (2 * j) row) (2 * j + 1) index ∙ length-set L (2 * j) row ∙ long; added = let z : j + 1 ≡ suc j = omega arith in ap (listed_from (set (set L (2 * j) row) (2 * j + 1) index) 0) z ∙ up_to 0 j (omega arith) }
+  atom_listed = record { added = let z : j + 1 ≡ suc j = omega arith in ap (listed_from (set (set L (2 * j) row) (2 * j + 1) index) 0) z ∙ up_to 0 j (omega arith) }
 
 -- One more sign.
 pub opposite_more : (s : Bool) (ms : List Literal) (l : Literal) → (all_opposite s ms && not (equal_signs s l.0)) ≡ all_opposite s (ms ++ (l ∷ []))
@@ -99,35 +97,36 @@ pub so_far_none : {O C : List ℕ} {c : ℕ} {numbers L : List ℕ} {s : Bool} �
 so_far_none r = record { room = r; literals' = λ B d t. ([], refl, refl, refl) }
 
 module _ {O C : List ℕ} {c : ℕ} {numbers L : List ℕ} {s opposite : Bool} {j : ℕ} (seven : length numbers ≡ 7) (few : j < 4) (H : SoFar O C c numbers L s opposite j)
-    (l : NamedLiteral) (q : ℕ) (pq : q ≡ get_or numbers (3 + j) 0) (looked : (B : List ℕ) (d : Derivation) → Stored O C B c d → l ≡ named_literal (numbered (literals d) q)) where
+    (l : std.Option NamedLiteral) (q : ℕ) (pq : q ≡ get_or numbers (3 + j) 0) (looked : (B : List ℕ) (d : Derivation) → Stored O C B c d → l ≡ named_literal (numbered (literals d) q)) where
   inside : j < length (drop 3 numbers)
   inside = rw length-drop (omega (arith, seven))
 
   number_is : q ≡ get_or (drop 3 numbers) j 0
   number_is = pq ∙ sym (get_or-drop 3 numbers j 0)
 
-  found_is : (sign : Bool) (row index : ℕ) → l ≡ Found sign row index → (o : Option Literal) → l ≡ named_literal o → o ≡ some (sign, (row, index))
-  found_is sign row index e none p = absurd (let z : ◌≡◌ {A = ℕ} 0 1 = cc in omega arith)
-  found_is sign row index e (some m) p = let a : m.0 ≡ sign = cc in let b : m.1.0 ≡ row = cc in let d : m.1.1 ≡ index = cc in λ i. some (a i, (b i, d i))
+  found_is : (x : NamedLiteral) → l ≡ Some x → (o : Option Literal) → l ≡ named_literal o → o ≡ some (x.positive, (x.row, x.index))
+  found_is x e none p = absurd (let z : ◌≡◌ {A = ℕ} 0 1 = cc in omega arith)
+  found_is x e (some m) p = let f : fields_of_literal m ≡ x = cc in ap (λ (y : NamedLiteral). some (y.positive, (y.row, y.index))) f
 
-  pub so_far_more : (sign : Bool) (row index : ℕ) → l ≡ Found sign row index → (L₁ : List ℕ) → AtomListed L L₁ j (row, index) → (o : Bool) → o ≡ (opposite && not (equal_signs s sign)) → SoFar O C c numbers L₁ s o (j + 1)
-  so_far_more sign row index e L₁ W o po = record {
-    room = W.room;
+  pub so_far_more : (x : NamedLiteral) → l ≡ Some x → (L₁ : List ℕ) → length L₁ ≡ 8 → AtomListed L L₁ j (x.row, x.index) → SoFar O C c numbers L₁ s (opposite && not (beq s x.positive)) (j + 1)
+  so_far_more x e L₁ room W = record {
+    room = room;
     literals' = λ B d t.
         let h = H.literals' B d t in
-        let x = found_is sign row index e (numbered (literals d) q) (looked B d t) in (
-          h.0 ++ ((sign, (row, index)) ∷ []),
-          ap (numbered_all (literals d)) ((let z : j + 1 ≡ suc j = omega arith in ap (λ (i : ℕ). take i (drop 3 numbers)) z) ∙ take_more (drop 3 numbers) j inside) ∙ numbered_more (literals d) (take j (drop 3 numbers)) (get_or (drop 3 numbers) j 0) h.0 (sign, (row, index)) h.1 (ap (numbered (literals d)) (sym number_is) ∙ x),
-          W.added ∙ ap (λ (es : List Expression). es ++ ((row, index) ∷ [])) h.2 ∙ sym (map_append (λ (m : Literal). m.1) h.0 ((sign, (row, index)) ∷ [])),
-          po ∙ ap (λ (b : Bool). b && not (equal_signs s sign)) h.3 ∙ opposite_more s h.0 (sign, (row, index)),
+        let m : Literal = (x.positive, (x.row, x.index)) in
+        let f = found_is x e (numbered (literals d) q) (looked B d t) in (
+          h.0 ++ (m ∷ []),
+          ap (numbered_all (literals d)) ((let z : j + 1 ≡ suc j = omega arith in ap (λ (i : ℕ). take i (drop 3 numbers)) z) ∙ take_more (drop 3 numbers) j inside) ∙ numbered_more (literals d) (take j (drop 3 numbers)) (get_or (drop 3 numbers) j 0) h.0 m h.1 (ap (numbered (literals d)) (sym number_is) ∙ f),
+          W.added ∙ ap (λ (es : List Expression). es ++ ((x.row, x.index) ∷ [])) h.2 ∙ sym (map_append (λ (m : Literal). m.1) h.0 (m ∷ [])),
+          ap₂ (λ (b v : Bool). b && not v) h.3 (sym (equal_signs-beq s x.positive)) ∙ opposite_more s h.0 m,
         );
   }
 
-  absent_is : l ≡ Absent → (o : Option Literal) → l ≡ named_literal o → o ≡ none
+  absent_is : l ≡ None → (o : Option Literal) → l ≡ named_literal o → o ≡ none
   absent_is e none p = refl
   absent_is e (some m) p = absurd (let z : ◌≡◌ {A = ℕ} 0 1 = cc in omega arith)
 
-  pub right_missing : {count : ℕ} → c ≡ get_or numbers 2 0 → c < count → (n : ℕ) → j < n → l ≡ Absent → RightsNamed O C count numbers n s L rights.Absent
+  pub right_missing : {count : ℕ} → c ≡ get_or numbers 2 0 → c < count → (n : ℕ) → j < n → l ≡ None → RightsNamed O C count numbers n s L None
   right_missing {count} pc there n less e = record { room = H.room; answer = λ R. sym (ap (rights_answer s) (lacks R)); listed = λ R y p. absurd (some_not_none (lacks R) p) }
     where
       lacks : (R : ClausesStored O C count) → literals_in (take n (drop 3 numbers)) (clause_of R.state (get_or numbers 2 0)) ≡ none
@@ -139,23 +138,20 @@ module _ {O C : List ℕ} {c : ℕ} {numbers L : List ℕ} {s opposite : Bool} {
           ap (literals_in (take n (drop 3 numbers))) (ap (clause_of R.state) (sym pc) ∙ d.1) ∙ ap (λ (o : Option (List Literal)). elim o [ some ls ↦ some (d.0, ls) | none ↦ none ]) y
 
 -- The clause does not exist.
-pub clause_missing : {O C : List ℕ} {count c : ℕ} {numbers L : List ℕ} {s : Bool} → length L ≡ 8 → c ≡ get_or numbers 2 0 → count ≤ c → (n : ℕ) → RightsNamed O C count numbers n s L rights.Absent
+pub clause_missing : {O C : List ℕ} {count c : ℕ} {numbers L : List ℕ} {s : Bool} → length L ≡ 8 → c ≡ get_or numbers 2 0 → count ≤ c → (n : ℕ) → RightsNamed O C count numbers n s L None
 clause_missing {O} {C} {count} {c} {numbers} {L} {s} r pc past n = record { room = r; answer = λ R. sym (ap (rights_answer s) (lacks R)); listed = λ R y p. absurd (some_not_none (lacks R) p) }
   where
     lacks : (R : ClausesStored O C count) → literals_in (take n (drop 3 numbers)) (clause_of R.state (get_or numbers 2 0)) ≡ none
     lacks R = ap (literals_in (take n (drop 3 numbers))) (ap (clause_of R.state) (sym pc) ∙ entry_none (derivations R.state) c (omega (arith, R.size, length-map R.state.clauses (λ (x : ℕ × Derivation). x.1))))
 
 -- All of them exist.
-pub rights_listed : {O C : List ℕ} {count c : ℕ} {numbers L : List ℕ} {s opposite : Bool} {j n : ℕ} → SoFar O C c numbers L s opposite j → j ≤ n → n ≤ j → c ≡ get_or numbers 2 0 → c < count → (r : NamedRights) → r ≡ pick opposite Opposite Equal → RightsNamed O C count numbers n s L r
-rights_listed {O} {C} {count} {c} {numbers} {L} {s} {opposite} {j} {n} H a b pc there r pr = record {
+pub rights_listed : {O C : List ℕ} {count c : ℕ} {numbers L : List ℕ} {s opposite : Bool} {j n : ℕ} → SoFar O C c numbers L s opposite j → j ≡ n → c ≡ get_or numbers 2 0 → c < count → RightsNamed O C count numbers n s L (Some opposite)
+rights_listed {O} {C} {count} {c} {numbers} {L} {s} {opposite} {j} {n} H same pc there = record {
   room = H.room;
-  answer = λ R. let w = these R in pr ∙ ap (λ (x : Bool). pick x Opposite Equal) w.4 ∙ sym (ap (rights_answer s) w.2);
+  answer = λ R. let w = these R in ap Some w.4 ∙ sym (ap (rights_answer s) w.2);
   listed = λ R y p. let w = these R in w.3 ∙ ap (λ (z : Derivation × List Literal). atoms z.1) (some_injective (sym w.2 ∙ p));
 }
   where
-    same : j ≡ n
-    same = omega arith
-
     these : (R : ClausesStored O C count) → (d : Derivation) × (ms : List Literal) × (literals_in (take n (drop 3 numbers)) (clause_of R.state (get_or numbers 2 0)) ≡ some (d, ms)) × (listed_from L 0 n ≡ atoms ms) × (opposite ≡ all_opposite s ms)
     these R =
         let d = entry_some (derivations R.state) c (omega (arith, R.size, length-map R.state.clauses (λ (x : ℕ × Derivation). x.1))) in

@@ -49,9 +49,11 @@ use Rattle.inference.proofs.KeptClauses as kept
 use Rattle.demands.proofs.Standing.{ChainsEnd, InOrder, StateOk, held_links}
 use Rattle.demands.proofs.Tabled.{all_bindings_length}
 use Rattle.unify.specs.declared.Unified.{Unified}
-use Rattle.unify.specs.declared.Unified.TheVariants.{Done}
-use Rattle.unify.specs.declared.Unified.TheVariants as unified-variants
-use Rattle.entry.specs.declared.entry.Entered.TheVariants.{Stands, Refused}
+use Rattle.std.specs.Prelude.{Ok, Err}
+use Rattle.following.specs.declared.failure.Failure.{Failure}
+use Rattle.unify.specs.Pairs.{Answer}
+use Rattle.reasons.specs.declared.Reason.{Reason}
+use Rattle.reasons.specs.declared.Reason.TheVariants.{Unification}
 use Rattle.entry.specs.declared.entry.Counts.{Counts}
 use Rattle.inference.specs.declared.Atom.{Atom}
 
@@ -314,7 +316,7 @@ module _ {F : File} {k : ℕ} {n : Counts} {C B N O A : List ℕ} (E : BeforeSte
   pub ready : (ρ : Environment) (top : ℕ) (Q : List ℕ) (ps : List Pair) → Facing N top Q n.bindings ρ ps → Ready N Q B n.bindings ps
   ready ρ top Q ps G = record { nodes = nodes_room; values = G.models.room; bindings = room_of; few = held_few; top = top; environment = ρ; facing = G }
 
-unified_tables : (N A₂ A₃ B B' : List ℕ) (held : ℕ) (ps : List Pair) (u : Unified) → Answered N A₂ A₃ B B' held ps u → UnifiedTables B B' A₃ held u
+unified_tables : (N A₂ A₃ B B' : List ℕ) (held : ℕ) (ps : List Pair) (u : Answer) → Answered N A₂ A₃ B B' held ps u → UnifiedTables B B' A₃ held u
 unified_tables N A₂ A₃ B B' held ps u W = record { values = W.values; bindings = W.bindings; before = W.before; counted = W.counted }
 
 -- The needs of the program's functions, one law for each.
@@ -333,7 +335,7 @@ module _ {k : ℕ} {n : Counts} {C B N O A : List ℕ} {x y : Atom} where
   pub factor_ready : (R : Factoring k n C B N O A x y) (top : ℕ) → top ≡ index_cell C x.clause → (A₁ A₂ : List ℕ) → Cleared A A₁ (128 * (top + 1)) → Loaded O C B N A₁ A₂ x.clause 0 → Ready N A₂ B n.bindings (((x.row, x.index), (y.row, y.index)) ∷ [])
   factor_ready R top p A₁ A₂ K L = ready R.step (lookup R.kept.clause) top A₂ (((x.row, x.index), (y.row, y.index)) ∷ []) (factor_faces R top p A₁ A₂ K L)
 
-  pub factor_unified : (top : ℕ) → top ≡ index_cell C x.clause → (A₁ A₂ A₃ B' : List ℕ) (u : Unified) → Cleared A A₁ (128 * (top + 1)) → Loaded O C B N A₁ A₂ x.clause 0 → Answered N A₂ A₃ B B' n.bindings (((x.row, x.index), (y.row, y.index)) ∷ []) u
+  pub factor_unified : (top : ℕ) → top ≡ index_cell C x.clause → (A₁ A₂ A₃ B' : List ℕ) (u : Answer) → Cleared A A₁ (128 * (top + 1)) → Loaded O C B N A₁ A₂ x.clause 0 → Answered N A₂ A₃ B B' n.bindings (((x.row, x.index), (y.row, y.index)) ∷ []) u
       → ((R : Factoring k n C B N O A x y) → unify_factor R.step.state (atom_named R.kept) (atom_named R.deleted) ≡ outcome_of B' n.bindings u) × UnifiedTables B B' A₃ n.bindings u
   factor_unified top p A₁ A₂ A₃ B' u K L W = (
     λ R. factor_outcome R.step x.clause x.row x.index y.clause y.row y.index R.kept R.deleted R.same_clause (outcome_of B' n.bindings u) (W.outcome top (lookup R.kept.clause) (factor_faces R top p A₁ A₂ K L)),
@@ -367,7 +369,7 @@ module _ {k : ℕ} {n : Counts} {C B N O A : List ℕ} {x : Atom} {right : ℕ} 
     listed = R.few;
   }
 
-  pub resolve_unified : (raised other : ℕ) → raised ≡ index_cell C x.clause → other ≡ index_cell C right → (A₁ A₂ A₃ A₄ B' : List ℕ) (u : Unified) → Cleared A A₁ (128 * ((raised + other) + 1)) → Loaded O C B N A₁ A₂ x.clause 0 → Loaded O C B N A₂ A₃ right raised
+  pub resolve_unified : (raised other : ℕ) → raised ≡ index_cell C x.clause → other ≡ index_cell C right → (A₁ A₂ A₃ A₄ B' : List ℕ) (u : Answer) → Cleared A A₁ (128 * ((raised + other) + 1)) → Loaded O C B N A₁ A₂ x.clause 0 → Loaded O C B N A₂ A₃ right raised
       → Answered N A₃ A₄ B B' n.bindings (pairs_from (x.row, x.index) raised L 0 many) u
       → ((R : Resolving k n C B N O A x right L many) → unify_resolve R.step.state (atom_named R.left) (rights_named R.rights) ≡ outcome_of B' n.bindings u) × UnifiedTables B B' A₄ n.bindings u
   resolve_unified raised other p q A₁ A₂ A₃ A₄ B' u K U M W = (
@@ -376,12 +378,12 @@ module _ {k : ℕ} {n : Counts} {C B N O A : List ℕ} {x : Atom} {right : ℕ} 
   )
 
 -- Finishing a step.
-pub finish_up : (held : ℕ) (u : Unified) (w h : ℕ) → u ≡ Done w h → HeldUpTo held u → (held ≤ h) × (h ≤ 8192)
-finish_up held u w h p q = subst (HeldUpTo held) p q
+pub finish_up : (held : ℕ) (u : Answer) (w : Unified) → u ≡ Ok w → HeldUpTo held u → (held ≤ w.held) × (w.held ≤ 8192)
+finish_up held u w p q = subst (HeldUpTo held) p q
 
-pub finish_done : (u : Unified) (w h k : ℕ) (n : Counts) (l i : ℕ) (cells C C' B O O' : List ℕ) → u ≡ Done w h → C' ≡ with_clause_cells C n.clauses k l i n.bindings (h - n.bindings) → O' ≡ with_node O n.clauses cells
-    → finished (Stands (with_step n h)) C' B O' ≡ step_finished u k n l i cells C B O
-finish_done u w h k n l i cells C C' B O O' p q r = ap₂ (λ (x y : List ℕ). finished (Stands (with_step n h)) x B y) q r ∙ sym (ap (λ (v : Unified). step_finished v k n l i cells C B O) p)
+pub finish_done : (u : Answer) (w : Unified) (k : ℕ) (n : Counts) (l i : ℕ) (cells C C' B O O' : List ℕ) → u ≡ Ok w → C' ≡ with_clause_cells C n.clauses k l i n.bindings (w.held - n.bindings) → O' ≡ with_node O n.clauses cells
+    → finished (Ok (with_step n w.held)) C' B O' ≡ step_finished u k n l i cells C B O
+finish_done u w k n l i cells C C' B O O' p q r = ap₂ (λ (x y : List ℕ). finished (Ok (with_step n w.held)) x B y) q r ∙ sym (ap (λ (v : Answer). step_finished v k n l i cells C B O) p)
 
-pub finish_refused : (u : Unified) (q k : ℕ) (n : Counts) (l i : ℕ) (cells C B B' O : List ℕ) → u ≡ unified-variants.Refused q → B' ≡ cleared_part (4 * n.bindings) 32768 B → finished (Refused q) C B' O ≡ step_finished u k n l i cells C B O
-finish_refused u q k n l i cells C B B' O p e = ap (λ (x : List ℕ). finished (Refused q) C x O) e ∙ sym (ap (λ (v : Unified). step_finished v k n l i cells C B O) p)
+pub finish_refused : (u : Answer) (f : Failure) (k : ℕ) (n : Counts) (l i : ℕ) (cells C B B' O : List ℕ) → u ≡ Err f → B' ≡ cleared_part (4 * n.bindings) 32768 B → finished (Err (Unification f)) C B' O ≡ step_finished u k n l i cells C B O
+finish_refused u f k n l i cells C B B' O p e = ap (λ (x : List ℕ). finished (Err (Unification f)) C x O) e ∙ sym (ap (λ (v : Answer). step_finished v k n l i cells C B O) p)

@@ -15,14 +15,13 @@ use Rattle.unification.specs.Environment.{Binding}
 use Rattle.unification.specs.Listed.{listed_from}
 use Rattle.unification.specs.Nodes.{node_row}
 use Rattle.unification.specs.Outlines.{outlines_clash}
-use Rattle.unification.specs.Unification.{clash}
 use Rattle.unify.specs.Unifying.{outcome_of}
 use Rattle.unification.proofs.Tests.{both_true, some_not_none, some_injective}
 use Rattle.derivation.specs.Derivation.{literals, Literal, Derivation, resolve, factor, numbered, without, numbered_all, without_all, StrictlyRising, raise_literal, maximum_index}
 use Rattle.derivation.proofs.Literals.{numbered_cons, first_stays, rising_tail}
 use Rattle.outlines.specs.Comparing.{some_clash}
 use Rattle.derivation.specs.Stored.{cells_of_origin, literals_cell, index_cell}
-use Rattle.verdict.specs.Refusal.{tooLarge, unification, kind_of_record, in_range, outlines_agree, left_of, right_numbers, right_of, deleted_of, most_literals, most_index, is_there, on_both, result_fits, resolvent_fits, factor_fits, zeros}
+use Rattle.verdict.specs.Refusal.{kind_of_record, in_range, outlines_agree, left_of, right_numbers, right_of, deleted_of, most_literals, most_index, is_there, on_both, result_fits, resolvent_fits, factor_fits, zeros}
 use Rattle.verdict.specs.State.{State, clause_of, row_of, next_clause}
 use Rattle.verdict.specs.Step.{require, step, add_clause, unify_resolve, unify_factor, on_named}
 use Rattle.inference.specs.Stepping.{atom_named, rights_named, Resolving, Factoring, UnifiedTables, finished, step_finished, ResolveKind, rights_at, ResolveNamed, FactorNamed, StepRead}
@@ -32,10 +31,12 @@ use Rattle.demands.proofs.RangeTests.{several_fits, IsResolve, on_one, on_severa
 use Rattle.inference.proofs.StepEnds.{step_ended}
 use Rattle.inference.proofs.StepLaws.{node_outlines, rights_outlines, index_of, literals_of, number_is}
 use Rattle.inference.proofs.StepTests.{Step, ResolveStep, refuse, index_small, literals_small, factor_kind, resolve_tests_lem, factor_tests}
-use Rattle.unify.specs.declared.Unified.{Unified}
+use Rattle.unify.specs.Pairs.{Answer}
 use Rattle.entry.specs.declared.entry.Counts.{Counts}
-use Rattle.entry.specs.declared.entry.Entered.{Entered}
-use Rattle.entry.specs.declared.entry.Entered.TheVariants.{Refused}
+use Rattle.entry.specs.Program.{Entered}
+use Rattle.std.specs.Prelude.{Err}
+use Rattle.reasons.specs.declared.Reason.TheVariants.{TooLarge, Unification}
+use Rattle.following.specs.declared.failure.Failure.TheVariants.{SymbolsDiffer}
 use Rattle.inference.specs.declared.Atom.{Atom}
 
 -- Without a literal that exists there is one fewer.
@@ -188,15 +189,15 @@ module _ {ns : List ℕ} {k : ℕ} {n : Counts} {C B N O A : List ℕ} {x : Atom
   limited d o q z =
       resolve_tests_lem R.step here (resolve_kind R.file k R.is_resolve) refl true true true true d o R.ranged (ap₂ (λ (o : Option (Derivation × Literal)) (p : Option (Derivation × List Literal)). is_there o && is_there p) R.is_left R.is_right) R.rises R.signs (limits ∙ q) z
 
-  too_large : result_fits (result []) ≡ false → StepRead R.file k n C B N O A R.step C B O A (Refused 9)
+  too_large : result_fits (result []) ≡ false → StepRead R.file k n C B N O A R.step C B O A (Err TooLarge)
   unfolding require
-  too_large q = refuse R.step tooLarge (limited false _ q refl)
+  too_large q = refuse R.step TooLarge (limited false _ q refl)
 
-  pub too_many_literals : (c lc rc : ℕ) → c ≡ get_or ns 2 0 → lc ≡ literals_cell C x.clause → rc ≡ literals_cell C c → 128 < (lc + rc) - 1 - m → StepRead R.file k n C B N O A R.step C B O A (Refused 9)
+  pub too_many_literals : (c lc rc : ℕ) → c ≡ get_or ns 2 0 → lc ≡ literals_cell C x.clause → rc ≡ literals_cell C c → 128 < (lc + rc) - 1 - m → StepRead R.file k n C B N O A R.step C B O A (Err TooLarge)
   unfolding most_literals
   too_many_literals c lc rc pc pl pr g = too_large (ap (λ (b : Bool). b && leb (maximum_index (result [])) most_index) (lt-leb (length (literals (result []))) 128 (subst (λ (z : ℕ). 128 < z) (literals_result c lc rc pc pl pr []) g)))
 
-  pub too_high_index : (c li ri : ℕ) → c ≡ get_or ns 2 0 → li ≡ index_cell C x.clause → ri ≡ index_cell C c → 4096 < li + ri → StepRead R.file k n C B N O A R.step C B O A (Refused 9)
+  pub too_high_index : (c li ri : ℕ) → c ≡ get_or ns 2 0 → li ≡ index_cell C x.clause → ri ≡ index_cell C c → 4096 < li + ri → StepRead R.file k n C B N O A R.step C B O A (Err TooLarge)
   unfolding most_index
   too_high_index c li ri pc pl pr g = too_large (ap (λ (b : Bool). leb (length (literals (result []))) most_literals && b) (lt-leb (maximum_index (result [])) 4096 (subst (λ (z : ℕ). 4096 < z) (index_result c li ri pc pl pr []) g)) ∙ and-false (leb (length (literals (result []))) most_literals))
 
@@ -211,11 +212,11 @@ module _ {ns : List ℕ} {k : ℕ} {n : Counts} {C B N O A : List ℕ} {x : Atom
     unfolding most_literals most_index
     fits = ap₂ (λ (a b : Bool). a && b) (le-leb (length (literals (result []))) 128 (subst (λ (z : ℕ). z ≤ 128) (literals_result c lc rc pc pl pr []) few)) (le-leb (maximum_index (result [])) 4096 (subst (λ (z : ℕ). z ≤ 4096) (index_result c li ri pc ql qr []) low))
 
-    pub resolve_clashes : (o : Bool) → o ≡ some_clash (node_row N) x.row (listed_from L 0 m) → o ≡ true → StepRead R.file k n C B N O A R.step C B O A (Refused 10)
+    pub resolve_clashes : (o : Bool) → o ≡ some_clash (node_row N) x.row (listed_from L 0 m) → o ≡ true → StepRead R.file k n C B N O A R.step C B O A (Err (Unification SymbolsDiffer))
     unfolding require
-    resolve_clashes o p z = refuse R.step (unification clash) (limited true false fits (outlines o p ∙ ap not z))
+    resolve_clashes o p z = refuse R.step (Unification SymbolsDiffer) (limited true false fits (outlines o p ∙ ap not z))
 
-    pub resolve_ended : (o : Bool) → o ≡ some_clash (node_row N) x.row (listed_from L 0 m) → o ≡ false → (code : ℕ) → code ≡ 2 + m → (B' A' : List ℕ) (u : Unified) → ((Q : Resolving k n C B N O A x c L m) → unify_resolve Q.step.state (atom_named Q.left) (rights_named Q.rights) ≡ outcome_of B' n.bindings u) → UnifiedTables B B' A' n.bindings u
+    pub resolve_ended : (o : Bool) → o ≡ some_clash (node_row N) x.row (listed_from L 0 m) → o ≡ false → (code : ℕ) → code ≡ 2 + m → (B' A' : List ℕ) (u : Answer) → ((Q : Resolving k n C B N O A x c L m) → unify_resolve Q.step.state (atom_named Q.left) (rights_named Q.rights) ≡ outcome_of B' n.bindings u) → UnifiedTables B B' A' n.bindings u
         → (e : Entered) (C₂ B₂ O₂ : List ℕ) → finished e C₂ B₂ O₂ ≡ step_finished u k n ((lc + rc) - 1 - m) (li + ri) (code ∷ ns) C B' O → StepRead R.file k n C B N O A R.step C₂ B₂ O₂ A' e
     unfolding resolving
     resolve_ended b p z code pd B' A' u o U e C₂ B₂ O₂ q =
@@ -265,9 +266,9 @@ module _ {ns : List ℕ} {k : ℕ} {n : Counts} {C B N O A : List ℕ} {x y : At
       → Step R.step factorKind true true true true o
   factor_limited o z = factor_tests R.step (factor_kind R.step R.is_factor) true true true true o R.ranged (ap₂ (λ (o p : Option (Derivation × Literal)). is_there o && is_there p) R.is_kept R.is_deleted) R.signs factor_limits z
 
-  pub factor_clashes : (o : Bool) → o ≡ outlines_clash (node_row N) x.row y.row → o ≡ true → StepRead R.file k n C B N O A R.step C B O A (Refused 10)
+  pub factor_clashes : (o : Bool) → o ≡ outlines_clash (node_row N) x.row y.row → o ≡ true → StepRead R.file k n C B N O A R.step C B O A (Err (Unification SymbolsDiffer))
   unfolding require
-  factor_clashes o p z = refuse R.step (unification clash) (factor_limited false (factor_outlines_lem o p ∙ ap not z))
+  factor_clashes o p z = refuse R.step (Unification SymbolsDiffer) (factor_limited false (factor_outlines_lem o p ∙ ap not z))
 
   factor_entered : (o : Bool) → o ≡ outlines_clash (node_row N) x.row y.row → o ≡ false → step R.step.state k (decoded (record_part R.file k)) ≡ add_clause R.step.state k factored (unify_factor R.step.state (atom_named R.kept) (atom_named R.deleted))
   unfolding require
@@ -282,7 +283,7 @@ module _ {ns : List ℕ} {k : ℕ} {n : Counts} {C B N O A : List ℕ} {x y : At
     pub factor_literals_lem : 1 ≤ lc
     factor_literals_lem = omega (arith, lc_kept, kept_fewer)
 
-    pub factor_ended : (o : Bool) → o ≡ outlines_clash (node_row N) x.row y.row → o ≡ false → (ix : ℕ) → ix ≡ index_cell C x.clause → (B' A' : List ℕ) (u : Unified) → ((Q : Factoring k n C B N O A x y) → unify_factor Q.step.state (atom_named Q.kept) (atom_named Q.deleted) ≡ outcome_of B' n.bindings u) → UnifiedTables B B' A' n.bindings u
+    pub factor_ended : (o : Bool) → o ≡ outlines_clash (node_row N) x.row y.row → o ≡ false → (ix : ℕ) → ix ≡ index_cell C x.clause → (B' A' : List ℕ) (u : Answer) → ((Q : Factoring k n C B N O A x y) → unify_factor Q.step.state (atom_named Q.kept) (atom_named Q.deleted) ≡ outcome_of B' n.bindings u) → UnifiedTables B B' A' n.bindings u
         → (e : Entered) (C₂ B₂ O₂ : List ℕ) → finished e C₂ B₂ O₂ ≡ step_finished u k n (lc - 1) ix (2 ∷ ns) C B' O → StepRead R.file k n C B N O A R.step C₂ B₂ O₂ A' e
     unfolding factoring
     factor_ended b p z ix pi B' A' u o U e C₂ B₂ O₂ q =

@@ -1,7 +1,7 @@
 -- The tests of a resolve or a factor in the program are those of the definition.
 use mathlib.Core.Path.{◌≡◌, refl, sym, ap, ap₂, ◌∙◌, subst}
 use mathlib.Core.Logic.{◌⊎◌, inl, inr}
-use mathlib.Core.Bool.{Bool, true, false, ◌&&◌, not}
+use mathlib.Core.Bool.{Bool, true, false, ◌&&◌, not, beq}
 use mathlib.Core.Option.{Option, none, some}
 use mathlib.Core.List.{List, [], ◌∷◌}
 use Prim.Native.Nat.{ℕ, ◌≤◌, ◌<◌}
@@ -13,29 +13,28 @@ use Rattle.record.specs.Record.{pick, File, Record, record_part, kind_of, count_
 use Rattle.unification.specs.Listed.{listed_from}
 use Rattle.unification.specs.Unification.{clash}
 use Rattle.derivation.specs.Derivation.{literals, Literal, Derivation, numbered, maximum_index}
-use Rattle.named_literals.specs.Named.{named_literal, StoredClause}
+use Rattle.named_literals.specs.Named.{fields_of_literal, named_literal, StoredClause}
 use Rattle.derivation.specs.Stored.{Stored}
 use Rattle.fields.specs.Fields.{step_in_range, right_count}
-use Rattle.verdict.specs.Refusal.{Reason, outOfRange, notThere, notRising, wrongSigns, tooLarge, unification, outlines_agree, reason_number, most_literals, most_index, kind_of_record, in_range, literal_in, literal_named, left_of, right_numbers, literals_in, right_of, deleted_of, is_there, equal_signs, all_opposite, rising, on_both, opposite_signs, factor_signs, both_there, resolvent_fits, factor_fits}
+use Rattle.verdict.specs.Refusal.{outOfRange, notThere, notRising, wrongSigns, tooLarge, unification, outlines_agree, most_literals, most_index, kind_of_record, in_range, literal_in, literal_named, left_of, right_numbers, literals_in, right_of, deleted_of, is_there, equal_signs, all_opposite, rising, on_both, opposite_signs, factor_signs, both_there, resolvent_fits, factor_fits}
 use Rattle.verdict.specs.State.{State, derivations, clause_of, row_of}
 use Rattle.verdict.specs.Step.{refused, require, step, enter_resolvent, enter}
-use Rattle.inference.specs.Stepping.{BeforeStep, AtomOf, ClausesStored, named_answer, signed_atom, pair_answer, ResolveKind, ResolveNamed, FactorNamed, StepRead}
+use Rattle.inference.specs.Stepping.{BeforeStep, AtomOf, ClausesStored, named_answer, pair_answer, ResolveKind, ResolveNamed, FactorNamed, StepRead}
 use Rattle.inference.specs.Rights.{rights_answer, RightsNamed, refusal_of, RightsTested}
 use Rattle.demands.proofs.Inversions.{literal_named_lem, literals_named, entry_none, entry_some}
 use Rattle.demands.proofs.RangeTests.{several_fits, IsResolve, on_one, on_several}
 use Rattle.demands.proofs.Resolution.{at_kind, step_resolve}
-use Rattle.inference.proofs.StepLaws.{clause_count, stored_of, order_in, origins_room}
+use Rattle.inference.proofs.StepLaws.{clause_count, stored_of, order_in}
 use Rattle.named_literals.specs.declared.NamedLiteral.{NamedLiteral}
-use Rattle.named_literals.specs.declared.NamedLiteral.TheVariants.{Found, Absent}
+use Rattle.std.specs.Prelude.{Some, None}
+use Rattle.std.specs.Prelude as std
 use Rattle.entry.specs.declared.entry.Counts.{Counts}
-use Rattle.entry.specs.declared.entry.Entered.{Entered}
-use Rattle.entry.specs.declared.entry.Entered.TheVariants.{Refused}
-use Rattle.inference.specs.declared.rights.NamedRights.{NamedRights}
-use Rattle.inference.specs.declared.rights.NamedRights.TheVariants.{Opposite, Equal}
-use Rattle.inference.specs.declared.rights.NamedRights.TheVariants as rights
-use Rattle.inference.specs.declared.SignedAtom.{SignedAtom}
-use Rattle.inference.specs.declared.NamedPair.{NamedPair}
-use Rattle.inference.specs.declared.NamedPair.TheVariants as pair
+use Rattle.entry.specs.Program.{Entered}
+use Rattle.std.specs.Prelude.{Result, Ok, Err}
+use Rattle.reasons.specs.Reasons.{meant}
+use Rattle.reasons.proofs.Refusals.{err_not_ok, same_err}
+use Rattle.reasons.specs.declared.Reason.{Reason}
+use Rattle.reasons.specs.declared.Reason.TheVariants.{OutOfRange, NotThere, NotRising, WrongSigns}
 
 named_in : (n : ℕ) (d : Derivation) (o : Option Derivation) → o ≡ some d → named_literal (numbered (literals d) n) ≡ named_answer (literal_in n o)
 named_in n d o q = rw q (try (numbered (literals d) n))
@@ -51,100 +50,56 @@ module _ {O C : List ℕ} {count : ℕ} where
   pub named_clause : (R : ClausesStored O C count) (c : ℕ) → c < count → StoredClause O C c
   named_clause R c l =
       let d = clause_there R c l in
-      record { room = R.room; bindings = R.bindings; derivation = d.0; stored = R.stored c d.0 d.1; fits = R.fits c d.0 d.1 }
+      record { bindings = R.bindings; derivation = d.0; stored = R.stored c d.0 d.1; fits = R.fits c d.0 d.1 }
 
-  pub named_there : (c n : ℕ) → c < count → (r : NamedLiteral) → ((B : List ℕ) (d : Derivation) → Stored O C B c d → r ≡ named_literal (numbered (literals d) n)) → (R : ClausesStored O C count) → r ≡ named_answer (literal_named R.state c n)
+  pub named_there : (c n : ℕ) → c < count → (r : std.Option NamedLiteral) → ((B : List ℕ) (d : Derivation) → Stored O C B c d → r ≡ named_literal (numbered (literals d) n)) → (R : ClausesStored O C count) → r ≡ named_answer (literal_named R.state c n)
   named_there c n l r f R =
       let d = clause_there R c l in
       f R.bindings d.0 (R.stored c d.0 d.1) ∙ named_in n d.0 (clause_of R.state c) d.1
 
-  pub named_missing : (c n : ℕ) → count ≤ c → (R : ClausesStored O C count) → Absent ≡ named_answer (literal_named R.state c n)
+  pub named_missing : (c n : ℕ) → count ≤ c → (R : ClausesStored O C count) → None ≡ named_answer (literal_named R.state c n)
   named_missing c n l R = sym (ap (λ (o : Option Derivation). named_answer (literal_in n o)) (entry_none (derivations R.state) c (omega (arith, R.size, length-map R.state.clauses (λ (x : ℕ × Derivation). x.1)))))
 
--- The two literals that a step names, taken apart.
-module _ (a c : ℕ) (o p : Option (Derivation × Literal)) where
-  absent_none : (q : Option (Derivation × Literal)) → named_answer q ≡ Absent → q ≡ none
-  absent_none none e = refl
-  absent_none (some x) e = absurd (let z : ◌≡◌ {A = ℕ} 0 1 = cc in omega arith)
-
-  pub left_absent : named_answer o ≡ Absent → pair.Absent ≡ pair_answer a c o p
-  left_absent q = sym (ap (λ (x : Option (Derivation × Literal)). pair_answer a c x p) (absent_none o q))
-
-  pub right_absent : named_answer p ≡ Absent → pair.Absent ≡ pair_answer a c o p
-  right_absent q = try o ∙ sym (ap (λ (x : Option (Derivation × Literal)). pair_answer a c o x) (absent_none p q))
-    where
-      try : (o : Option (Derivation × Literal)) → pair.Absent ≡ pair_answer a c o none
-      try none = refl
-      try (some x) = refl
-
-pub both_there_lem : (a c : ℕ) (o p : Option (Derivation × Literal)) (s t : Bool) (r i q j : ℕ) → named_answer o ≡ Found s r i → named_answer p ≡ Found t q j
-    → pair.Both (record { positive = s; atom = record { clause = a; row = r; index = i } }) (record { positive = t; atom = record { clause = c; row = q; index = j } }) ≡ pair_answer a c o p
-both_there_lem a c none p s t r i q j e f = absurd (let z : ◌≡◌ {A = ℕ} 0 1 = cc in omega arith)
-both_there_lem a c (some x) none s t r i q j e f = absurd (let z : ◌≡◌ {A = ℕ} 0 1 = cc in omega arith)
-both_there_lem a c (some x) (some y) s t r i q j e f =
-    let es : s ≡ x.1.0 = cc in
-    let er : r ≡ x.1.1.0 = cc in
-    let ei : i ≡ x.1.1.1 = cc in
-    let ft : t ≡ y.1.0 = cc in
-    let fq : q ≡ y.1.1.0 = cc in
-    let fj : j ≡ y.1.1.1 = cc in
-    λ k. pair.Both (record { positive = es k; atom = record { clause = a; row = er k; index = ei k } }) (record { positive = ft k; atom = record { clause = c; row = fq k; index = fj k } })
-
--- A literal that exists is the one answered, of clause a.
-record FoundLiteral (o : Option (Derivation × Literal)) (a : ℕ) (x : SignedAtom) : Type 0 where
-  named : Derivation × Literal
-  is_named : o ≡ some named
-  is_signed : x ≡ signed_atom a named.1
-
--- The answers of single lookups, and of the right literals, taken apart.
-pub answer_absent : (o : Option (Derivation × Literal)) → named_answer o ≡ Absent → o ≡ none
+-- The answers of lookups, taken apart: of one literal, of the right literals, and of two.
+pub answer_absent : (o : Option (Derivation × Literal)) → named_answer o ≡ None → o ≡ none
 answer_absent none e = refl
 answer_absent (some x) e = absurd (let z : ◌≡◌ {A = ℕ} 0 1 = cc in omega arith)
 
-record FoundAtom (o : Option (Derivation × Literal)) (s : Bool) (row index : ℕ) : Type 0 where
+record FoundLiteral (o : Option (Derivation × Literal)) (l : NamedLiteral) : Type 0 where
   named : Derivation × Literal
   is_named : o ≡ some named
-  sign : named.1.0 ≡ s
-  is_row : named.1.1.0 ≡ row
-  is_index : named.1.1.1 ≡ index
+  is_literal : fields_of_literal named.1 ≡ l
 
-answer_found : (o : Option (Derivation × Literal)) (s : Bool) (row index : ℕ) → named_answer o ≡ Found s row index → FoundAtom o s row index
-answer_found none s row index e = absurd (let z : ◌≡◌ {A = ℕ} 0 1 = cc in omega arith)
-answer_found (some x) s row index e = record { named = x; is_named = refl; sign = cc; is_row = cc; is_index = cc }
+answer_found : (o : Option (Derivation × Literal)) (l : NamedLiteral) → named_answer o ≡ Some l → FoundLiteral o l
+answer_found none l e = absurd (let z : ◌≡◌ {A = ℕ} 0 1 = cc in omega arith)
+answer_found (some x) l e = record { named = x; is_named = refl; is_literal = cc }
 
-rights_absent : (s : Bool) (o : Option (Derivation × List Literal)) → rights_answer s o ≡ rights.Absent → o ≡ none
+rights_absent : (s : Bool) (o : Option (Derivation × List Literal)) → rights_answer s o ≡ None → o ≡ none
 rights_absent s none e = refl
-rights_absent s (some y) e = absurd (try (all_opposite s y.1) e)
-  where
-    try : (b : Bool) → pick b Opposite Equal ≡ rights.Absent → ⊥
-    try true q = let z : ◌≡◌ {A = ℕ} 0 1 = cc in omega arith
-    try false q = let z : ◌≡◌ {A = ℕ} 0 1 = cc in omega arith
+rights_absent s (some y) e = absurd (let z : ◌≡◌ {A = ℕ} 0 1 = cc in omega arith)
 
-rights_equal : (s : Bool) (o : Option (Derivation × List Literal)) → rights_answer s o ≡ Equal → (y : Derivation × List Literal) × (o ≡ some y) × (all_opposite s y.1 ≡ false)
-rights_equal s none e = absurd (let z : ◌≡◌ {A = ℕ} 0 1 = cc in omega arith)
-rights_equal s (some y) e = (y, refl, try (all_opposite s y.1) e)
-  where
-    try : (b : Bool) → pick b Opposite Equal ≡ Equal → b ≡ false
-    try true q = absurd (let z : ◌≡◌ {A = ℕ} 0 1 = cc in omega arith)
-    try false q = refl
+rights_found : (s : Bool) (o : Option (Derivation × List Literal)) (b : Bool) → rights_answer s o ≡ Some b → (y : Derivation × List Literal) × (o ≡ some y) × (all_opposite s y.1 ≡ b)
+rights_found s none b e = absurd (let z : ◌≡◌ {A = ℕ} 0 1 = cc in omega arith)
+rights_found s (some y) b e = (y, refl, cc)
 
-rights_opposite : (s : Bool) (o : Option (Derivation × List Literal)) → rights_answer s o ≡ Opposite → (y : Derivation × List Literal) × (o ≡ some y) × (all_opposite s y.1 ≡ true)
-rights_opposite s none e = absurd (let z : ◌≡◌ {A = ℕ} 0 1 = cc in omega arith)
-rights_opposite s (some y) e = (y, refl, try (all_opposite s y.1) e)
-  where
-    try : (b : Bool) → pick b Opposite Equal ≡ Opposite → b ≡ true
-    try true q = refl
-    try false q = absurd (let z : ◌≡◌ {A = ℕ} 0 1 = cc in omega arith)
+one_absent : (o p : Option (Derivation × Literal)) → pair_answer o p ≡ None → both_there o p ≡ false
+one_absent none p q = refl
+one_absent (some x) none q = refl
+one_absent (some x) (some y) q = absurd (let z : ◌≡◌ {A = ℕ} 0 1 = cc in omega arith)
 
-one_absent : (a c : ℕ) (o p : Option (Derivation × Literal)) → pair_answer a c o p ≡ pair.Absent → both_there o p ≡ false
-one_absent a c none p q = refl
-one_absent a c (some x) none q = refl
-one_absent a c (some x) (some y) q = absurd (let z : ◌≡◌ {A = ℕ} 0 1 = cc in omega arith)
+both_found : (o p : Option (Derivation × Literal)) (x y : NamedLiteral) → pair_answer o p ≡ Some (x, y) → FoundLiteral o x × FoundLiteral p y
+both_found none p x y q = absurd (let z : ◌≡◌ {A = ℕ} 0 1 = cc in omega arith)
+both_found (some m) none x y q = absurd (let z : ◌≡◌ {A = ℕ} 0 1 = cc in omega arith)
+both_found (some m) (some l) x y q =
+    let e : ◌≡◌ {A = NamedLiteral × NamedLiteral} (fields_of_literal m.1, fields_of_literal l.1) (x, y) = cc in
+    (record { named = m; is_named = refl; is_literal = ap (λ (p : NamedLiteral × NamedLiteral). p.0) e }, record { named = l; is_named = refl; is_literal = ap (λ (p : NamedLiteral × NamedLiteral). p.1) e })
 
-both_found : (a c : ℕ) (o p : Option (Derivation × Literal)) (x y : SignedAtom) → pair_answer a c o p ≡ pair.Both x y → FoundLiteral o a x × FoundLiteral p c y
-both_found a c none p x y q = absurd (let z : ◌≡◌ {A = ℕ} 0 1 = cc in omega arith)
-both_found a c (some m) none x y q = absurd (let z : ◌≡◌ {A = ℕ} 0 1 = cc in omega arith)
-both_found a c (some m) (some l) x y q = (record { named = m; is_named = refl; is_signed = cc }, record { named = l; is_named = refl; is_signed = cc })
+-- Signs compared by `==`.
+pub equal_signs-beq : (s t : Bool) → equal_signs s t ≡ beq s t
+equal_signs-beq true true = refl
+equal_signs-beq true false = refl
+equal_signs-beq false true = refl
+equal_signs-beq false false = refl
 
 module _ {F : File} {k : ℕ} {n : Counts} {C B N O A : List ℕ} (E : BeforeStep F k n C B N O A) where
   abbrev S : State
@@ -162,11 +117,11 @@ module _ {F : File} {k : ℕ} {n : Counts} {C B N O A : List ℕ} (E : BeforeSte
   literals_small c d q = (order_in E c d q).literals_fit
 
   pub clauses_stored : ClausesStored O C n.clauses
-  clauses_stored = record { room = origins_room E; state = S; bindings = B; size = sym (clause_count E); stored = stored_of E; fits = index_small }
+  clauses_stored = record { state = S; bindings = B; size = sym (clause_count E); stored = stored_of E; fits = index_small }
 
   -- A refusal leaves everything as it was.
-  pub refuse : (q : Reason) → step E.state k (decoded (record_part F k)) ≡ refused q → StepRead F k n C B N O A E C B O A (Refused (reason_number q))
-  refuse q p = record { next = (q, E.plain E.state ∙ p, refl, E.kept.tables, E.kept.nodes, E.kept.origins, E.kept.values) }
+  pub refuse : (q : Reason) → step E.state k (decoded (record_part F k)) ≡ refused (meant q) → StepRead F k n C B N O A E C B O A (Err q)
+  refuse q p = record { next = (E.plain E.state ∙ p, E.kept.tables, E.kept.nodes, E.kept.origins, E.kept.values) }
 
   pub factor_kind : kind_of (record_part F k) ≡ 6 → kind_of_record (decoded (record_part F k)) ≡ factorKind
   factor_kind q = ap kind_numbered q
@@ -198,22 +153,22 @@ module _ {F : File} {k : ℕ} {n : Counts} {C B N O A : List ℕ} (E : BeforeSte
   factor_outlines = on_both (λ x y. outlines_agree (row_of E.state) x.1 (y.1 ∷ [])) (left_of E.state (decoded (record_part F k))) (deleted_of E.state (decoded (record_part F k)))
 
   -- The two literals that a step names, by its fields.
-  pub pair_is : (a b c d a' b' c' d' : ℕ) → a ≡ a' → b ≡ b' → c ≡ c' → d ≡ d' → (r : NamedPair) → ((R : ClausesStored O C n.clauses) → r ≡ pair_answer a c (literal_named R.state a b) (literal_named R.state c d))
-      → r ≡ pair_answer a' c' (literal_named E.state a' b') (literal_named E.state c' d')
+  pub pair_is : (a b c d a' b' c' d' : ℕ) → a ≡ a' → b ≡ b' → c ≡ c' → d ≡ d' → (r : std.Option (NamedLiteral × NamedLiteral)) → ((R : ClausesStored O C n.clauses) → r ≡ pair_answer (literal_named R.state a b) (literal_named R.state c d))
+      → r ≡ pair_answer (literal_named E.state a' b') (literal_named E.state c' d')
   unfolding clauses_stored
-  pair_is a b c d a' b' c' d' ea eb ec ed r f = f clauses_stored ∙ (λ i. pair_answer (ea i) (ec i) (literal_named S (ea i) (eb i)) (literal_named S (ec i) (ed i)))
+  pair_is a b c d a' b' c' d' ea eb ec ed r f = f clauses_stored ∙ (λ i. pair_answer (literal_named S (ea i) (eb i)) (literal_named S (ec i) (ed i)))
 
-  atom_found : (c m : ℕ) (x : SignedAtom) → FoundLiteral (literal_named E.state c m) c x → AtomOf E.state x.atom.clause x.atom.row x.atom.index
-  atom_found c m x f =
+  atom_found : (c m a : ℕ) (x : NamedLiteral) → a ≡ c → FoundLiteral (literal_named E.state c m) x → AtomOf E.state a x.row x.index
+  atom_found c m a x q f =
       let l = literal_named_lem S c m f.named f.is_named in
       record {
         clause = f.named.0;
         literal = f.named.1;
         number = m;
-        is_clause = ap (clause_of S) (ap (λ (z : SignedAtom). z.atom.clause) f.is_signed) ∙ l.0;
+        is_clause = ap (clause_of S) q ∙ l.0;
         is_literal = l.1;
-        is_row = sym (ap (λ (z : SignedAtom). z.atom.row) f.is_signed);
-        is_index = sym (ap (λ (z : SignedAtom). z.atom.index) f.is_signed);
+        is_row = ap (λ (z : NamedLiteral). z.row) f.is_literal;
+        is_index = ap (λ (z : NamedLiteral). z.index) f.is_literal;
       }
 
   -- Resolve, test by test.
@@ -256,12 +211,12 @@ module _ {F : File} {k : ℕ} {n : Counts} {C B N O A : List ℕ} (E : BeforeSte
         by_kind (inl z) = of_one_lem z (in_range resolveKind rec) refl (number ∙ ap (λ (i : ℕ). pick (eqb i 5) (pick (in_range resolveKind rec) 1 0) (pick (in_range severalKind rec) (count_of (record_part F k)) 0)) z)
         by_kind (inr z) = of_several_lem z (in_range severalKind rec) refl (number ∙ ap (λ (i : ℕ). pick (eqb i 5) (pick (in_range resolveKind rec) 1 0) (pick (in_range severalKind rec) (count_of (record_part F k)) 0)) z)
 
-    pub resolve_out : m ≡ 0 → StepRead F k n C B N O A E C B O A (Refused 4)
+    pub resolve_out : m ≡ 0 → StepRead F k n C B N O A E C B O A (Err OutOfRange)
     unfolding require
     resolve_out z = try counted
       where
-        try : (in_range (kind_of_record (decoded (record_part F k))) (decoded (record_part F k)) ≡ false) ⊎ (RightsThere × (1 ≤ m)) → StepRead F k n C B N O A E C B O A (Refused 4)
-        try (inl q) = refuse outOfRange (resolve_tests_lem here is_resolve refl false (both_there (left_of S rec) (right_of S here rec)) (rising (right_numbers here rec)) (opposite_signs S here rec) (resolvent_fits S here rec) (resolve_outlines here) q refl refl refl refl refl)
+        try : (in_range (kind_of_record (decoded (record_part F k))) (decoded (record_part F k)) ≡ false) ⊎ (RightsThere × (1 ≤ m)) → StepRead F k n C B N O A E C B O A (Err OutOfRange)
+        try (inl q) = refuse OutOfRange (resolve_tests_lem here is_resolve refl false (both_there (left_of S rec) (right_of S here rec)) (rising (right_numbers here rec)) (opposite_signs S here rec) (resolvent_fits S here rec) (resolve_outlines here) q refl refl refl refl refl)
         try (inr w) = let l = w.1 in absurd (omega arith)
 
     module _ (some-there : ¬ (m ≡ 0)) where
@@ -276,7 +231,7 @@ module _ {F : File} {k : ℕ} {n : Counts} {C B N O A : List ℕ} (E : BeforeSte
               none q (inr z) = pm ∙ ap right_count e ∙ ap (λ (i : ℕ). pick (eqb i 5) (pick (in_range resolveKind rec) 1 0) (pick (in_range severalKind rec) (count_of (record_part F k)) 0)) z ∙ ap (λ (b : Bool). pick b (count_of (record_part F k)) 0) (ap (λ (i : ℕ). in_range (kind_numbered i) rec) (sym z) ∙ q)
           try (inr w) = w.0
 
-      module _ (ns : List ℕ) (fields : ns ≡ fields_of P) (r : NamedLiteral) (named : (R : ClausesStored O C n.clauses) → r ≡ named_answer (literal_named R.state (get_or ns 0 0) (get_or ns 1 0))) where
+      module _ (ns : List ℕ) (fields : ns ≡ fields_of P) (r : std.Option NamedLiteral) (named : (R : ClausesStored O C n.clauses) → r ≡ named_answer (literal_named R.state (get_or ns 0 0) (get_or ns 1 0))) where
         field_is : (i : ℕ) → get_or ns i 0 ≡ get_or (fields_of (record_part F k)) i 0
         field_is i = ap (λ (l : List ℕ). get_or l i 0) (fields ∙ ap fields_of e)
 
@@ -284,48 +239,48 @@ module _ {F : File} {k : ℕ} {n : Counts} {C B N O A : List ℕ} (E : BeforeSte
         unfolding clauses_stored
         left_is = named clauses_stored ∙ ap₂ (λ (a b : ℕ). named_answer (literal_named S a b)) (field_is 0) (field_is 1)
 
-        pub resolve_left_absent : r ≡ Absent → StepRead F k n C B N O A E C B O A (Refused 5)
+        pub resolve_left_absent : r ≡ None → StepRead F k n C B N O A E C B O A (Err NotThere)
         unfolding require
-        resolve_left_absent q = refuse notThere (resolve_tests_lem here is_resolve refl true false (rising (right_numbers here rec)) (opposite_signs S here rec) (resolvent_fits S here rec) (resolve_outlines here) rights_there.ranged (ap (λ (o : Option (Derivation × Literal)). both_there o (right_of S here rec)) (answer_absent (left_of S rec) (sym left_is ∙ q))) refl refl refl refl)
+        resolve_left_absent q = refuse NotThere (resolve_tests_lem here is_resolve refl true false (rising (right_numbers here rec)) (opposite_signs S here rec) (resolvent_fits S here rec) (resolve_outlines here) rights_there.ranged (ap (λ (o : Option (Derivation × Literal)). both_there o (right_of S here rec)) (answer_absent (left_of S rec) (sym left_is ∙ q))) refl refl refl refl)
 
-        module _ (s : Bool) (row index : ℕ) (found : r ≡ Found s row index) (L : List ℕ) (t : NamedRights) (W : RightsNamed O C n.clauses ns m s L t) where
-          X : FoundAtom (left_of E.state (decoded (record_part F k))) s row index
-          X = answer_found (left_of S rec) s row index (sym left_is ∙ found)
+        module _ (x : NamedLiteral) (found : r ≡ Some x) (L : List ℕ) (t : std.Option Bool) (W : RightsNamed O C n.clauses ns m x.positive L t) where
+          X : FoundLiteral (left_of E.state (decoded (record_part F k))) x
+          X = answer_found (left_of S rec) x (sym left_is ∙ found)
 
           rights_is : literals_in (take m (drop 3 ns)) (clause_of E.state (get_or ns 2 0)) ≡ right_of E.state (kind_of_record (decoded (record_part F k))) (decoded (record_part F k))
           rights_is = ap₂ (λ (xs : List ℕ) (c : ℕ). literals_in xs (clause_of S c)) (ap (λ (l : List ℕ). take m (drop 3 l)) (fields ∙ ap fields_of e) ∙ rights_there.numbers) (field_is 2)
 
-          answer_is : t ≡ rights_answer s (right_of E.state (kind_of_record (decoded (record_part F k))) (decoded (record_part F k)))
+          answer_is : t ≡ rights_answer x.positive (right_of E.state (kind_of_record (decoded (record_part F k))) (decoded (record_part F k)))
           unfolding clauses_stored
-          answer_is = W.answer clauses_stored ∙ ap (rights_answer s) rights_is
+          answer_is = W.answer clauses_stored ∙ ap (rights_answer x.positive) rights_is
 
-          resolve_right_absent : t ≡ rights.Absent → StepRead F k n C B N O A E C B O A (Refused 5)
+          resolve_right_absent : t ≡ None → StepRead F k n C B N O A E C B O A (Err NotThere)
           unfolding require
           resolve_right_absent q =
-              refuse notThere (resolve_tests_lem here is_resolve refl true false (rising (right_numbers here rec)) (opposite_signs S here rec) (resolvent_fits S here rec) (resolve_outlines here) rights_there.ranged
-              (ap₂ (λ (o : Option (Derivation × Literal)) (p : Option (Derivation × List Literal)). both_there o p) X.is_named (rights_absent s (right_of S here rec) (sym answer_is ∙ q))) refl refl refl refl)
+              refuse NotThere (resolve_tests_lem here is_resolve refl true false (rising (right_numbers here rec)) (opposite_signs S here rec) (resolvent_fits S here rec) (resolve_outlines here) rights_there.ranged
+              (ap₂ (λ (o : Option (Derivation × Literal)) (p : Option (Derivation × List Literal)). both_there o p) X.is_named (rights_absent x.positive (right_of S here rec) (sym answer_is ∙ q))) refl refl refl refl)
 
           -- The right literals exist; their signs are opposite, or one is equal.
           module _ (y : Derivation × List Literal) (isThese : right_of E.state (kind_of_record (decoded (record_part F k))) (decoded (record_part F k)) ≡ some y) where
             both_there_now : both_there (left_of E.state (decoded (record_part F k))) (right_of E.state (kind_of_record (decoded (record_part F k))) (decoded (record_part F k))) ≡ true
             both_there_now = ap₂ (λ (o : Option (Derivation × Literal)) (p : Option (Derivation × List Literal)). both_there o p) X.is_named isThese
 
-            sign_test : opposite_signs E.state (kind_of_record (decoded (record_part F k))) (decoded (record_part F k)) ≡ all_opposite s y.1
-            sign_test = ap₂ (λ (o : Option (Derivation × Literal)) (p : Option (Derivation × List Literal)). on_both (λ v w. all_opposite v.1.0 w.1) o p) X.is_named isThese ∙ ap (λ (b : Bool). all_opposite b y.1) X.sign
+            sign_test : opposite_signs E.state (kind_of_record (decoded (record_part F k))) (decoded (record_part F k)) ≡ all_opposite x.positive y.1
+            sign_test = ap₂ (λ (o : Option (Derivation × Literal)) (p : Option (Derivation × List Literal)). on_both (λ v w. all_opposite v.1.0 w.1) o p) X.is_named isThese ∙ ap (λ (l : NamedLiteral). all_opposite l.positive y.1) X.is_literal
 
             module _ (b : Bool) (pb : b ≡ rising (take m (drop 3 (fields_of P)))) where
               rises_is : rising (right_numbers (kind_of_record (decoded (record_part F k))) (decoded (record_part F k))) ≡ b
               rises_is = ap rising (sym rights_there.numbers ∙ ap (λ (l : List ℕ). take m (drop 3 (fields_of l))) (sym e)) ∙ sym pb
 
-              not_rising_refused : b ≡ false → StepRead F k n C B N O A E C B O A (Refused 14)
+              not_rising_refused : b ≡ false → StepRead F k n C B N O A E C B O A (Err NotRising)
               unfolding require
-              not_rising_refused q = refuse notRising (resolve_tests_lem here is_resolve refl true true false (opposite_signs S here rec) (resolvent_fits S here rec) (resolve_outlines here) rights_there.ranged both_there_now (rises_is ∙ q) refl refl refl)
+              not_rising_refused q = refuse NotRising (resolve_tests_lem here is_resolve refl true true false (opposite_signs S here rec) (resolvent_fits S here rec) (resolve_outlines here) rights_there.ranged both_there_now (rises_is ∙ q) refl refl refl)
 
-              signs_refused : b ≡ true → all_opposite s y.1 ≡ false → StepRead F k n C B N O A E C B O A (Refused 8)
+              signs_refused : b ≡ true → all_opposite x.positive y.1 ≡ false → StepRead F k n C B N O A E C B O A (Err WrongSigns)
               unfolding require
-              signs_refused q z = refuse wrongSigns (resolve_tests_lem here is_resolve refl true true true false (resolvent_fits S here rec) (resolve_outlines here) rights_there.ranged both_there_now (rises_is ∙ q) (sign_test ∙ z) refl refl)
+              signs_refused q z = refuse WrongSigns (resolve_tests_lem here is_resolve refl true true true false (resolvent_fits S here rec) (resolve_outlines here) rights_there.ranged both_there_now (rises_is ∙ q) (sign_test ∙ z) refl refl)
 
-              checked : b ≡ true → all_opposite s y.1 ≡ true → (a : ℕ) → a ≡ get_or ns 0 0 → ResolveNamed ns k n C B N O A (record { clause = a; row = row; index = index }) L m
+              checked : b ≡ true → all_opposite x.positive y.1 ≡ true → (a : ℕ) → a ≡ get_or ns 0 0 → ResolveNamed ns k n C B N O A (record { clause = a; row = x.row; index = x.index }) L m
               unfolding clauses_stored
               checked q z a pa =
                   let l = literal_named_lem S (field_a rec) (field_b rec) X.named X.is_named in
@@ -340,7 +295,7 @@ module _ {F : File} {k : ℕ} {n : Counts} {C B N O A : List ℕ} (E : BeforeSte
                     room = W.room;
                     ranged = rights_there.ranged;
                     rises = rises_is ∙ q;
-                    left = record { clause = X.named.0; literal = X.named.1; number = field_b rec; is_clause = ap (clause_of S) (pa ∙ field_is 0) ∙ l.0; is_literal = l.1; is_row = X.is_row; is_index = X.is_index };
+                    left = record { clause = X.named.0; literal = X.named.1; number = field_b rec; is_clause = ap (clause_of S) (pa ∙ field_is 0) ∙ l.0; is_literal = l.1; is_row = ap (λ (z : NamedLiteral). z.row) X.is_literal; is_index = ap (λ (z : NamedLiteral). z.index) X.is_literal };
                     rights = record { clause = y.0; named = y.1; is_clause = w.0; are_literals = w.1; listed = ap (listed_from L 0) (sym rights_there.count) ∙ W.listed clauses_stored y (rights_is ∙ isThese) };
                     is_left = X.is_named;
                     is_right = isThese;
@@ -348,32 +303,35 @@ module _ {F : File} {k : ℕ} {n : Counts} {C B N O A : List ℕ} (E : BeforeSte
                   }
 
           module _ (b : Bool) (pb : b ≡ rising (take m (drop 3 (fields_of P)))) where
-            refused_by_lem : (u : NamedRights) → t ≡ u → (c : Bool) → b ≡ c → ¬ (refusal_of u c ≡ 0) → StepRead F k n C B N O A E C B O A (Refused (refusal_of u c))
-            refused_by_lem rights.Absent q c h z = resolve_right_absent q
-            refused_by_lem Equal q true h z = let w = rights_equal s (right_of S here rec) (sym answer_is ∙ q) in signs_refused w.0 w.1 b pb h w.2
-            refused_by_lem Equal q false h z = let w = rights_equal s (right_of S here rec) (sym answer_is ∙ q) in not_rising_refused w.0 w.1 b pb h
-            refused_by_lem Opposite q true h z = absurd (z refl)
-            refused_by_lem Opposite q false h z = let w = rights_opposite s (right_of S here rec) (sym answer_is ∙ q) in not_rising_refused w.0 w.1 b pb h
+            of : {r y : Reason} → ◌≡◌ {A = Result (Unit {0}) Reason} (Err r) (Err y) → StepRead F k n C B N O A E C B O A (Err r) → StepRead F k n C B N O A E C B O A (Err y)
+            of z R = subst (λ (i : Reason). StepRead F k n C B N O A E C B O A (Err i)) (same_err z) R
 
-            passed : (u : NamedRights) (c : Bool) → refusal_of u c ≡ 0 → (u ≡ Opposite) × (c ≡ true)
-            passed rights.Absent c z = absurd (omega arith)
-            passed Equal true z = absurd (omega arith)
-            passed Equal false z = absurd (omega arith)
-            passed Opposite true z = (refl, refl)
-            passed Opposite false z = absurd (omega arith)
+            refused_by_lem : (u : std.Option Bool) → t ≡ u → (c : Bool) → b ≡ c → (y : Reason) → refusal_of u c ≡ Err y → StepRead F k n C B N O A E C B O A (Err y)
+            refused_by_lem None q c h y z = of z (resolve_right_absent q)
+            refused_by_lem (Some false) q true h y z = let w = rights_found x.positive (right_of S here rec) false (sym answer_is ∙ q) in of z (signs_refused w.0 w.1 b pb h w.2)
+            refused_by_lem (Some false) q false h y z = let w = rights_found x.positive (right_of S here rec) false (sym answer_is ∙ q) in of z (not_rising_refused w.0 w.1 b pb h)
+            refused_by_lem (Some true) q true h y z = absurd (err_not_ok (sym z))
+            refused_by_lem (Some true) q false h y z = let w = rights_found x.positive (right_of S here rec) true (sym answer_is ∙ q) in of z (not_rising_refused w.0 w.1 b pb h)
 
-            named_checked : refusal_of t b ≡ 0 → (a : ℕ) → a ≡ get_or ns 0 0 → ResolveNamed ns k n C B N O A (record { clause = a; row = row; index = index }) L m
-            named_checked z a pa = let p = passed t b z in let w = rights_opposite s (right_of S here rec) (sym answer_is ∙ p.0) in checked w.0 w.1 b pb p.1 w.2 a pa
+            passed : (u : std.Option Bool) (c : Bool) → refusal_of u c ≡ Ok tt → (u ≡ Some true) × (c ≡ true)
+            passed None c z = absurd (err_not_ok z)
+            passed (Some false) true z = absurd (err_not_ok z)
+            passed (Some false) false z = absurd (err_not_ok z)
+            passed (Some true) true z = (refl, refl)
+            passed (Some true) false z = absurd (err_not_ok z)
 
-        module _ (s : Bool) (row index : ℕ) (found : r ≡ Found s row index) (b : Bool) (pb : b ≡ rising (take m (drop 3 (fields_of P)))) (L : List ℕ) (q : ℕ) (T : RightsTested O C n.clauses ns m s b L q) where
-          pub resolve_refused : ¬ (q ≡ 0) → StepRead F k n C B N O A E C B O A (Refused q)
-          resolve_refused z = subst (λ (i : ℕ). StepRead F k n C B N O A E C B O A (Refused i)) (sym T.refusal) (refused_by_lem s row index found L T.answered T.named b pb T.answered refl b refl (λ y. z (T.refusal ∙ y)))
+            named_checked : refusal_of t b ≡ Ok tt → (a : ℕ) → a ≡ get_or ns 0 0 → ResolveNamed ns k n C B N O A (record { clause = a; row = x.row; index = x.index }) L m
+            named_checked z a pa = let p = passed t b z in let w = rights_found x.positive (right_of S here rec) true (sym answer_is ∙ p.0) in checked w.0 w.1 b pb p.1 w.2 a pa
 
-          module _ (z : q ≡ 0) (a : ℕ) (pa : a ≡ get_or ns 0 0) where
-            pub resolve_checked : ResolveNamed ns k n C B N O A (record { clause = a; row = row; index = index }) L m
-            resolve_checked = named_checked s row index found L T.answered T.named b pb (sym T.refusal ∙ z) a pa
+        module _ (x : NamedLiteral) (found : r ≡ Some x) (b : Bool) (pb : b ≡ rising (take m (drop 3 (fields_of P)))) (L : List ℕ) (q : Result (Unit {0}) Reason) (T : RightsTested O C n.clauses ns m x.positive b L q) where
+          pub resolve_refused : {y : Reason} {g : Entered} → q ≡ Err y → g ≡ Err y → StepRead F k n C B N O A E C B O A g
+          resolve_refused {y} z h = subst (StepRead F k n C B N O A E C B O A) (sym h) (refused_by_lem x found L T.answered T.named b pb T.answered refl b refl y (sym T.refusal ∙ z))
 
-            pub resolve_read : (C' B' O' A' : List ℕ) (g : Entered) → ((R : ResolveNamed ns k n C B N O A (record { clause = a; row = row; index = index }) L m) → StepRead R.file k n C B N O A R.step C' B' O' A' g) → StepRead F k n C B N O A E C' B' O' A' g
+          module _ (z : q ≡ Ok tt) (a : ℕ) (pa : a ≡ get_or ns 0 0) where
+            pub resolve_checked : ResolveNamed ns k n C B N O A (record { clause = a; row = x.row; index = x.index }) L m
+            resolve_checked = named_checked x found L T.answered T.named b pb (sym T.refusal ∙ z) a pa
+
+            pub resolve_read : (C' B' O' A' : List ℕ) (g : Entered) → ((R : ResolveNamed ns k n C B N O A (record { clause = a; row = x.row; index = x.index }) L m) → StepRead R.file k n C B N O A R.step C' B' O' A' g) → StepRead F k n C B N O A E C' B' O' A' g
             unfolding resolve_checked named_checked checked
             resolve_read C' B' O' A' g f = f resolve_checked
 
@@ -382,28 +340,28 @@ module _ {F : File} {k : ℕ} {n : Counts} {C B N O A : List ℕ} (E : BeforeSte
     factor_ranged : not b ≡ false → in_range factorKind (decoded (record_part F k)) ≡ true
     factor_ranged q = ap (λ (l : List ℕ). step_in_range 3 (decoded l)) (sym e) ∙ sym range ∙ not-false b q
 
-    pub factor_out : not b ≡ true → StepRead F k n C B N O A E C B O A (Refused 4)
+    pub factor_out : not b ≡ true → StepRead F k n C B N O A E C B O A (Err OutOfRange)
     unfolding require
-    factor_out q = refuse outOfRange (factor_tests (factor_kind kd) false (both_there (left_of S rec) (deleted_of S rec)) (factor_signs S rec) (factor_fits S rec) factor_outlines (ap (λ (l : List ℕ). step_in_range 3 (decoded l)) (sym e) ∙ sym range ∙ not-true b q) refl refl refl refl)
+    factor_out q = refuse OutOfRange (factor_tests (factor_kind kd) false (both_there (left_of S rec) (deleted_of S rec)) (factor_signs S rec) (factor_fits S rec) factor_outlines (ap (λ (l : List ℕ). step_in_range 3 (decoded l)) (sym e) ∙ sym range ∙ not-true b q) refl refl refl refl)
 
-    module _ (ok : not b ≡ false) (ns : List ℕ) (fields : ns ≡ fields_of P) (r : NamedPair)
-        (named : (R : ClausesStored O C n.clauses) → r ≡ pair_answer (get_or ns 0 0) (get_or ns 0 0) (literal_named R.state (get_or ns 0 0) (get_or ns 1 0)) (literal_named R.state (get_or ns 0 0) (get_or ns 2 0))) where
+    module _ (ok : not b ≡ false) (ns : List ℕ) (fields : ns ≡ fields_of P) (r : std.Option (NamedLiteral × NamedLiteral))
+        (named : (R : ClausesStored O C n.clauses) → r ≡ pair_answer (literal_named R.state (get_or ns 0 0) (get_or ns 1 0)) (literal_named R.state (get_or ns 0 0) (get_or ns 2 0))) where
       factor_field : (i : ℕ) → get_or ns i 0 ≡ get_or (fields_of (record_part F k)) i 0
       factor_field i = ap (λ (l : List ℕ). get_or l i 0) (fields ∙ ap fields_of e)
 
-      factor_pair : r ≡ pair_answer (field_a (decoded (record_part F k))) (field_a (decoded (record_part F k))) (left_of E.state (decoded (record_part F k))) (deleted_of E.state (decoded (record_part F k)))
+      factor_pair : r ≡ pair_answer (left_of E.state (decoded (record_part F k))) (deleted_of E.state (decoded (record_part F k)))
       factor_pair = pair_is (get_or ns 0 0) (get_or ns 1 0) (get_or ns 0 0) (get_or ns 2 0) (field_a rec) (field_b rec) (field_a rec) (field_c rec) (factor_field 0) (factor_field 1) (factor_field 0) (factor_field 2) r named
 
-      pub factor_absent : r ≡ pair.Absent → StepRead F k n C B N O A E C B O A (Refused 5)
+      pub factor_absent : r ≡ None → StepRead F k n C B N O A E C B O A (Err NotThere)
       unfolding require
-      factor_absent q = refuse notThere (factor_tests (factor_kind kd) true false (factor_signs S rec) (factor_fits S rec) factor_outlines (factor_ranged ok) (one_absent (field_a rec) (field_a rec) (left_of S rec) (deleted_of S rec) (sym factor_pair ∙ q)) refl refl refl)
+      factor_absent q = refuse NotThere (factor_tests (factor_kind kd) true false (factor_signs S rec) (factor_fits S rec) factor_outlines (factor_ranged ok) (one_absent (left_of S rec) (deleted_of S rec) (sym factor_pair ∙ q)) refl refl refl)
 
-      module _ (x y : SignedAtom) (q : r ≡ pair.Both x y) where
-        K : FoundLiteral (left_of E.state (decoded (record_part F k))) (field_a (decoded (record_part F k))) x
-        K = (both_found (field_a rec) (field_a rec) (left_of S rec) (deleted_of S rec) x y (sym factor_pair ∙ q)).0
+      module _ (x y : NamedLiteral) (q : r ≡ Some (x, y)) where
+        K : FoundLiteral (left_of E.state (decoded (record_part F k))) x
+        K = (both_found (left_of S rec) (deleted_of S rec) x y (sym factor_pair ∙ q)).0
 
-        D : FoundLiteral (deleted_of E.state (decoded (record_part F k))) (field_a (decoded (record_part F k))) y
-        D = (both_found (field_a rec) (field_a rec) (left_of S rec) (deleted_of S rec) x y (sym factor_pair ∙ q)).1
+        D : FoundLiteral (deleted_of E.state (decoded (record_part F k))) y
+        D = (both_found (left_of S rec) (deleted_of S rec) x y (sym factor_pair ∙ q)).1
 
         two_named : both_there (left_of E.state (decoded (record_part F k))) (deleted_of E.state (decoded (record_part F k))) ≡ true
         two_named = ap₂ (λ (o p : Option (Derivation × Literal)). is_there o && is_there p) K.is_named D.is_named
@@ -411,23 +369,23 @@ module _ {F : File} {k : ℕ} {n : Counts} {C B N O A : List ℕ} (E : BeforeSte
         sign_of_both : factor_signs E.state (decoded (record_part F k)) ≡ (equal_signs x.positive y.positive && not (eqb (get_or ns 1 0) (get_or ns 2 0)))
         sign_of_both =
             ap₂ (λ (o p : Option (Derivation × Literal)). on_both (λ v w. equal_signs v.1.0 w.1.0) o p && not (eqb (field_b rec) (field_c rec))) K.is_named D.is_named
-            ∙ sym (ap₂ (λ (v w : SignedAtom). equal_signs v.positive w.positive && not (eqb (field_b rec) (field_c rec))) K.is_signed D.is_signed)
+            ∙ ap₂ (λ (v w : NamedLiteral). equal_signs v.positive w.positive && not (eqb (field_b rec) (field_c rec))) K.is_literal D.is_literal
             ∙ sym (ap₂ (λ (i j : ℕ). equal_signs x.positive y.positive && not (eqb i j)) (factor_field 1) (factor_field 2))
 
-        pub factor_other_signs : (z : Bool) → z ≡ equal_signs x.positive y.positive → not z ≡ true → StepRead F k n C B N O A E C B O A (Refused 8)
+        pub factor_other_signs : not (beq x.positive y.positive) ≡ true → StepRead F k n C B N O A E C B O A (Err WrongSigns)
         unfolding require
-        factor_other_signs z p h = refuse wrongSigns (factor_tests (factor_kind kd) true true false (factor_fits S rec) factor_outlines (factor_ranged ok) two_named (sign_of_both ∙ ap (λ (v : Bool). v && not (eqb (get_or ns 1 0) (get_or ns 2 0))) (sym p ∙ not-true z h)) refl refl)
+        factor_other_signs h = refuse WrongSigns (factor_tests (factor_kind kd) true true false (factor_fits S rec) factor_outlines (factor_ranged ok) two_named (sign_of_both ∙ ap (λ (v : Bool). v && not (eqb (get_or ns 1 0) (get_or ns 2 0))) (equal_signs-beq x.positive y.positive ∙ not-true (beq x.positive y.positive) h)) refl refl)
 
-        module _ (z : Bool) (p : z ≡ equal_signs x.positive y.positive) (h : not z ≡ false) where
+        module _ (h : not (beq x.positive y.positive) ≡ false) where
           different : factor_signs E.state (decoded (record_part F k)) ≡ not (eqb (get_or ns 1 0) (get_or ns 2 0))
-          different = sign_of_both ∙ ap (λ (v : Bool). v && not (eqb (get_or ns 1 0) (get_or ns 2 0))) (sym p ∙ not-false z h)
+          different = sign_of_both ∙ ap (λ (v : Bool). v && not (eqb (get_or ns 1 0) (get_or ns 2 0))) (equal_signs-beq x.positive y.positive ∙ not-false (beq x.positive y.positive) h)
 
-          pub factor_same : get_or ns 1 0 ≡ get_or ns 2 0 → StepRead F k n C B N O A E C B O A (Refused 8)
+          pub factor_same : get_or ns 1 0 ≡ get_or ns 2 0 → StepRead F k n C B N O A E C B O A (Err WrongSigns)
           unfolding require
-          factor_same u = refuse wrongSigns (factor_tests (factor_kind kd) true true false (factor_fits S rec) factor_outlines (factor_ranged ok) two_named (different ∙ ap not (eq-eqb (get_or ns 1 0) (get_or ns 2 0) u)) refl refl)
+          factor_same u = refuse WrongSigns (factor_tests (factor_kind kd) true true false (factor_fits S rec) factor_outlines (factor_ranged ok) two_named (different ∙ ap not (eq-eqb (get_or ns 1 0) (get_or ns 2 0) u)) refl refl)
 
-          module _ (u : ¬ (get_or ns 1 0 ≡ get_or ns 2 0)) where
-            pub factor_checked : FactorNamed ns k n C B N O A x.atom y.atom
+          module _ (u : ¬ (get_or ns 1 0 ≡ get_or ns 2 0)) (a : ℕ) (pa : a ≡ get_or ns 0 0) where
+            pub factor_checked : FactorNamed ns k n C B N O A (record { clause = a; row = x.row; index = x.index }) (record { clause = a; row = y.row; index = y.index })
             unfolding atom_found
             factor_checked = record {
               file = F;
@@ -435,14 +393,14 @@ module _ {F : File} {k : ℕ} {n : Counts} {C B N O A : List ℕ} (E : BeforeSte
               step = E;
               is_factor = kd;
               ranged = factor_ranged ok;
-              same_clause = ap (λ (v : SignedAtom). v.atom.clause) D.is_signed ∙ sym (ap (λ (v : SignedAtom). v.atom.clause) K.is_signed);
-              kept = atom_found (field_a rec) (field_b rec) x K;
-              deleted = atom_found (field_a rec) (field_c rec) y D;
+              same_clause = refl;
+              kept = atom_found (field_a rec) (field_b rec) a x (pa ∙ factor_field 0) K;
+              deleted = atom_found (field_a rec) (field_c rec) a y (pa ∙ factor_field 0) D;
               is_kept = K.is_named;
               is_deleted = D.is_named;
               signs = different ∙ ap not (ne_eqb (get_or ns 1 0) (get_or ns 2 0) u);
             }
 
-            pub factor_read : (C' B' O' A' : List ℕ) (g : Entered) → ((R : FactorNamed ns k n C B N O A x.atom y.atom) → StepRead R.file k n C B N O A R.step C' B' O' A' g) → StepRead F k n C B N O A E C' B' O' A' g
+            pub factor_read : (C' B' O' A' : List ℕ) (g : Entered) → ((R : FactorNamed ns k n C B N O A (record { clause = a; row = x.row; index = x.index }) (record { clause = a; row = y.row; index = y.index })) → StepRead R.file k n C B N O A R.step C' B' O' A' g) → StepRead F k n C B N O A E C' B' O' A' g
             unfolding factor_checked
             factor_read C' B' O' A' g f = f factor_checked

@@ -1,7 +1,8 @@
 -- Resolve and factor in the program: the contracts of its inner functions. No demand needs this file.
-use Rattle.std.specs.Prelude.{◌≡◌, ◌⊎◌, true, List, ℕ, ◌+◌, ◌-◌, ◌*◌, ◌≤◌, ◌<◌, length, get_or}
+use Rattle.std.specs.Prelude.{◌≡◌, ◌⊎◌, true, List, ℕ, ◌+◌, ◌-◌, ◌*◌, ◌≤◌, ◌<◌, length, get_or, Some, None, Ok, Err}
+use Rattle.std.specs.Prelude as std
 use Rattle.std.proofs.Math.Option.{Option, none, some}
-use Rattle.record.specs.Record.{File, record_count, record_part, kind_of, fields_of, decoded, factorKind, field_c}
+use Rattle.record.specs.Record.{pick, File, record_count, record_part, kind_of, fields_of, decoded, factorKind, field_c}
 use Rattle.unification.specs.Listed.{listed_from}
 use Rattle.unify.specs.Unifying.{Counted}
 use Rattle.derivation.specs.Derivation.{literals, Literal, Derivation, numbered, numbered_all, maximum_index}
@@ -13,18 +14,13 @@ use Rattle.verdict.specs.Refusal.{kind_of_record, in_range, rising, left_of, rig
 use Rattle.verdict.specs.State.{State, clause_of}
 use Rattle.verdict.specs.Step.{atoms}
 use Rattle.verdict.specs.Tables.{Tables}
-use Rattle.unify.specs.declared.Unified.{Unified}
-use Rattle.unify.specs.declared.Unified.TheVariants.{Done, Refused}
+use Rattle.unify.specs.Pairs.{Answer}
 use Rattle.entry.specs.declared.entry.Counts.{Counts}
-use Rattle.entry.specs.declared.entry.Entered.{Entered}
-use Rattle.entry.specs.declared.entry.Entered.TheVariants.{Stands}
-use Rattle.entry.specs.declared.entry.Entered.TheVariants as entered
+use Rattle.entry.specs.Program.{Entered}
+use Rattle.reasons.specs.declared.Reason.TheVariants.{Unification}
+use Rattle.named_literals.specs.Named.{fields_of_literal}
 use Rattle.named_literals.specs.declared.NamedLiteral.{NamedLiteral}
-use Rattle.named_literals.specs.declared.NamedLiteral.TheVariants.{Found, Absent}
 use Rattle.inference.specs.declared.Atom.{Atom}
-use Rattle.inference.specs.declared.SignedAtom.{SignedAtom}
-use Rattle.inference.specs.declared.NamedPair.{NamedPair}
-use Rattle.inference.specs.declared.NamedPair.TheVariants as pair
 
 -- What a function on a step asks: what the program keeps before record k, for some tables of symbols and rows.
 pub record BeforeStep (F : File) (k : ℕ) (n : Counts) (C B N O A : List ℕ) : Type 0 where
@@ -81,7 +77,7 @@ pub record Factoring (k : ℕ) (n : Counts) (C B N O A : List ℕ) (x y : Atom) 
   pub deleted : AtomOf step.state y.clause y.row y.index
 
 -- What unification leaves of the table of bindings and the array.
-pub record UnifiedTables (B B' A' : List ℕ) (held : ℕ) (u : Unified) : Type 0 where
+pub record UnifiedTables (B B' A' : List ℕ) (held : ℕ) (u : Answer) : Type 0 where
   pub values : length A' ≡ 524416
   pub bindings : length B' ≡ length B
   pub before : (j : ℕ) → j < 4 * held → get_or B' j 0 ≡ get_or B j 0
@@ -100,17 +96,17 @@ finished e C B O = record { answer = e; clauses = C; bindings = B; origins = O }
 abbrev pub with_step : Counts → ℕ → Counts
 with_step n h = record { symbols = n.symbols; rows = n.rows; clauses = n.clauses + 1; bindings = h }
 
-abbrev pub step_finished : Unified → ℕ → Counts → ℕ → ℕ → List ℕ → List ℕ → List ℕ → List ℕ → Finished
-step_finished (Done w h) k n literals index cells C B O =
-    finished (Stands (with_step n h)) (with_clause_cells C n.clauses k literals index n.bindings (h - n.bindings)) B (with_node O n.clauses cells)
-step_finished (Refused q) k n literals index cells C B O = finished (entered.Refused q) C (cleared_part (4 * n.bindings) 32768 B) O
+abbrev pub step_finished : Answer → ℕ → Counts → ℕ → ℕ → List ℕ → List ℕ → List ℕ → List ℕ → Finished
+step_finished (Ok u) k n literals index cells C B O =
+    finished (Ok (with_step n u.held)) (with_clause_cells C n.clauses k literals index n.bindings (u.held - n.bindings)) B (with_node O n.clauses cells)
+step_finished (Err f) k n literals index cells C B O = finished (Err (Unification f)) C (cleared_part (4 * n.bindings) 32768 B) O
 
-abbrev pub HeldUpTo : ℕ → Unified → Type 0
-HeldUpTo held (Done w h) = (held ≤ h) × (h ≤ 8192)
-HeldUpTo held (Refused q) = Unit {0}
+abbrev pub HeldUpTo : ℕ → Answer → Type 0
+HeldUpTo held (Ok u) = (held ≤ u.held) × (u.held ≤ 8192)
+HeldUpTo held (Err f) = Unit {0}
 
 -- What finishing a step asks.
-pub record Finishing (n : Counts) (B O ns : List ℕ) (u : Unified) : Type 0 where
+pub record Finishing (n : Counts) (B O ns : List ℕ) (u : Answer) : Type 0 where
   pub origins : length O ≡ 32768
   pub numbers : length ns ≡ 7
   pub clauses : n.clauses < 4096
@@ -120,7 +116,6 @@ pub record Finishing (n : Counts) (B O ns : List ℕ) (u : Unified) : Type 0 whe
 
 -- The clauses of a state as the tables store them, for looking up literals.
 pub record ClausesStored (O C : List ℕ) (count : ℕ) : Type 0 where
-  pub room : length O ≡ 32768
   pub state : State
   pub bindings : List ℕ
   pub size : length state.clauses ≡ count
@@ -128,18 +123,15 @@ pub record ClausesStored (O C : List ℕ) (count : ℕ) : Type 0 where
   pub fits : (c : ℕ) (d : Derivation) → clause_of state c ≡ some d → maximum_index d ≤ 4096
 
 -- A named literal as the program answers it.
-abbrev pub named_answer : Option (Derivation × Literal) → NamedLiteral
-named_answer none = Absent
-named_answer (some x) = Found x.1.0 x.1.1.0 x.1.1.1
+abbrev pub named_answer : Option (Derivation × Literal) → std.Option NamedLiteral
+named_answer none = None
+named_answer (some x) = Some (fields_of_literal x.1)
 
--- The two literals that a step names, of clauses a and c, as the program answers them.
-abbrev pub signed_atom : ℕ → Literal → SignedAtom
-signed_atom a l = record { positive = l.0; atom = record { clause = a; row = l.1.0; index = l.1.1 } }
-
-abbrev pub pair_answer : ℕ → ℕ → Option (Derivation × Literal) → Option (Derivation × Literal) → NamedPair
-pair_answer a c none y = pair.Absent
-pair_answer a c (some x) none = pair.Absent
-pair_answer a c (some x) (some y) = pair.Both (signed_atom a x.1) (signed_atom c y.1)
+-- The two literals that a step names, as the program answers them.
+abbrev pub pair_answer : Option (Derivation × Literal) → Option (Derivation × Literal) → std.Option (NamedLiteral × NamedLiteral)
+pair_answer none y = None
+pair_answer (some x) none = None
+pair_answer (some x) (some y) = Some (fields_of_literal x.1, fields_of_literal y.1)
 
 -- The kinds of a resolve, on one right literal or on several.
 abbrev pub ResolveKind : ℕ → Type 0

@@ -14,7 +14,7 @@ use Rattle.record.specs.declared.Form.TheVariants.{Old}
 use Rattle.record.proofs.Bytes.{file_length, file_joined, file_rewritten}
 use Rattle.record.proofs.Records.{records_length}
 use Rattle.record.specs.Sorts.{is_symbol, is_row, is_clause, is_step, how_many, unless}
-use Rattle.unification.proofs.Tests.{to_t, both_true}
+use Rattle.unification.proofs.Tests.{to_t, both_true, true_not_false}
 use Rattle.verdict.specs.State.{State}
 use Rattle.verdict.specs.Verdict.{Stands}
 use Rattle.demands.proofs.Inversions.{not_below}
@@ -27,8 +27,12 @@ use Rattle.merging.proofs.ShiftedFits.{shifted_fit}
 use Rattle.raising.specs.Wrapped.{wrapped}
 use Rattle.shifting.specs.Shifting.{shifted_bytes, SecondWritable, SecondWritten}
 use Rattle.writing_answer.specs.Given.{writing_given}
-use Rattle.joining.specs.Joined.{too_many, BothStand, Joinable, FileWritten, Joined}
-use Rattle.writing_answer.specs.declared.WritingOutcome as goal
+use Rattle.searching.specs.Searching.{found_given}
+use Rattle.joining.specs.Joined.{unless_found, too_many, BothStand, Joinable, FileWritten, Joined}
+use Rattle.writing_answer.specs.declared.NotWritten.{NotWritten}
+use Rattle.writing_answer.specs.declared.WritingReason.{WritingReason}
+use Rattle.std.specs.Prelude.{Some, None, Result, Ok, Err, ⊤}
+use Rattle.std.specs.Prelude as std
 
 -- ── Records that fit are written as they are ──
 small_list : (xs : List ℕ) → ((i : ℕ) → get_or xs i 0 < 65536) → map (λ n. n % 65536) xs ≡ xs
@@ -60,13 +64,6 @@ left_many n s (r ∷ rs) = try (is_symbol r) (ltb s n) refl (left_many n (symbol
     try true true q ih = let l = ltb→lt s n (to_t (ltb s n) q) in omega arith
     try true false q ih = let l = not_below s n q in omega arith
     try false b q ih = omega arith
-
-least : (a b : ℕ) → pick (ltb a b) a b ≡ min a b
-least a b = try (ltb a b) refl
-  where
-    try : (x : Bool) → ltb a b ≡ x → pick x a b ≡ min a b
-    try true q = let l = ltb→lt a b (to_t (ltb a b) q) in omega arith
-    try false q = let l = not_below a b q in omega arith
 
 ltb_same : (a b c d : ℕ) → (a < b → c < d) → (c < d → a < b) → ltb a b ≡ ltb c d
 ltb_same a b c d f g = try (ltb a b) refl (ltb c d) refl
@@ -131,9 +128,7 @@ module _ (first second : List ℕ) (symbols rows clauses others : ℕ) (output :
   pub counted_many : too_many (length first) (length second) symbols others ≡ ltb 4096 (length (merged (records (old_file first)) (records (old_file second))))
   counted_many =
       let m = merged_many in
-      let l = least symbols others in
-      ap (λ (n : ℕ). ltb (4096 + n) (length first / 16 + length second / 16)) l
-      ∙ ltb_same (4096 + min symbols others) (length first / 16 + length second / 16) 4096 (length (merged (records (old_file first)) (records (old_file second)))) (λ x. omega arith) (λ x. omega arith)
+      ltb_same (4096 + min symbols others) (length first / 16 + length second / 16) 4096 (length (merged (records (old_file first)) (records (old_file second)))) (λ x. omega arith) (λ x. omega arith)
 
   pub to_join : (b : Bool) → b ≡ too_many (length first) (length second) symbols others → b ≡ false → Joinable first second symbols rows clauses output
   to_join b q f = record {
@@ -225,6 +220,14 @@ module _ (first second : List ℕ) (symbols rows clauses : ℕ) (output : List �
 
 -- ── The ways of joining ──
 
+-- A search that must find nothing has found nothing.
+none_was : (reason : WritingReason) (file : ℕ) (o : std.Option ℕ) {u : ⊤} → unless_found reason file o ≡ Ok u → o ≡ None
+none_was reason file None q = refl
+none_was reason file (Some k) q = absurd (true_not_false refl (sym (ap (λ (r : Result ⊤ NotWritten). std.is_ok r) q)))
+
+pub nothing_found : (reason : WritingReason) (file : ℕ) (o : std.Option ℕ) {w : Option ℕ} {r : Result ⊤ NotWritten} {u : ⊤} → r ≡ unless_found reason file o → r ≡ Ok u → found_given o ≡ w → none ≡ w
+nothing_found reason file o e q g = sym (ap found_given (none_was reason file o (sym e ∙ q))) ∙ g
+
 -- What comes after both checks, by what the searches find.
 abbrev after_searches : List Record → Option ℕ → Option ℕ → Option ℕ → Writing
 after_searches rs mine theirs other =
@@ -233,21 +236,12 @@ after_searches rs mine theirs other =
       | none ↦ elim theirs [ some k ↦ refused_with 17 2 k | none ↦ elim other [ some k ↦ refused_with 18 2 k | none ↦ room_for rs ] ]
     ]
 
-module _ (first second output : List ℕ) (m : goal.WritingOutcome) where
+module _ (first second output : List ℕ) (m : Result ℕ NotWritten) where
   refused_joined : (number file k : ℕ) → after_checks (records (old_file first)) (records (old_file second)) ≡ refused_with number file k → writing_given m ≡ 2 ∷ number ∷ file ∷ k ∷ [] → Joined first second output m output
   refused_joined number file k e g = record { answer = g ∙ ap writing_numbers (sym e); bytes = ap (λ (x : Writing). output_left x (merged_file first second) output) (sym e) }
 
-  pub step_first : (k : ℕ) → some k ≡ first_where is_step 0 (records (old_file first)) → writing_given m ≡ 2 ∷ 17 ∷ 1 ∷ k ∷ [] → Joined first second output m output
-  step_first k q g = refused_joined 17 1 k (λ i. after_searches (merged (records (old_file first)) (records (old_file second))) (sym q i) (first_where is_step 0 (records (old_file second))) (first_other (symbol_list (records (old_file first))) 0 (records (old_file second)))) g
-
   module _ (q : none ≡ first_where is_step 0 (records (old_file first))) where
-    pub step_second : (k : ℕ) → some k ≡ first_where is_step 0 (records (old_file second)) → writing_given m ≡ 2 ∷ 17 ∷ 2 ∷ k ∷ [] → Joined first second output m output
-    step_second k p g = refused_joined 17 2 k (λ i. after_searches (merged (records (old_file first)) (records (old_file second))) (sym q i) (sym p i) (first_other (symbol_list (records (old_file first))) 0 (records (old_file second)))) g
-
     module _ (p : none ≡ first_where is_step 0 (records (old_file second))) where
-      pub other_symbol_lem : (k : ℕ) → some k ≡ first_other (symbol_list (records (old_file first))) 0 (records (old_file second)) → writing_given m ≡ 2 ∷ 18 ∷ 2 ∷ k ∷ [] → Joined first second output m output
-      other_symbol_lem k o g = refused_joined 18 2 k (λ i. after_searches (merged (records (old_file first)) (records (old_file second))) (sym q i) (sym p i) (sym o i)) g
-
       module _ (o : none ≡ first_other (symbol_list (records (old_file first))) 0 (records (old_file second))) where
         room_left : after_checks (records (old_file first)) (records (old_file second)) ≡ room_for (merged (records (old_file first)) (records (old_file second)))
         room_left = λ i. after_searches (merged (records (old_file first)) (records (old_file second))) (sym q i) (sym p i) (sym o i)

@@ -6,21 +6,27 @@ ghost use Rattle.std.specs.Prelude.{◌≡◌, ◌++◌, ◌≤◌, length, drop
 ghost use Rattle.record.specs.Record.{records};
 ghost use Rattle.merging.specs.Answer.{after_checks};
 ghost use Rattle.merging.specs.Merging.{merged_file};
-ghost use Rattle.joining.specs.Joined.{BothStand, too_many, Joined, FileWritten, Joinable};
+ghost use Rattle.joining.specs.Joined.{unless_found, BothStand, too_many, Joined, FileWritten, Joinable};
 
-use searching::{Found, first_other, first_step};
+use searching::{first_other, first_step};
 use shifting::record_writing::write_second;
-use writing_answer::WritingOutcome;
+use writing_answer::{NotWritten, WritingReason};
 
 // Whether the merged file has over 4,096 records: the symbols that both files have are written once.
 fn too_many(first: &[u8], second: &[u8], symbols: u16, others: u16) -> bool
     ensures { result ≡ too_many (length first.now) (length second.now) symbols others }
 {
-    let records = first.len() / 16 + second.len() / 16;
-    if symbols < others {
-        return 4096 + (symbols as usize) < records;
+    4096 + (symbols.min(others) as usize) < first.len() / 16 + second.len() / 16
+}
+
+// Nothing where a search has found no record; or that no file is written for the record found in an input file.
+fn none_found(found: Option<u16>, reason: WritingReason, file: u8) -> Result<(), NotWritten>
+    ensures { result ≡ unless_found reason file found }
+{
+    match found {
+        None => Ok(()),
+        Some(at) => Err(NotWritten { reason, file, at }),
     }
-    4096 + (others as usize) < records
 }
 
 // Writes all of `from` at the start of `to`, of which the rest stays, and tells how many bytes that were.
@@ -60,25 +66,20 @@ pub fn join(
     clauses: u16,
     others: u16,
     output: &mut [u8],
-) -> WritingOutcome
+) -> Result<u32, NotWritten>
     requires { BothStand first.now second.now symbols rows clauses others output.old }
     ensures { Joined first.now second.now output.old result output.new }
 {
-    let mine = first_step(first);
-    if let Found::At(k) = mine {
-        return WritingOutcome::Refused(17, 1, k);
-    }
-    let theirs = first_step(second);
-    if let Found::At(k) = theirs {
-        return WritingOutcome::Refused(17, 2, k);
-    }
-    let other = first_other(first, second);
-    if let Found::At(k) = other {
-        return WritingOutcome::Refused(18, 2, k);
-    }
+    none_found(first_step(first), WritingReason::StepInInput, 1)?;
+    none_found(first_step(second), WritingReason::StepInInput, 2)?;
+    none_found(first_other(first, second), WritingReason::OtherSymbol, 2)?;
     if too_many(first, second, symbols, others) {
-        return WritingOutcome::Refused(19, 0, 0);
+        return Err(NotWritten {
+            reason: WritingReason::TooManyMerged,
+            file: 0,
+            at: 0,
+        });
     }
     let end = write_both(first, second, symbols, rows, clauses, output);
-    WritingOutcome::Written(end as u32)
+    Ok(end as u32)
 }

@@ -11,8 +11,8 @@ pub fn fitting_length(form: Form, n: usize) -> bool
     ensures { result ≡ fitting_length form n }
 {
     match form {
-        Form::Old => { if n <= 65536 { n % 16 == 0 } else { false } }
-        Form::New => { if n <= 65520 { n % 20 == 0 } else { false } }
+        Form::Old => n <= 65536 && n % 16 == 0,
+        Form::New => n <= 65520 && n % 20 == 0,
     }
 }
 
@@ -20,14 +20,5 @@ pub fn fitting_length(form: Form, n: usize) -> bool
 pub fn long_enough(symbols: usize, rows: usize, clauses: usize, bindings: usize) -> bool
     ensures { result ≡ long_enough (record { symbols = symbols; rows = rows; clauses = clauses; bindings = bindings }) }
 {
-    if symbols < 4096 {
-        return false;
-    }
-    if rows < 4096 {
-        return false;
-    }
-    if clauses < 20480 {
-        return false;
-    }
-    32768 <= bindings
+    4096 <= symbols && 4096 <= rows && 20480 <= clauses && 32768 <= bindings
 }

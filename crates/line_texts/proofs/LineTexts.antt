@@ -16,14 +16,15 @@ use Rattle.unification.specs.Term.{Term}
 use Rattle.unification.specs.ValueArray.{InStep, Models}
 use Rattle.derivation.specs.Derivation.{literals, Literal, Derivation, numbered, maximum_index, lookup}
 use Rattle.loading.specs.Loaded.{Loadable, Loaded}
-use Rattle.named_literals.specs.Named.{named_literal}
+use Rattle.named_literals.specs.Named.{fields_of_literal, named_literal}
 use Rattle.derivation.specs.Stored.{literals_cell, index_cell, Stored}
 use Rattle.derivation.specs.Written.{substitution, written_literal, written}
 use Rattle.named_literals.proofs.Numbers.{raise_named_zero}
 use Rattle.named_literals.proofs.Origins.{stored_cells}
 use Rattle.derivation.proofs.Values.{writes_out}
 use Rattle.named_literals.specs.declared.NamedLiteral.{NamedLiteral}
-use Rattle.named_literals.specs.declared.NamedLiteral.TheVariants.{Found, Absent}
+use Rattle.std.specs.Prelude.{IsSome, Some}
+use Rattle.std.specs.Prelude as std
 use Rattle.verdict.specs.Refusal.{most_literals}
 use Rattle.verdict.specs.State.{State, entry, derivations, clause_of, row_of, term_of}
 use Rattle.verdict.specs.Tables.{Tables}
@@ -34,6 +35,7 @@ use Rattle.entry.specs.Progress.{ReadTo, tables_with}
 use Rattle.entry.proofs.Kept.{fitting_records}
 use Rattle.inference.proofs.KeptClauses as kept
 use Rattle.line_texts.specs.Lines.{AllWritable, NumberedReady, LiteralsReady, WritesNumbered, WritesLiterals, LineReady, LineWritten}
+use Rattle.collecting.specs.declared.literals.ListedLiteral.{ListedLiteral}
 use Rattle.collecting.specs.Literals.{listed, Collectable, Collected}
 use Rattle.verdict.specs.Text.{decimal, literal_text, literals_text}
 use Rattle.appearance.specs.Appearance.{shown, all_shown}
@@ -52,34 +54,30 @@ use Rattle.literal_text.proofs.LiteralTexts.{name_short, literals_text_short}
 use Rattle.text.proofs.Positions.{wrote_nothing, wrote_then}
 
 -- The literal that the program found is the one with the number.
-module _ (naming : Naming) (O C N A T K L : List ℕ) (count at c n : ℕ) (r : NamedLiteral) (G : (B : List ℕ) (d : Derivation) → Stored O C B c d → r ≡ named_literal (numbered (literals d) n)) where
-  same_literal : (positive : Bool) (row index : ℕ) (l : Literal) → Found positive row index ≡ named_literal (some l) → (positive, (row, index)) ≡ l
-  same_literal positive row index l e =
-      let p : positive ≡ l.0 = cc in
-      let q : row ≡ l.1.0 = cc in
-      let k : index ≡ l.1.1 = cc in
-      λ i. (p i, (q i, k i))
+module _ (naming : Naming) (O C N A T K L : List ℕ) (count at c n : ℕ) (r : std.Option NamedLiteral) (G : (B : List ℕ) (d : Derivation) → Stored O C B c d → r ≡ named_literal (numbered (literals d) n)) where
+  found_is : {B : List ℕ} {d : Derivation} (s : Stored O C B c d) (l : Literal) → numbered (literals d) n ≡ some l → r ≡ Some (fields_of_literal l)
+  found_is {B} {d} s l p = G B d s ∙ ap named_literal p
 
-  pub numbered_found : (positive : Bool) (row index : ℕ) → r ≡ Found positive row index → (A' T' K' L' : List ℕ) (e : Place) → WritesLiteral naming N A A' T T' K K' L L' count at positive (row, index) e → WritesNumbered naming O C N A A' T T' K K' L L' count at c n e
-  numbered_found positive row index q A' T' K' L' e W B d s l p =
-      subst (λ (x : Literal). WritesLiteral naming N A A' T T' K K' L L' count at x.0 x.1 e) (same_literal positive row index l (sym q ∙ G B d s ∙ ap named_literal p)) W
+  pub literal_there : NumberedReady naming O C N A T K L count c n → IsSome r
+  literal_there R = rw (found_is R.clause.stored R.literal R.is_numbered) refl
 
-  pub found_ready : (R : NumberedReady naming O C N A T K L count c n) (positive : Bool) (row index : ℕ) → r ≡ Found positive row index → WritingReady naming N A T K L count (row, index) 64
-  found_ready R positive row index q =
-      subst (λ (x : Literal). WritingReady naming N A T K L count x.1 64) (sym (same_literal positive row index R.literal (sym q ∙ G R.clause.bindings R.clause.derivation R.clause.stored ∙ ap named_literal R.is_numbered))) R.ready
+  module _ (x : NamedLiteral) (found : r ≡ Some x) where
+    same_literal : {B : List ℕ} {d : Derivation} (s : Stored O C B c d) (l : Literal) → numbered (literals d) n ≡ some l → l ≡ (x.positive, (x.row, x.index))
+    same_literal s l p =
+        let e = found_is s l p in
+        let f : fields_of_literal l ≡ x = cc in
+        ap (λ (y : NamedLiteral). (y.positive, (y.row, y.index))) f
 
-  pub numbered_absent : r ≡ Absent → (e : Place) → WritesNumbered naming O C N A A T T K K L L count at c n e
-  numbered_absent q e B d s l p = absurd (no (sym q ∙ G B d s ∙ ap named_literal p))
-    where
-      no : Absent ≡ named_literal (some l) → ⊥
-      no e = let z : ◌≡◌ {A = ℕ} 0 1 = cc in omega arith
+    pub numbered_found : (A' T' K' L' : List ℕ) (e : Place) → WritesLiteral naming N A A' T T' K K' L L' count at x.positive (x.row, x.index) e → WritesNumbered naming O C N A A' T T' K K' L L' count at c n e
+    numbered_found A' T' K' L' e W B d s l p =
+        subst (λ (x : Literal). WritesLiteral naming N A A' T T' K K' L L' count at x.0 x.1 e) (sym (same_literal s l p)) W
 
--- There is room in the list for all literals.
-pub collected_few : {O C M M' : List ℕ} {c count : ℕ} → Collectable O C 0 c 0 → Collected O C M M' 0 c 0 count → count < 16512
-collected_few R K = omega (arith, R.few, K.last R.bindings R.derivation R.stored)
+    pub found_ready : (R : NumberedReady naming O C N A T K L count c n) → WritingReady naming N A T K L count (x.row, x.index) 64
+    found_ready R =
+        subst (λ (x : Literal). WritingReady naming N A T K L count x.1 64) (same_literal R.clause.stored R.literal R.is_numbered) R.ready
 
 -- The literal that the program has in its list is the one with the number.
-listed_is : {O C B M M' : List ℕ} {c count : ℕ} {d : Derivation} → Collected O C M M' 0 c 0 count → Stored O C B c d → (n : ℕ) → 1 ≤ n → n ≤ count → (l : Literal) → numbered (literals d) n ≡ some l → listed M' n ≡ l
+listed_is : {O C B : List ℕ} {M M' : List ListedLiteral} {c count : ℕ} {d : Derivation} → Collected O C M M' 0 c 0 count → Stored O C B c d → (n : ℕ) → 1 ≤ n → n ≤ count → (l : Literal) → numbered (literals d) n ≡ some l → listed M' n ≡ l
 listed_is {B = B} {M' = M'} {d = d} K s n low high l p =
     let z : n ≡ 0 + n = omega arith in
     some_same (ap (λ (k : ℕ). some (listed M' k)) z ∙ (K.holds B d s).literal n low (omega (arith, high, K.last B d s)) ∙ sym (raise_named_zero (numbered (literals d) n)) ∙ p)
@@ -87,11 +85,11 @@ listed_is {B = B} {M' = M'} {d = d} K s n low high l p =
     some_same : {x y : Literal} → some x ≡ some y → x ≡ y
     some_same e = cc
 
-pub listed_ready : {O C M M' : List ℕ} {c count : ℕ} → Collected O C M M' 0 c 0 count → (n : ℕ) → 1 ≤ n → n ≤ count → {naming : Naming} {N A T K L : List ℕ} {m : ℕ} → NumberedReady naming O C N A T K L m c n → WritingReady naming N A T K L m (listed M' n).1 64
+pub listed_ready : {O C : List ℕ} {M M' : List ListedLiteral} {c count : ℕ} → Collected O C M M' 0 c 0 count → (n : ℕ) → 1 ≤ n → n ≤ count → {naming : Naming} {N A T K L : List ℕ} {m : ℕ} → NumberedReady naming O C N A T K L m c n → WritingReady naming N A T K L m (listed M' n).1 64
 listed_ready X n low high {naming} {N} {A} {T} {K} {L} {m} R =
     subst (λ (x : Literal). WritingReady naming N A T K L m x.1 64) (sym (listed_is X R.clause.stored n low high R.literal R.is_numbered)) R.ready
 
-pub numbered_listed : {O C M M' : List ℕ} {c count : ℕ} → Collected O C M M' 0 c 0 count → (n : ℕ) → 1 ≤ n → n ≤ count
+pub numbered_listed : {O C : List ℕ} {M M' : List ListedLiteral} {c count : ℕ} → Collected O C M M' 0 c 0 count → (n : ℕ) → 1 ≤ n → n ≤ count
     → (naming : Naming) (N A A' T T' K K' L L' : List ℕ) (m at : ℕ) (e : Place) → WritesLiteral naming N A A' T T' K K' L L' m at (listed M' n).0 (listed M' n).1 e → WritesNumbered naming O C N A A' T T' K K' L L' m at c n e
 numbered_listed X n low high naming N A A' T T' K K' L L' m at e W B d s l p =
     subst (λ (x : Literal). WritesLiteral naming N A A' T T' K K' L L' m at x.0 x.1 e) (listed_is X s n low high l p) W
@@ -103,7 +101,7 @@ HasLiterals O C c count = (B : List ℕ) (d : Derivation) → Stored O C B c d �
 pub cell_literals : {O C : List ℕ} {c count : ℕ} → count ≡ literals_cell C c → HasLiterals O C c count
 cell_literals e B d s = e ∙ (stored_cells s).literal_count
 
-pub collected_literals : {O C M M' : List ℕ} {c count : ℕ} → Collected O C M M' 0 c 0 count → HasLiterals O C c count
+pub collected_literals : {O C : List ℕ} {M M' : List ListedLiteral} {c count : ℕ} → Collected O C M M' 0 c 0 count → HasLiterals O C c count
 collected_literals K B d s = omega (arith, K.last B d s)
 
 -- The literal with the next number is the first of those left.
@@ -191,7 +189,7 @@ numbered_ready {n = n} R S counted h few Z =
     let x = next_literal (literals X.derivation) n (omega (arith, m)) in
     let is_literal : numbered (literals X.derivation) (n + 1) ≡ some x.next = ap (numbered (literals X.derivation)) (add-one n) ∙ x.is_numbered in
     record {
-      clause = record { room = X.origin_room; bindings = X.bindings; derivation = X.derivation; stored = X.stored; fits = omega (arith, X.fits) };
+      clause = record { bindings = X.bindings; derivation = X.derivation; stored = X.stored; fits = omega (arith, X.fits) };
       literal = x.next;
       is_numbered = is_literal;
       ready = record {
@@ -251,7 +249,6 @@ module _ {naming : Naming} {C B N O A T K L : List ℕ} {c : ℕ} (R : LineReady
       record {
         bindings = B;
         derivation = here.clause;
-        origin_room = kept.origins_room R.read.kept R.read.few;
         stored = kept.stored_of R.read.kept R.read.few c here.clause here.is_clause;
         fits = omega (arith, index_small);
         few = omega (arith, few_clauses, few_literals, R.inside);

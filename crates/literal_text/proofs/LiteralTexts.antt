@@ -21,36 +21,34 @@ use Rattle.numbering.specs.declared.Naming.TheVariants.{ByIndex, ByAppearance}
 use Rattle.names.specs.declared.Place.{Place}
 use Rattle.terms.specs.Writing.{Writing, WritesTerm, FewerOccurrencesLeft}
 use Rattle.literal_text.specs.Literals.{WritesLiteral}
+use Rattle.std.specs.Prelude.{Option, Some, None}
 use Rattle.terms.specs.declared.Written.{Written}
-use Rattle.terms.specs.declared.Written.TheVariants.{Done, TooMany}
 use Rattle.text.proofs.Decimals.{decimal_length}
 use Rattle.text.proofs.Positions.{wrote_then, wrote_over}
 
 -- The blank, the sign, and what follows them.
-module _ (naming : Naming) (N A A' T T₁ T₂ T₃ K K' L L' : List ℕ) (count at after atom : ℕ) (positive : Bool) (e : Expression) (m : ℕ) (blank : Wrote T T₁ at after (32 ∷ [])) (q : m ≡ sign_text positive) (signed : Wrote T₁ T₂ after atom (m ∷ [])) (w : Written)
+module _ (naming : Naming) (N A A' T T₁ T₂ T₃ K K' L L' : List ℕ) (count at after atom : ℕ) (positive : Bool) (e : Expression) (m : ℕ) (blank : Wrote T T₁ at after (32 ∷ [])) (q : m ≡ sign_text positive) (signed : Wrote T₁ T₂ after atom (m ∷ [])) (w : Option Written)
     (G : WritesTerm naming N A A' T₂ T₃ K K' L L' count atom e 64 w) where
   then_text : (T₄ : List ℕ) (end : ℕ) (x : List ℕ) → Wrote T₂ T₄ atom end x → Wrote T T₄ at end (32 ∷ (sign_text positive ∷ x))
   then_text T₄ end x v = subst (λ (s : ℕ). Wrote T T₄ at end (32 ∷ (s ∷ x))) q (wrote_then T T₁ T₄ at after end (32 ∷ []) (m ∷ x) blank (wrote_then T₁ T₂ T₄ after atom end (m ∷ []) x signed v))
 
-  pub literal_done : (end l c : ℕ) → w ≡ Done end l c → (p : Place) → p.end ≡ end → p.count ≡ c → WritesLiteral naming N A A' T T₃ K K' L L' count at positive e p
-  literal_done end l c z p pe pc top ρ row term σ W seen H =
+  pub literal_done : (d : Written) → w ≡ Some d → WritesLiteral naming N A A' T T₃ K K' L L' count at positive e d.place
+  literal_done d z top ρ row term σ W seen H =
       let t = written_out term σ e in
-      let R : Writing naming N top A' ρ row T₂ T₃ K' L' count atom 64 (λ name. term_text name t) (occurrences t) seen (appearing seen t) (Done end l c) =
+      let R : Writing naming N top A' ρ row T₂ T₃ K' L' count atom 64 (λ name. term_text name t) (occurrences t) seen (appearing seen t) (Some d) =
       subst (Writing naming N top A' ρ row T₂ T₃ K' L' count atom 64 (λ name. term_text name t) (occurrences t) seen (appearing seen t)) z (G top ρ row term σ W seen H) in
       let few : leb (occurrences t) 64 ≡ true = le-leb (occurrences t) 64 (omega (arith, R.came.0)) in
-      let numbered : Numbered naming N K' L' p.count (appearing seen t) = subst (λ (k : ℕ). Numbered naming N K' L' k (appearing seen t)) (sym pc) R.came.1 in
       record {
         models = R.models;
-        numbered = subst (λ (b : Bool). Numbered naming N K' L' p.count (pick b (appearing seen t) seen)) (sym few) numbered;
-        wrote = λ all X. subst (λ (k : ℕ). Wrote T T₃ at k (32 ∷ literal_text (name_of naming row all) (positive, t))) (sym pe)
-            (then_text T₃ end (pick (leb (occurrences t) 64) (term_text (name_of naming row all) t) (126 ∷ []))
-            (subst (λ (b : Bool). Wrote T₂ T₃ atom end (pick b (term_text (name_of naming row all) t) (126 ∷ []))) (sym few) (R.came.2 all (subst (λ (b : Bool). Longer (pick b (appearing seen t) seen) all) few X))));
+        numbered = subst (λ (b : Bool). Numbered naming N K' L' d.place.count (pick b (appearing seen t) seen)) (sym few) R.came.1;
+        wrote = λ all X. then_text T₃ d.place.end (pick (leb (occurrences t) 64) (term_text (name_of naming row all) t) (126 ∷ []))
+            (subst (λ (b : Bool). Wrote T₂ T₃ atom d.place.end (pick b (term_text (name_of naming row all) t) (126 ∷ []))) (sym few) (R.came.2 all (subst (λ (b : Bool). Longer (pick b (appearing seen t) seen) all) few X)));
       }
 
-  pub literal_over : w ≡ TooMany → (T₄ : List ℕ) (p : Place) → Wrote T₃ T₄ atom p.end (126 ∷ []) → p.count ≡ count → WritesLiteral naming N A A' T T₄ K K' L L' count at positive e p
+  pub literal_over : w ≡ None → (T₄ : List ℕ) (p : Place) → Wrote T₃ T₄ atom p.end (126 ∷ []) → p.count ≡ count → WritesLiteral naming N A A' T T₄ K K' L L' count at positive e p
   literal_over z T₄ p v pc top ρ row term σ W seen H =
       let t = written_out term σ e in
-      let R : Writing naming N top A' ρ row T₂ T₃ K' L' count atom 64 (λ name. term_text name t) (occurrences t) seen (appearing seen t) TooMany =
+      let R : Writing naming N top A' ρ row T₂ T₃ K' L' count atom 64 (λ name. term_text name t) (occurrences t) seen (appearing seen t) None =
       subst (Writing naming N top A' ρ row T₂ T₃ K' L' count atom 64 (λ name. term_text name t) (occurrences t) seen (appearing seen t)) z (G top ρ row term σ W seen H) in
       let many : leb (occurrences t) 64 ≡ false = lt-leb (occurrences t) 64 R.came.0 in
       let numbered : Numbered naming N K' L' p.count seen = subst (λ (k : ℕ). Numbered naming N K' L' k seen) (sym pc) R.came.1 in
@@ -62,7 +60,7 @@ module _ (naming : Naming) (N A A' T T₁ T₂ T₃ K K' L L' : List ℕ) (count
       }
 
 -- No more variables are numbered than a literal may have occurrences.
-pub numbered_few : (count : ℕ) {end l c : ℕ} {w : Written} → w ≡ Done end l c → FewerOccurrencesLeft 64 count w → c ≤ count + 64
+pub numbered_few : (count : ℕ) {d : Written} {w : Option Written} → w ≡ Some d → FewerOccurrencesLeft 64 count w → d.place.count ≤ count + 64
 numbered_few count z h = let k = subst (FewerOccurrencesLeft 64 count) z h in omega (arith, k.1)
 
 -- Names are short, in either readout.

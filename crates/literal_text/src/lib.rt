@@ -39,15 +39,14 @@ pub fn write_literal(
 {
     let after = put_byte(text, at, b' ');
     let atom = put_byte(text, after, sign(positive));
-    let w = write_term(
-        nodes, values, text, atom, naming, cells, order, count, row, index, 64,
-    );
-    match w {
-        Written::Done(end, _, numbered) => Place {
-            end,
-            count: numbered,
-        },
-        Written::TooMany => Place {
+    let begun = Written {
+        place: Place { end: atom, count },
+        left: 64,
+    };
+    let written = write_term(nodes, values, text, naming, cells, order, begun, row, index);
+    match written {
+        Some(w) => w.place,
+        None => Place {
             end: put_byte(text, atom, b'~'),
             count,
         },

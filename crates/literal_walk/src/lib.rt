@@ -56,34 +56,38 @@ fn input_place(origins: &Origins, clauses: &[u16], c: u16, n: u16) -> Place
     requires { StoredLiteral origins.now clauses.now c n }
     ensures { ComesFromInput origins.now clauses.now c n result.clause result.number result.added }
 {
-    let mut clause = c;
-    let mut number = n;
-    let mut added: u16 = 0;
-    while origin_code(origins, clause) != 1 {
-        let up = parent_place(origins, clauses, clause, number);
-        clause = up.clause;
-        number = up.number;
-        added = added + up.added;
+    let mut place = Place {
+        clause: c,
+        number: n,
+        added: 0,
+    };
+    // A `while`, since no index is counted: each turn goes up from a clause to one of its parents.
+    while origin_code(origins, place.clause) != 1 {
+        let up = parent_place(origins, clauses, place.clause, place.number);
+        place = Place {
+            added: place.added + up.added,
+            ..up
+        };
     }
-    Place {
-        clause: clause,
-        number: number,
-        added: added,
-    }
+    place
 }
 
 // Literal n of clause c, from 1.
-pub fn literal(origins: &Origins, clauses: &[u16], c: u16, n: u16) -> NamedLiteral
+pub fn literal(origins: &Origins, clauses: &[u16], c: u16, n: u16) -> Option<NamedLiteral>
     requires { StoredClause origins.now clauses.now c }
     ensures { (B : List ℕ) (d : Derivation) → Stored origins.now clauses.now B c d → result ≡ named_literal (numbered (literals d) n) }
 {
     if n == 0 {
-        return NamedLiteral::Absent;
+        return None;
     }
     if literals_cell(clauses, c) < n {
-        return NamedLiteral::Absent;
+        return None;
     }
     let place = input_place(origins, clauses, c, n);
     let x = part_of(origins, place.clause, place.number - 1);
-    NamedLiteral::Found(x % 2 == 1, x / 2, place.added + 1)
+    Some(NamedLiteral {
+        positive: x % 2 == 1,
+        row: x / 2,
+        index: place.added + 1,
+    })
 }

@@ -5,18 +5,18 @@ use mathlib.Core.List.{List, [], ◌∷◌, map}
 use Prim.Native.Nat.{ℕ, zero, suc, ◌+◌, ◌-◌, ◌/◌, ◌≤◌, ◌<◌}
 use native.Mathlib.Numerals.{add-one}
 use native.Mathlib.Omega.{arith}
-use lib.Dec.{eqb, ltb}
-use lib.ListN.{length, get_or, set, take, drop, length-set}
+use lib.Dec.{ltb}
+use lib.ListN.{get_or, set, take, drop}
 use lib.Seq.{drop-cons}
-use borrow.Author.Tests.{eq-eqb, ne_eqb, ltb-true, ltb-false}
-use Rattle.record.specs.Record.{pick, Record, decoded, kind_of, count_of, field_of, fields_of, otherKind, Kind, symbolKind, variableKind, applicationKind, inputKind, resolveKind, factorKind, severalKind, windowKind, kind_numbered}
+use borrow.Author.Tests.{ltb-true, ltb-false}
+use Rattle.record.specs.Record.{pick, decoded, kind_of, count_of, field_of, fields_of, otherKind, Kind, symbolKind, variableKind, applicationKind, inputKind, resolveKind, factorKind, severalKind, windowKind}
 use Rattle.derivation.specs.Derivation.{RowLiteral, literal_of}
 use Rattle.verdict.specs.Refusal.{kind_of_record}
 use Rattle.naming.specs.Naming.{named_in, is_nothing, record_named}
 use Rattle.naming.specs.declared.Named.{Named}
 use Rattle.naming.specs.declared.Named.TheVariants.{Nothing, Row, Literal}
 use Rattle.naming.proofs.NamedRecords.{NamedBelow, literals_named, arguments_named}
-use Rattle.marking.specs.Marking.{named, marked, marked_by, is_window}
+use Rattle.marking.specs.Marking.{named, marked, is_window}
 use Rattle.mark_records.specs.FieldsMarked.{field_marked, fields_marked}
 use Rattle.mark_records.proofs.Windows.{no_window_lem}
 
@@ -29,25 +29,6 @@ rows_of_literals rows [] = refl
 rows_of_literals rows (f ∷ fs) = ap (λ (l : List ℕ). get_or rows (f / 2) 0 ∷ l) (rows_of_literals rows fs)
 
 module _ (symbols rows clauses : List ℕ) where
-  -- ── Lengths ──
-  pub field_length : (what : Named) (n : ℕ) (marks : List ℕ) → length (field_marked symbols rows clauses what n marks) ≡ length marks
-  field_length what n marks = try (is_nothing what)
-    where
-      try : (b : Bool) → length (pick b marks (set marks (record_named symbols rows clauses what n) 1)) ≡ length marks
-      try true = refl
-      try false = length-set marks (record_named symbols rows clauses what n) 1
-
-  pub marked_length : (ks marks : List ℕ) → length (marked symbols rows clauses marks ks) ≡ length marks
-  marked_length [] marks = refl
-  marked_length (k ∷ ks) marks = marked_length ks (set marks k 1) ∙ length-set marks k 1
-
-  pub by_length : (r : Record) (k : ℕ) (marks : List ℕ) → length (marked_by symbols rows clauses r k marks) ≡ length marks
-  by_length r k marks = try (eqb (get_or marks k 0) 0)
-    where
-      try : (b : Bool) → length (pick b marks (marked symbols rows clauses marks (named symbols rows clauses (kind_of_record r) r))) ≡ length marks
-      try true = refl
-      try false = marked_length (named symbols rows clauses (kind_of_record r) r) marks
-
   -- ── The first fields below a bound ──
   module _ (at : ℕ → Named) (what : Named) (bound from : ℕ) (some : is_nothing what ≡ false) (below : NamedBelow at what bound from) where
     first_marked : (fs : List ℕ) (i : ℕ) (marks : List ℕ) → from ≤ i
@@ -104,20 +85,6 @@ module _ (symbols rows clauses : List ℕ) where
 
   -- ── As the program goes ──
   module _ (part marks : List ℕ) where
-    pub nothing_marked : (i : ℕ) {what : Named} {b : Bool} → what ≡ named_in (kind_of_record (decoded part)) (count_of part) i → b ≡ is_nothing what → b ≡ true
-        → marks ≡ field_marked symbols rows clauses (named_in (kind_of_record (decoded part)) (count_of part) i) (field_of part i) marks
-    nothing_marked i {what} {b} w p e =
-        sym (ap (λ (x : Bool). pick x marks (set marks (record_named symbols rows clauses what (field_of part i)) 1)) (sym p ∙ e))
-        ∙ ap (λ (x : Named). field_marked symbols rows clauses x (field_of part i) marks) w
-
-    pub something_marked : (i : ℕ) {what : Named} {b : Bool} {n k : ℕ} {after : List ℕ} → what ≡ named_in (kind_of_record (decoded part)) (count_of part) i → b ≡ is_nothing what → b ≡ false
-        → n ≡ field_of part i → k ≡ record_named symbols rows clauses what n → after ≡ set marks k 1
-        → after ≡ field_marked symbols rows clauses (named_in (kind_of_record (decoded part)) (count_of part) i) (field_of part i) marks
-    something_marked i {what} {b} {n} {k} {after} w p e isN isK q =
-        q ∙ ap (λ (x : ℕ). set marks x 1) (isK ∙ ap (record_named symbols rows clauses what) isN)
-        ∙ sym (ap (λ (x : Bool). pick x marks (set marks (record_named symbols rows clauses what (field_of part i)) 1)) (sym p ∙ e))
-        ∙ ap (λ (x : Named). field_marked symbols rows clauses x (field_of part i) marks) w
-
     -- Seven fields.
     abbrev pub left_to_mark : ℕ → List ℕ → List ℕ
     left_to_mark i m = fields_marked symbols rows clauses (named_in (kind_of_record (decoded part)) (count_of part)) i (drop i (fields_of part)) m
@@ -139,21 +106,7 @@ module _ (symbols rows clauses : List ℕ) where
         ap₂ (λ (j : ℕ) (m : List ℕ). left_to_mark j m) (add-one i) q
         ∙ sym (ap (λ (fs : List ℕ). fields_marked symbols rows clauses (named_in (kind_of_record (decoded part)) (count_of part)) i fs now) one) ∙ same
 
-    pub fields_done : (i : ℕ) (now whole : List ℕ) → i ≤ 7 → 7 ≤ i → left_to_mark i now ≡ whole → now ≡ whole
-    fields_done i now whole a b same = let z : i ≡ 7 = omega arith in sym (ap (λ (j : ℕ). left_to_mark j now) z) ∙ same
-
     -- A record's own names.
     module _ {k : ℕ} (is_kind : k ≡ kind_of part) where
-      pub window_names_none : k ≡ 8 → marks ≡ marked symbols rows clauses marks (named symbols rows clauses (kind_of_record (decoded part)) (decoded part))
-      window_names_none e = sym (ap (λ (n : ℕ). marked symbols rows clauses marks (named symbols rows clauses (kind_numbered n) (decoded part))) (sym is_kind ∙ e))
-
       pub names_marked : {after : List ℕ} → ¬ (k ≡ 8) → after ≡ left_to_mark 0 marks → after ≡ marked symbols rows clauses marks (named symbols rows clauses (kind_of_record (decoded part)) (decoded part))
       names_marked h q = q ∙ fields_same part marks (kind_of_record (decoded part)) (no_window_lem symbols rows clauses part is_kind h)
-
-    -- A record, if it is marked.
-    module _ (k : ℕ) {m : ℕ} (isMark : m ≡ get_or marks k 0) where
-      pub unmarked_names : m ≡ 0 → marks ≡ marked_by symbols rows clauses (decoded part) k marks
-      unmarked_names e = sym (ap (λ (b : Bool). pick b marks (marked symbols rows clauses marks (named symbols rows clauses (kind_of_record (decoded part)) (decoded part)))) (eq-eqb (get_or marks k 0) 0 (sym isMark ∙ e)))
-
-      pub marked_names : {after : List ℕ} → ¬ (m ≡ 0) → after ≡ marked symbols rows clauses marks (named symbols rows clauses (kind_of_record (decoded part)) (decoded part)) → after ≡ marked_by symbols rows clauses (decoded part) k marks
-      marked_names h q = q ∙ sym (ap (λ (b : Bool). pick b marks (marked symbols rows clauses marks (named symbols rows clauses (kind_of_record (decoded part)) (decoded part)))) (ne_eqb (get_or marks k 0) 0 (λ e. h (isMark ∙ e))))

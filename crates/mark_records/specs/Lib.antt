@@ -1,1 +1,2 @@
 pub mod FieldsMarked
+pub mod Down

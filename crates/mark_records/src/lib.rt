@@ -11,8 +11,8 @@ ghost use Rattle.naming.specs.Naming.{named_in};
 ghost use Rattle.marking.specs.Marking.{named, marked, marked_by};
 ghost use Rattle.mark_records.specs.FieldsMarked.{field_marked, fields_marked};
 
-use naming::named_in;
-use naming::recorded::{is_nothing, record_named};
+use naming::recorded::record_named;
+use naming::{Named, named_in};
 use record::{field, kind};
 use tables::{cell, set_cell};
 
@@ -21,7 +21,7 @@ fn mark_field(part: &[u8], i: u8, symbols: &[u16], rows: &[u16], clauses: &[u16]
     ensures { marks.new ≡ field_marked symbols.now rows.now clauses.now (named_in (kind_of_record (decoded part.now)) (count_of part.now) i) (field_of part.now i) marks.old }
 {
     let what = named_in(part, i);
-    if is_nothing(what) {
+    if what == Named::Nothing {
         return;
     }
     let k = record_named(what, field(part, i), symbols, rows, clauses);
@@ -32,10 +32,8 @@ fn mark_field(part: &[u8], i: u8, symbols: &[u16], rows: &[u16], clauses: &[u16]
 fn mark_fields(part: &[u8], symbols: &[u16], rows: &[u16], clauses: &[u16], marks: &mut [u16])
     ensures { marks.new ≡ fields_marked symbols.now rows.now clauses.now (named_in (kind_of_record (decoded part.now)) (count_of part.now)) 0 (fields_of part.now) marks.old }
 {
-    let mut i: u8 = 0;
-    while i < 7 {
+    for i in 0..7u8 {
         mark_field(part, i, symbols, rows, clauses, marks);
-        i += 1;
     }
 }
 

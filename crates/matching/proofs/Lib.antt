@@ -1,2 +1,1 @@
 pub mod PairSteps
-pub mod SearchSteps

@@ -1,13 +1,8 @@
 -- The pairs of a literal of C and one of D, as the program numbers and compares them. No promise of the crate cover needs this file.
-use Rattle.std.specs.Prelude.{◌≡◌, Bool, true, false, ◌&&◌, List, ℕ, zero, suc, ◌+◌, ◌-◌, ◌*◌, ◌/◌, ◌%◌, eqb, leb, ltb, length, get_or, set}
+use Rattle.std.specs.Prelude.{Bool, true, false, ◌&&◌, List, ℕ, zero, suc, ◌+◌, ◌-◌, ◌*◌, ◌/◌, ◌%◌, eqb, leb, ltb, get_or, set}
 use Rattle.record.specs.Record.{pick}
 use Rattle.unification.specs.Nodes.{part}
 use Rattle.images.specs.Matching.{atoms_matched}
-
--- 1 for true.
-abbrev pub bit : Bool → ℕ
-bit true = 1
-bit false = 0
 
 -- Pair 8 × i + n has literal i of C, from 0, and literal n of D, from 1. Whether it is one, where C has `lefts` literals and D has `rights`.
 abbrev pub is_pair : ℕ → ℕ → ℕ → Bool
@@ -30,12 +25,12 @@ pair_matched N O c d lefts rights p W = pick (is_pair lefts rights p) (numbers_m
 
 -- The first k pairs: for each whether it is matched, and the notes.
 pub record Pairs : Type 0 where
-  pub found : List ℕ
+  pub found : List Bool
   pub notes : List ℕ
 
 -- What came of pair p, noted.
-abbrev pub found_pair : ℕ → List ℕ → Bool × List ℕ → Pairs
-found_pair p F X = record { found = set F p (bit X.0); notes = X.1 }
+abbrev pub found_pair : ℕ → List Bool → Bool × List ℕ → Pairs
+found_pair p F X = record { found = set F p X.0; notes = X.1 }
 
 unfoldable pub pairs_matched : List ℕ → List ℕ → ℕ → ℕ → ℕ → ℕ → ℕ → Pairs → Pairs
 pairs_matched N O c d lefts rights zero P = P
@@ -51,22 +46,10 @@ agree_from W p q zero v = true
 agree_from W p q (suc m) v = agree_at (get_or W (64 * p + v) 0) (get_or W (64 * q + v) 0) && agree_from W p q m (suc v)
 
 -- Pairs p and q go together: both are matched, and their notes agree.
-abbrev pub go_together : List ℕ → List ℕ → ℕ → ℕ → Bool
-go_together F W p q = eqb (get_or F p 0) 1 && (eqb (get_or F q 0) 1 && agree_from W p q 64 0)
+abbrev pub go_together : List Bool → List ℕ → ℕ → ℕ → Bool
+go_together F W p q = get_or F p false && (get_or F q false && agree_from W p q 64 0)
 
 -- The table of that: cell 64 × p + q; the first k cells of it are filled.
-unfoldable pub table_filled : List ℕ → List ℕ → ℕ → List ℕ → List ℕ
+unfoldable pub table_filled : List Bool → List ℕ → ℕ → List Bool → List Bool
 table_filled F W zero T = T
-table_filled F W (suc x) T = set (table_filled F W x T) x (bit (go_together F W (x / 64) (x % 64)))
-
--- What matching all pairs and filling the table ask: the lengths of what they are lent.
-pub record PairTables (N O F W : List ℕ) : Type 0 where
-  pub nodes : length N ≡ 32768
-  pub origins : length O ≡ 32768
-  pub found : length F ≡ 64
-  pub notes : length W ≡ 4096
-
-pub record TogetherTables (F W T : List ℕ) : Type 0 where
-  pub found : length F ≡ 64
-  pub notes : length W ≡ 4096
-  pub table : length T ≡ 4096
+table_filled F W (suc x) T = set (table_filled F W x T) x (go_together F W (x / 64) (x % 64))

@@ -1,38 +1,29 @@
 // All pairs of a literal of C and one of D: which match, and what is noted of their variables.
-ghost use Rattle.std.specs.Prelude.{◌≡◌, ◌<◌, length, get_or};
-ghost use Rattle.matching.specs.Pairs.{bit, numbers_matched, pair_matched, pairs_matched, PairTables};
+ghost use Rattle.std.specs.Prelude.{◌≡◌, ◌<◌};
+ghost use Rattle.matching.specs.Pairs.{numbers_matched, pair_matched, pairs_matched};
 
 use following::nodes::{Nodes, Origins, part_of};
 use images::images::{Notes, match_atoms};
 
-// For each pair 1 if its literals match, else 0.
-pub type Found = [u16; 64];
+// For each pair whether its literals match.
+pub type Found = [bool; 64];
 
-// For every two pairs 1 if they go together, else 0: cell 64 × p + q.
-pub type Together = [u16; 4096];
-
-// 1 for true.
-pub fn bit_of(b: bool) -> u16
-    ensures { result ≡ bit b }
-{
-    if b { 1 } else { 0 }
-}
+// For every two pairs whether they go together: cell 64 × p + q.
+pub type Together = [bool; 4096];
 
 // Whether two literals match, by their numbers: 2 × row, plus 1 if positive. Signs come first.
 fn match_numbers(nodes: &Nodes, notes: &mut Notes, p: u16, x: u16, z: u16) -> bool
-    requires { (length nodes.now ≡ 32768) × (length notes.old ≡ 4096) × (p < 64) }
-    ensures { ((result, notes.new) ≡ numbers_matched nodes.now p x z notes.old) × (length notes.new ≡ 4096) }
+    requires { p < 64 }
+    ensures { (result, notes.new) ≡ numbers_matched nodes.now p x z notes.old }
 {
-    if x % 2 != z % 2 {
-        return false;
-    }
-    match_atoms(
-        nodes,
-        notes,
-        64 * (p as usize),
-        (x / 2) as u32,
-        (z / 2) as u32,
-    )
+    x % 2 == z % 2
+        && match_atoms(
+            nodes,
+            notes,
+            64 * (p as usize),
+            (x / 2) as u32,
+            (z / 2) as u32,
+        )
 }
 
 // Whether pair 8 × i + n is one, with literal i of C, from 0, and literal n of D, from 1, and whether these match.
@@ -46,18 +37,12 @@ fn match_pair(
     rights: u16,
     p: u16,
 ) -> bool
-    requires { (length nodes.now ≡ 32768) × (length origins.now ≡ 32768) × (length notes.old ≡ 4096) × (p < 64) }
-    ensures { ((result, notes.new) ≡ pair_matched nodes.now origins.now c d lefts rights p notes.old) × (length notes.new ≡ 4096) }
+    requires { p < 64 }
+    ensures { (result, notes.new) ≡ pair_matched nodes.now origins.now c d lefts rights p notes.old }
 {
     let i = p / 8;
     let n = p % 8;
-    if i >= lefts {
-        return false;
-    }
-    if n == 0 {
-        return false;
-    }
-    if n > rights {
+    if i >= lefts || n == 0 || n > rights {
         return false;
     }
     match_numbers(
@@ -80,13 +65,9 @@ pub fn match_pairs(
     lefts: u16,
     rights: u16,
 )
-    requires { PairTables nodes.now origins.now found.old notes.old }
-    ensures { (record { found = found.exit.now; notes = notes.new } ≡ pairs_matched nodes.now origins.now c d lefts rights 64 (record { found = found.entry.now; notes = notes.old })) × (length found.exit.now ≡ 64) × (length notes.new ≡ 4096) }
+    ensures { record { found = found.new; notes = notes.new } ≡ pairs_matched nodes.now origins.now c d lefts rights 64 (record { found = found.old; notes = notes.old }) }
 {
-    let mut p: u16 = 0;
-    while p < 64 {
-        let b = match_pair(nodes, origins, notes, c, d, lefts, rights, p);
-        found[p as usize] = bit_of(b);
-        p += 1;
+    for p in 0..64 {
+        found[p as usize] = match_pair(nodes, origins, notes, c, d, lefts, rights, p);
     }
 }

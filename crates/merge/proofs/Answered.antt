@@ -22,18 +22,19 @@ use Rattle.merging.specs.Answer.{merge_answer, tables_unless_refused, tables_lef
 use Rattle.merging.specs.Merging.{merged_file}
 use Rattle.merging.proofs.AnswerShown.{merge_promised}
 use Rattle.merge.specs.Contract.{MergeAnswered}
-use Rattle.writing_answer.specs.Given.{writing_given, refusal_given}
-use Rattle.writing_answer.proofs.Refusals.{refused_ends, refused_is}
+use Rattle.writing_answer.specs.Given.{writing_given, own_refusal}
+use Rattle.writing_answer.proofs.Refusals.{handed_on, stands_here, refused_here, refused_ends, refused_is}
 use Rattle.merge_second.specs.Going.{FirstStands, second_answer, SecondAnswered}
 use Rattle.merge_second.proofs.SecondAnswered.{refused_tables, tables_on, left_state}
-use Rattle.writing_answer.specs.declared.WritingOutcome as goal
+use Rattle.writing_answer.specs.declared.NotWritten.{NotWritten}
+use Rattle.std.specs.Prelude.{Result, Ok, Err, IsErrAnd, ⊤}
 
 module _ (first second : List ℕ) (before : Tables) (output : List ℕ) where
   abbrev verdict₁ : Verdict
   verdict₁ = (check 0 (old_file first) (lengths_of before)).verdict
 
   -- A short output.
-  pub short_answered : (m : goal.WritingOutcome) → length output < 65536 → writing_given m ≡ 2 ∷ 2 ∷ 0 ∷ 0 ∷ [] → MergeAnswered first second before output m before output
+  pub short_answered : (m : Result ℕ NotWritten) → length output < 65536 → writing_given m ≡ 2 ∷ 2 ∷ 0 ∷ 0 ∷ [] → MergeAnswered first second before output m before output
   unfolding merge_answer tables_left
   short_answered m l g =
       let z = lt-ltb (length output) 65536 l in
@@ -59,7 +60,7 @@ module _ (first second : List ℕ) (before : Tables) (output : List ℕ) where
     tables_left_lem = ap (λ (b : Bool). elim b [ true ↦ before | false ↦ tables_unless_refused verdict₁ (tables_after (old_file first) before) (tables_after (old_file second) (tables_after (old_file first) before)) ]) (le-ltb (length output) 65536 room)
 
     -- All of it, from the answer, the tables and the output.
-    answered : (m : goal.WritingOutcome) (after : Tables) (left : List ℕ) → writing_given m ≡ writing_numbers (merge_answer first second before (length output)) → after ≡ tables_left first second before (length output) → left ≡ output_left (merge_answer first second before (length output)) (merged_file first second) output
+    answered : (m : Result ℕ NotWritten) (after : Tables) (left : List ℕ) → writing_given m ≡ writing_numbers (merge_answer first second before (length output)) → after ≡ tables_left first second before (length output) → left ≡ output_left (merge_answer first second before (length output)) (merged_file first second) output
         → MergeAnswered first second before output m after left
     answered m after left g t o = record {
       answer = g;
@@ -75,16 +76,16 @@ module _ (first second : List ℕ) (before : Tables) (output : List ℕ) where
       given₁ : verdict_coded mine.verdict ≡ verdict_numbers (check 0 (old_file first) (lengths_of before)).verdict
       given₁ = verdict_given_lem 0 (old_file first) (lengths_of before) mine K.answer
 
-      pub first_refused_lem : (m : goal.WritingOutcome) (b : Bool) → b ≡ verdict_stands mine.verdict → b ≡ false → writing_given m ≡ refusal_given 1 mine.verdict → MergeAnswered first second before output m between output
-      first_refused_lem m b t f g =
+      pub first_refused_lem : (m : Result ℕ NotWritten) {e : NotWritten} → IsErrAnd m (λ y. y ≡ e) → own_refusal 1 mine.verdict ≡ Err e → MergeAnswered first second before output m between output
+      first_refused_lem m p q =
           answered m between output
-          (g ∙ sym (refused_ends 1 mine.verdict verdict₁ (second_answer first second (tables_after (old_file first) before)) given₁ (sym t ∙ f)) ∙ ap writing_numbers (sym answer_checked))
-          (tables_checked_lem 0 (old_file first) before mine between K ∙ sym (refused_tables mine.verdict verdict₁ (tables_after (old_file first) before) (tables_after (old_file second) (tables_after (old_file first) before)) given₁ (sym t ∙ f)) ∙ sym tables_left_lem)
-          (sym (refused_is 1 mine.verdict verdict₁ (second_answer first second (tables_after (old_file first) before)) given₁ (sym t ∙ f) (merged_file first second) output) ∙ ap (λ (x : Writing). output_left x (merged_file first second) output) (sym answer_checked))
+          (ap writing_given (handed_on m p) ∙ sym (refused_ends 1 mine.verdict verdict₁ (second_answer first second (tables_after (old_file first) before)) given₁ q) ∙ ap writing_numbers (sym answer_checked))
+          (tables_checked_lem 0 (old_file first) before mine between K ∙ sym (refused_tables mine.verdict verdict₁ (tables_after (old_file first) before) (tables_after (old_file second) (tables_after (old_file first) before)) given₁ (refused_here 1 mine.verdict q)) ∙ sym tables_left_lem)
+          (sym (refused_is 1 mine.verdict verdict₁ (second_answer first second (tables_after (old_file first) before)) given₁ q (merged_file first second) output) ∙ ap (λ (x : Writing). output_left x (merged_file first second) output) (sym answer_checked))
 
-      module _ (b : Bool) (t : b ≡ verdict_stands mine.verdict) (s : b ≡ true) where
+      module _ {u : ⊤} (s : own_refusal 1 mine.verdict ≡ Ok u) where
         not_first : (q : Reason) (k : ℕ) → ¬ ((check 0 (old_file first) (lengths_of before)).verdict ≡ refusal q k)
-        not_first = stands_not_refused mine.verdict verdict₁ given₁ (sym t ∙ s)
+        not_first = stands_not_refused mine.verdict verdict₁ given₁ (stands_here 1 mine.verdict s)
 
         pub first_stands_lem : FirstStands first mine output
         first_stands_lem =
@@ -99,7 +100,7 @@ module _ (first second : List ℕ) (before : Tables) (output : List ℕ) where
               room = room;
             }
 
-        pub second_answered : (m : goal.WritingOutcome) (after : Tables) (left : List ℕ) → SecondAnswered first second between output m after left → MergeAnswered first second before output m after left
+        pub second_answered : (m : Result ℕ NotWritten) (after : Tables) (left : List ℕ) → SecondAnswered first second between output m after left → MergeAnswered first second before output m after left
         second_answered m after left A =
             let w = tables_checked_lem 0 (old_file first) before mine between K in
             let e : second_answer first second between ≡ merge_answer first second before (length output) =

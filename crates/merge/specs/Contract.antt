@@ -1,14 +1,14 @@
 -- The contract of `merge`: what it promises of every two files, every four tables and every output, with no condition on the call.
-use Rattle.std.specs.Prelude.{◌≡◌, List, length, ℕ}
+use Rattle.std.specs.Prelude.{◌≡◌, List, length, ℕ, Result}
 use Rattle.verdict.specs.Tables.{Tables}
 use Rattle.writing.specs.Writing.{writing_numbers, output_left}
 use Rattle.merging.specs.Answer.{merge_answer, tables_left}
 use Rattle.merging.specs.Merging.{merged_file}
 use Rattle.merging.specs.Promised.{MergePromised}
 use Rattle.writing_answer.specs.Given.{writing_given}
-use Rattle.writing_answer.specs.declared.WritingOutcome.{WritingOutcome}
+use Rattle.writing_answer.specs.declared.NotWritten.{NotWritten}
 
-pub record MergeAnswered (first second : List ℕ) (before : Tables) (outputBefore : List ℕ) (m : WritingOutcome) (after : Tables) (outputAfter : List ℕ) : Type 0 where
+pub record MergeAnswered (first second : List ℕ) (before : Tables) (outputBefore : List ℕ) (m : Result ℕ NotWritten) (after : Tables) (outputAfter : List ℕ) : Type 0 where
   -- The four numbers of the answer, each table, cell by cell, and every byte of the output.
   pub answer : writing_given m ≡ writing_numbers (merge_answer first second before (length outputBefore))
   pub symbols : after.symbols ≡ (tables_left first second before (length outputBefore)).symbols

@@ -2,53 +2,33 @@
 // `Contract` has what this crate promises. What comes after the first file's check is in the crate merge_second.
 #![tactic(auto)]
 
+ghost use Rattle.tables.specs.Lent.{SameTables};
 ghost use Rattle.std.specs.Prelude.{◌≤◌, length};
-ghost use Rattle.entry.specs.Progress.{tables_with};
+ghost use Rattle.entry.specs.Progress.{tables_of};
 ghost use Rattle.merge.specs.Contract.{MergeAnswered};
 
-use answer::stands;
 use checker::check_with;
-use following::nodes::{Nodes, Origins};
-use following::values::ValueCells;
+use following::lent::LentWorkspace;
 use merge_second::merge_second;
 use record::Form;
-use writing_answer::{WritingOutcome, refusal};
+use tables::lent::LentTables;
+use writing_answer::{NotWritten, WritingReason, standing};
 
 // The merge with a workspace for both checks.
 fn merge_with(
     first: &[u8],
     second: &[u8],
-    symbols: &mut [u16],
-    rows: &mut [u16],
-    clauses: &mut [u16],
-    bindings: &mut [u16],
-    nodes: &mut Nodes,
-    origins: &mut Origins,
-    values: &mut ValueCells,
+    tables: &mut LentTables,
+    workspace: &mut LentWorkspace,
     output: &mut [u8],
-) -> WritingOutcome
+) -> Result<u32, NotWritten>
     requires { 65536 ≤ length output.old }
-    ensures { MergeAnswered first.now second.now (tables_with symbols.old rows.old clauses.old bindings.old) output.old result (tables_with symbols.new rows.new clauses.new bindings.new) output.new }
+    ensures answered { MergeAnswered first.now second.now (tables_of tables.old) output.old result (tables_of tables.new) output.new }
+    ensures same_tables { SameTables tables.old tables.new }
 {
-    let mine = check_with(
-        Form::Old,
-        0,
-        first,
-        symbols,
-        rows,
-        clauses,
-        bindings,
-        nodes,
-        origins,
-        values,
-    );
-    let v = mine.verdict;
-    if !stands(v) {
-        return refusal(v, 1);
-    }
-    merge_second(
-        first, second, mine, symbols, rows, clauses, bindings, nodes, origins, values, output,
-    )
+    let mine = check_with(Form::Old, 0, first, tables, workspace);
+    standing(mine.verdict, 1)?;
+    merge_second(first, second, mine, tables, workspace, output)
 }
 
 // Merges two files: all records of the first, then those of the second with numbers shifted. The output is written only if the merge goes through, and not
@@ -57,30 +37,26 @@ fn merge_with(
 pub fn merge(
     first: &[u8],
     second: &[u8],
-    symbols: &mut [u16],
-    rows: &mut [u16],
-    clauses: &mut [u16],
-    bindings: &mut [u16],
+    tables: &mut LentTables,
     output: &mut [u8],
-) -> WritingOutcome
-    ensures { MergeAnswered first.now second.now (tables_with symbols.old rows.old clauses.old bindings.old) output.old result (tables_with symbols.new rows.new clauses.new bindings.new) output.new }
+) -> Result<u32, NotWritten>
+    ensures answered { MergeAnswered first.now second.now (tables_of tables.old) output.old result (tables_of tables.new) output.new }
+    ensures same_tables { SameTables tables.old tables.new }
 {
     if output.len() < 65536 {
-        return WritingOutcome::Refused(2, 0, 0);
+        return Err(NotWritten {
+            reason: WritingReason::ShortOutput,
+            file: 0,
+            at: 0,
+        });
     }
     let mut nodes = [0u16; 32768];
     let mut origins = [0u16; 32768];
     let mut values = [0u16; 524416];
-    merge_with(
-        first,
-        second,
-        symbols,
-        rows,
-        clauses,
-        bindings,
-        &mut nodes,
-        &mut origins,
-        &mut values,
-        output,
-    )
+    let mut workspace = LentWorkspace {
+        nodes: &mut nodes,
+        origins: &mut origins,
+        values: &mut values,
+    };
+    merge_with(first, second, tables, &mut workspace, output)
 }

@@ -1,6 +1,6 @@
 -- The tables after a refusal of either file, and the answer to a merge, the tables and the output after the second file's check.
 use mathlib.Core.Path.{◌≡◌, refl, sym, ap, ◌∙◌}
-use mathlib.Core.Bool.{Bool, true, false}
+use mathlib.Core.Bool.{true, false}
 use mathlib.Core.List.{List}
 use Prim.Native.Nat.{ℕ}
 use lib.ListN.{length}
@@ -21,14 +21,15 @@ use Rattle.answer.proofs.GivenNumbers.{state_left, verdict_given_lem, symbols_gi
 use Rattle.checker.specs.Contract.{Checked}
 use Rattle.checker.proofs.CheckedLaws.{tables_checked_lem}
 use Rattle.writing.proofs.Written.{stands_on}
-use Rattle.writing_answer.proofs.Refusals.{refused_ends, refused_is}
+use Rattle.writing_answer.proofs.Refusals.{handed_on, stands_here, refused_ends, refused_is}
 use Rattle.writing.specs.Writing.{Writing, writing_numbers, output_left}
 use Rattle.merging.specs.Answer.{after_checks, tables_unless_refused}
 use Rattle.merging.specs.Merging.{merged_file}
-use Rattle.writing_answer.specs.Given.{writing_given, refusal_given}
+use Rattle.writing_answer.specs.Given.{writing_given, own_refusal}
 use Rattle.merge_second.specs.Going.{FirstStands, SecondAnswered}
 use Rattle.joining.specs.Joined.{BothStand, Joined}
-use Rattle.writing_answer.specs.declared.WritingOutcome as goal
+use Rattle.writing_answer.specs.declared.NotWritten.{NotWritten}
+use Rattle.std.specs.Prelude.{Result, Ok, Err, IsErrAnd, ⊤}
 
 -- ── A verdict, and what becomes of the tables ──
 pub refused_tables : (v : verdict.Verdict) (w : Verdict) (here next : Tables) → verdict_coded v ≡ verdict_numbers w → verdict_stands v ≡ false → tables_unless_refused w here next ≡ here
@@ -53,16 +54,16 @@ module _ (first second : List ℕ) (between : Tables) (output : List ℕ) (mine 
   given₂ : verdict_coded theirs.verdict ≡ verdict_numbers (check 0 (old_file second) (lengths_of between)).verdict
   given₂ = verdict_given_lem 0 (old_file second) (lengths_of between) theirs L.answer
 
-  pub second_refused_lem : (m : goal.WritingOutcome) (b : Bool) → b ≡ verdict_stands theirs.verdict → b ≡ false → writing_given m ≡ refusal_given 2 theirs.verdict → SecondAnswered first second between output m after output
-  second_refused_lem m b t f g = record {
-    answer = g ∙ sym (refused_ends 2 theirs.verdict verdict₂ (after_checks (records (old_file first)) (records (old_file second))) given₂ (sym t ∙ f));
+  pub second_refused_lem : (m : Result ℕ NotWritten) {e : NotWritten} → IsErrAnd m (λ y. y ≡ e) → own_refusal 2 theirs.verdict ≡ Err e → SecondAnswered first second between output m after output
+  second_refused_lem m p q = record {
+    answer = ap writing_given (handed_on m p) ∙ sym (refused_ends 2 theirs.verdict verdict₂ (after_checks (records (old_file first)) (records (old_file second))) given₂ q);
     tables = tables_checked_lem 0 (old_file second) between theirs after L;
-    bytes = sym (refused_is 2 theirs.verdict verdict₂ (after_checks (records (old_file first)) (records (old_file second))) given₂ (sym t ∙ f) (merged_file first second) output);
+    bytes = sym (refused_is 2 theirs.verdict verdict₂ (after_checks (records (old_file first)) (records (old_file second))) given₂ q (merged_file first second) output);
   }
 
-  module _ (b : Bool) (t : b ≡ verdict_stands theirs.verdict) (s : b ≡ true) where
+  module _ {u : ⊤} (s : own_refusal 2 theirs.verdict ≡ Ok u) where
     not_second : (q : Reason) (k : ℕ) → ¬ ((check 0 (old_file second) (lengths_of between)).verdict ≡ refusal q k)
-    not_second = stands_not_refused theirs.verdict verdict₂ given₂ (sym t ∙ s)
+    not_second = stands_not_refused theirs.verdict verdict₂ given₂ (stands_here 2 theirs.verdict s)
 
     pub both_stand : FirstStands first mine output → BothStand first second mine.symbols mine.rows mine.clauses theirs.symbols output
     both_stand F =
@@ -80,7 +81,7 @@ module _ (first second : List ℕ) (between : Tables) (output : List ℕ) (mine 
           room = F.room;
         }
 
-    pub both_joined : (m : goal.WritingOutcome) (left : List ℕ) → Joined first second output m left → SecondAnswered first second between output m after left
+    pub both_joined : (m : Result ℕ NotWritten) (left : List ℕ) → Joined first second output m left → SecondAnswered first second between output m after left
     both_joined m left J =
         let e = stands_on 2 verdict₂ (after_checks (records (old_file first)) (records (old_file second))) not_second in
         record {

@@ -1,5 +1,5 @@
 -- How the program goes about a merge: the contracts of its inner functions. No promise needs this file.
-use Rattle.std.specs.Prelude.{◌≡◌, List, ℕ, ◌≤◌, length}
+use Rattle.std.specs.Prelude.{◌≡◌, List, ℕ, ◌≤◌, length, Result}
 use Rattle.record.specs.Record.{old_file, records}
 use Rattle.verdict.specs.State.{State}
 use Rattle.verdict.specs.Tables.{Tables, lengths_of, tables_after}
@@ -9,7 +9,7 @@ use Rattle.merging.specs.Answer.{after_checks}
 use Rattle.merging.specs.Merging.{merged_file}
 use Rattle.answer.specs.declared.Answer.{Answer}
 use Rattle.writing_answer.specs.Given.{writing_given}
-use Rattle.writing_answer.specs.declared.WritingOutcome.{WritingOutcome}
+use Rattle.writing_answer.specs.declared.NotWritten.{NotWritten}
 
 -- The first file stands, and this is the answer of its check; the output has room for every file.
 pub record FirstStands (first : List ℕ) (mine : Answer) (output : List ℕ) : Type 0 where
@@ -24,7 +24,7 @@ pub record FirstStands (first : List ℕ) (mine : Answer) (output : List ℕ) : 
 abbrev pub second_answer : List ℕ → List ℕ → Tables → Writing
 second_answer first second between = unless_refused 2 (check 0 (old_file second) (lengths_of between)).verdict (after_checks (records (old_file first)) (records (old_file second)))
 
-pub record SecondAnswered (first second : List ℕ) (between : Tables) (output : List ℕ) (m : WritingOutcome) (after : Tables) (left : List ℕ) : Type 0 where
+pub record SecondAnswered (first second : List ℕ) (between : Tables) (output : List ℕ) (m : Result ℕ NotWritten) (after : Tables) (left : List ℕ) : Type 0 where
   pub answer : writing_given m ≡ writing_numbers (second_answer first second between)
   pub tables : after ≡ tables_after (old_file second) between
   pub bytes : left ≡ output_left (second_answer first second between) (merged_file first second) output

@@ -2,50 +2,33 @@
 // the parts of a merge go about it. What comes after both checks is in the crate joining.
 #![tactic(auto)]
 
-ghost use Rattle.entry.specs.Progress.{tables_with};
+ghost use Rattle.tables.specs.Lent.{SameTables};
+ghost use Rattle.entry.specs.Progress.{tables_of};
 ghost use Rattle.merge_second.specs.Going.{FirstStands, SecondAnswered};
 
-use answer::{Answer, stands};
+use answer::Answer;
 use checker::check_with;
-use following::nodes::{Nodes, Origins};
-use following::values::ValueCells;
+use following::lent::LentWorkspace;
 use joining::join;
 use record::Form;
-use writing_answer::{WritingOutcome, refusal};
+use tables::lent::LentTables;
+use writing_answer::{NotWritten, standing};
 
 // What comes after the first file's check: the second's, and where that stands too, the merged file.
 pub fn merge_second(
     first: &[u8],
     second: &[u8],
     mine: Answer,
-    symbols: &mut [u16],
-    rows: &mut [u16],
-    clauses: &mut [u16],
-    bindings: &mut [u16],
-    nodes: &mut Nodes,
-    origins: &mut Origins,
-    values: &mut ValueCells,
+    tables: &mut LentTables,
+    workspace: &mut LentWorkspace,
     output: &mut [u8],
-) -> WritingOutcome
+) -> Result<u32, NotWritten>
     requires { FirstStands first.now mine output.old }
-    ensures { SecondAnswered first.now second.now (tables_with symbols.old rows.old clauses.old bindings.old) output.old result (tables_with symbols.new rows.new clauses.new bindings.new) output.new }
+    ensures answered { SecondAnswered first.now second.now (tables_of tables.old) output.old result (tables_of tables.new) output.new }
+    ensures same_tables { SameTables tables.old tables.new }
 {
-    let theirs = check_with(
-        Form::Old,
-        0,
-        second,
-        symbols,
-        rows,
-        clauses,
-        bindings,
-        nodes,
-        origins,
-        values,
-    );
-    let v = theirs.verdict;
-    if !stands(v) {
-        return refusal(v, 2);
-    }
+    let theirs = check_with(Form::Old, 0, second, tables, workspace);
+    standing(theirs.verdict, 2)?;
     join(
         first,
         second,

@@ -11,7 +11,7 @@ use Rattle.derivation.specs.Derivation.{literals, input, RowLiteral, literal_of,
 use Rattle.named_literals.specs.Named.{named_literal, StoredClause, StoredLiteral, left_over, passed, passed_all, NamesRights, PassesRights, raise_named, ComesFrom, ComesUp, ComesFromInput}
 use Rattle.derivation.specs.Stored.{literals_cell, index_cell, origin_code, origin_numbers, Cells, Stored, stored_input, stored_resolve, stored_factor}
 use Rattle.named_literals.proofs.Numbers.{length_without, numbered_without, passed_in, left_over_all, length_without_all, numbered_without_all, passed_all_in, numbered_left, numbered_right, numbered_raised, raise_named_zero, raise_named_twice, input_few, input_numbered}
-use Rattle.named_literals.specs.declared.NamedLiteral.TheVariants.{Found}
+use Rattle.std.specs.Prelude.{Some}
 
 pub maximum_low : (d : Derivation) → 1 ≤ maximum_index d
 maximum_low (input number ls) = omega arith
@@ -94,12 +94,12 @@ module _ {O C : List ℕ} {c n : ℕ} (low : 1 ≤ n) (high : n ≤ literals_cel
       )
 
   -- What the code asks where it passes the right literals.
-  pub rights_pass : {p a q kept : ℕ} → length O ≡ 32768 → (origin_code O c ≡ 1 → ⊥) → (origin_code O c ≡ 2 → ⊥) → p ≡ part O c 0 → a ≡ part O c 1
+  pub rights_pass : {p a q kept : ℕ} → (origin_code O c ≡ 1 → ⊥) → (origin_code O c ≡ 2 → ⊥) → p ≡ part O c 0 → a ≡ part O c 1
       → q ≡ part O c 2 → kept ≡ left_over (literals_cell C p) a → kept < n → literals_cell C q < 65536
       → {B : List ℕ} {d : Derivation} → Stored O C B c d → PassesRights O c (n - kept)
-  rights_pass room no₁ no₂ pp pa pq pk more small (stored_input k q s) = absurd (no₁ k)
-  rights_pass room no₁ no₂ pp pa pq pk more small (stored_factor k l s₁ qa qb s) = absurd (no₂ k)
-  rights_pass {p} {a} {q} {kept} room no₁ no₂ pp pa pq pk more small {B} (stored_resolve {a = a₁} {ns = ns} {l = l} {r = r} k o f la sa qa lb sb qb s) =
+  rights_pass no₁ no₂ pp pa pq pk more small (stored_input k q s) = absurd (no₁ k)
+  rights_pass no₁ no₂ pp pa pq pk more small (stored_factor k l s₁ qa qb s) = absurd (no₂ k)
+  rights_pass {p} {a} {q} {kept} no₁ no₂ pp pa pq pk more small {B} (stored_resolve {a = a₁} {ns = ns} {l = l} {r = r} k o f la sa qa lb sb qb s) =
       let t : Stored O C B p l = subst (λ (k : ℕ). Stored O C B k l) (sym pp) sa in
       let t' : Stored O C B q r = subst (λ (k : ℕ). Stored O C B k r) (sym pq) sb in
       let z : length (without (literals l) a₁) ≡ kept = length_without (literals l) a₁ ∙ ap₂ left_over (sym (stored_cells t).literal_count) (sym qa ∙ sym pa) ∙ sym pk in
@@ -108,7 +108,7 @@ module _ {O C : List ℕ} {c n : ℕ} (low : 1 ≤ n) (high : n ≤ literals_cel
       = s.literal_count ∙ length-append (without (literals l) a₁) (map (raise_literal (maximum_index l)) (without_all (literals r) ns))
       ∙ ap (λ (k : ℕ). length (without (literals l) a₁) + k) (length-map (without_all (literals r) ns) (raise_literal (maximum_index l))) in
       let i = (passed_all_in (literals_cell C q) ns (n - kept) (omega arith) (omega arith)).1 in
-      record { room = room; numbers = ns; names = record { code = k; some = o; few = f; cells = qb }; fits = omega arith }
+      record { numbers = ns; names = record { code = k; some = o; few = f; cells = qb }; fits = omega arith }
 
 -- From clause to clause.
 pub from_itself : {O C B : List ℕ} {c n : ℕ} {d : Derivation} → 1 ≤ n → n ≤ literals_cell C c → Stored O C B c d → ComesFrom O C B d n c n 0
@@ -130,7 +130,7 @@ input_at {O} {C} {p = p} {k = k} one low high (stored_input {ls = ls} kk q s) =
     (input_few O p k (literals_cell C p) h, ap (λ (l : List RowLiteral). numbered (placed 1 l) k) (sym q) ∙ input_numbered O p (literals_cell C p) k low h)
 
 pub input_found : {O C : List ℕ} {c n p k m x : ℕ} → ComesFromInput O C c n p k m → x ≡ part O p (k - 1)
-    → (B : List ℕ) (d : Derivation) → Stored O C B c d → Found (eqb (x % 2) 1) (x / 2) (m + 1) ≡ named_literal (numbered (literals d) n)
+    → (B : List ℕ) (d : Derivation) → Stored O C B c d → Some (record { positive = eqb (x % 2) 1; row = x / 2; index = m + 1 }) ≡ named_literal (numbered (literals d) n)
 input_found {m = m} {x = x} h q B d s =
     let f = h.from B d s in
     sym (ap named_literal (f.same ∙ ap (raise_named m) ((input_at h.is_input f.low f.high f.stored).1 ∙ ap (λ (y : ℕ). some ((literal_of y).0, ((literal_of y).1, 1))) (sym q))))
@@ -169,7 +169,7 @@ module _ {O C : List ℕ} {c n u : ℕ} (H : StoredLiteral O C c n) (pu : u ≡ 
 
     pub right_passes : {q : ℕ} → kept < n → q ≡ part O c 2 → literals_cell C q < 65536 → PassesRights O c (n - kept)
     right_passes more pq small =
-        rights_pass H.low H.high H.clause.room no₁ (λ z. no₂ (pu ∙ z)) pp pa pq (pk ∙ ap (λ (k : ℕ). left_over k a) pc) more small H.clause.stored
+        rights_pass H.low H.high no₁ (λ z. no₂ (pu ∙ z)) pp pa pq (pk ∙ ap (λ (k : ℕ). left_over k a) pc) more small H.clause.stored
 
 -- One more step of the walk.
 pub walked : {O C : List ℕ} {c n p k m q j i : ℕ} → ((B : List ℕ) (d : Derivation) → Stored O C B c d → ComesFrom O C B d n p k m) → ComesUp O C p k q j i
@@ -182,7 +182,7 @@ walk_there H h =
     let f = h S.bindings S.derivation S.stored in
     let a = f.fits in
     let b = S.fits in
-    record { clause = record { room = S.room; bindings = S.bindings; derivation = f.source; stored = f.stored; fits = omega arith }; low = f.low; high = f.high }
+    record { clause = record { bindings = S.bindings; derivation = f.source; stored = f.stored; fits = omega arith }; low = f.low; high = f.high }
 
 pub walk_small : {O C : List ℕ} {c n p k m : ℕ} → StoredLiteral O C c n → ((B : List ℕ) (d : Derivation) → Stored O C B c d → ComesFrom O C B d n p k m) → m ≤ 4096
 walk_small H h =

@@ -1,20 +1,23 @@
 -- Document 01, "Indices and bindings": a literal of a clause by its number, found or none, and the input clause that it comes from.
-use Rattle.std.specs.Prelude.{◌≡◌, List, [], ◌∷◌, ◌++◌, ℕ, ◌+◌, ◌-◌, ◌≤◌, ◌<◌, eqb, leb, ltb, length, replicate}
+use Rattle.std.specs.Prelude.{◌≡◌, List, [], ◌∷◌, ◌++◌, ℕ, ◌+◌, ◌-◌, ◌≤◌, ◌<◌, eqb, leb, ltb, length, replicate, Some, None}
+use Rattle.std.specs.Prelude as std
 use Rattle.std.proofs.Math.Option.{Option, none, some}
 use Rattle.record.specs.Record.{pick}
 use Rattle.derivation.specs.Derivation.{literals, Literal, Derivation, numbered, raise_literal, maximum_index}
 use Rattle.derivation.specs.Stored.{literals_cell, origin_code, right_cells, Stored}
 use Rattle.named_literals.specs.declared.NamedLiteral.{NamedLiteral}
-use Rattle.named_literals.specs.declared.NamedLiteral.TheVariants.{Found, Absent}
 
--- The answer of the program: a literal's sign, row and index; or that the clause lacks it, for which a step is refused with 5.
-abbrev pub named_literal : Option Literal → NamedLiteral
-named_literal none = Absent
-named_literal (some l) = Found l.0 l.1.0 l.1.1
+-- A literal's sign, row and index, as the program has them.
+abbrev pub fields_of_literal : Literal → NamedLiteral
+fields_of_literal l = record { positive = l.0; row = l.1.0; index = l.1.1 }
 
--- The table of origins is whole, and clause c of the tables is some derivation, whose indices are within document 01's limit.
+-- The answer of the program: the literal; or that the clause lacks it, for which a step is refused with 5.
+abbrev pub named_literal : Option Literal → std.Option NamedLiteral
+named_literal none = None
+named_literal (some l) = Some (fields_of_literal l)
+
+-- Clause c of the tables is some derivation, whose indices are within document 01's limit.
 pub record StoredClause (O C : List ℕ) (c : ℕ) : Type 0 where
-  pub room : length O ≡ 32768
   pub bindings : List ℕ
   pub derivation : Derivation
   pub stored : Stored O C bindings c derivation
@@ -47,7 +50,6 @@ pub record NamesRights (O : List ℕ) (c : ℕ) (ns : List ℕ) : Type 0 where
 
 -- Some right literals are named, and the number past all of them is one of the program's.
 pub record PassesRights (O : List ℕ) (c n : ℕ) : Type 0 where
-  pub room : length O ≡ 32768
   pub numbers : List ℕ
   pub names : NamesRights O c numbers
   pub fits : passed_all n numbers < 65536

@@ -8,11 +8,12 @@ ghost use Rattle.named_literals.specs.Named.{left_over, passed, passed_all, Name
 use clauses::origin_code;
 use following::nodes::{Origins, part_of};
 
-// A literal: its sign, true for a positive one, its atom's row and its index; or that the clause has no such literal.
+// A literal that a clause has: whether it is positive, and its atom's row and index.
 #[derive(Clone, Copy)]
-pub enum NamedLiteral {
-    Found(bool, u16, u16),
-    Absent,
+pub struct NamedLiteral {
+    pub positive: bool,
+    pub row: u16,
+    pub index: u16,
 }
 
 // How many of so many literals are left without number a.

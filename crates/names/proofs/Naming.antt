@@ -17,8 +17,8 @@ use Rattle.names.specs.Names.{NameReady, WritesName}
 use Rattle.names.specs.declared.Place.{Place}
 
 -- Numbering asks no more than that.
-pub number_ready : {N T K L : List ℕ} {count : ℕ} {x : Variable} → NameReady ByAppearance N T K L count x → NumberReady N K L count x
-number_ready R = record { nodes = R.nodes; table = R.table; numberable = R.numberable; seen = R.seen; numbers = R.numbered; room = R.room }
+pub number_ready : {N K L : List ℕ} {count : ℕ} {x : Variable} → NameReady ByAppearance N K L count x → NumberReady N K L count x
+number_ready R = record { table = R.table; numberable = R.numberable; seen = R.seen; numbers = R.numbered; room = R.room }
 
 count_most : (count n : ℕ) → count_after count n ≤ suc count
 count_most count n = try (eqb n count)

@@ -10,10 +10,8 @@ use Rattle.appearance.specs.Growing.{Longer}
 use Rattle.numbering.specs.declared.Naming.{Naming}
 use Rattle.names.specs.declared.Place.{Place}
 
--- What writing a variable asks: the node table and the buffer, numbers for some variables where they are numbered, and room for one more.
-pub record NameReady (naming : Naming) (N T K L : List ℕ) (count : ℕ) (x : Variable) : Type 0 where
-  pub nodes : length N ≡ 32768
-  pub text : length T ≡ 131072
+-- What writing a variable asks: the node table in order, numbers for some variables where they are numbered, and room for one more.
+pub record NameReady (naming : Naming) (N K L : List ℕ) (count : ℕ) (x : Variable) : Type 0 where
   pub table : NodesOk N
   pub numberable : Numberable N x
   pub seen : List Variable

@@ -6,9 +6,9 @@ ghost use Rattle.names.specs.Names.{NameReady, WritesName};
 
 use following::nodes::{Nodes, part_of};
 use numbering::{Naming, count_after, number};
-use text::{TextBuffer, put_numbered_variable, put_variable};
+use text::{TextBuffer, put_lettered, put_variable};
 
-// The position after what was written, and how many variables of the line have numbers then.
+// Where a line goes on: the position after what was written, and how many variables of the line have numbers then.
 #[derive(Clone, Copy)]
 pub struct Place {
     pub end: usize,
@@ -19,21 +19,20 @@ pub struct Place {
 fn put_number(
     nodes: &Nodes,
     text: &mut TextBuffer,
-    at: usize,
     cells: &mut [u16],
     order: &mut [u32],
-    count: u16,
+    place: Place,
     r: u16,
     k: u16,
 ) -> Place
-    requires { NameReady ByAppearance nodes.now text.old cells.old order.old count (r, k) }
-    ensures { WritesName ByAppearance nodes.now text.old text.new at cells.old cells.new order.old order.new count (r, k) result }
+    requires { NameReady ByAppearance nodes.now cells.old order.old place.count (r, k) }
+    ensures { WritesName ByAppearance nodes.now text.old text.new place.end cells.old cells.new order.old order.new place.count (r, k) result }
 {
-    let n = number(nodes, cells, order, count, r, k);
-    let end = put_numbered_variable(text, at, n);
+    let n = number(nodes, cells, order, place.count, r, k);
+    let end = put_lettered(text, place.end, b'v', n);
     Place {
         end,
-        count: count_after(count, n),
+        count: count_after(place.count, n),
     }
 }
 
@@ -41,22 +40,21 @@ fn put_number(
 pub fn put_name(
     nodes: &Nodes,
     text: &mut TextBuffer,
-    at: usize,
     naming: Naming,
     cells: &mut [u16],
     order: &mut [u32],
-    count: u16,
+    place: Place,
     r: u16,
     k: u16,
 ) -> Place
-    requires { NameReady naming nodes.now text.old cells.old order.old count (r, k) }
-    ensures { WritesName naming nodes.now text.old text.new at cells.old cells.new order.old order.new count (r, k) result }
+    requires { NameReady naming nodes.now cells.old order.old place.count (r, k) }
+    ensures { WritesName naming nodes.now text.old text.new place.end cells.old cells.new order.old order.new place.count (r, k) result }
 {
     match naming {
         Naming::ByIndex => Place {
-            end: put_variable(text, at, part_of(nodes, r, 0), k),
-            count,
+            end: put_variable(text, place.end, part_of(nodes, r, 0), k),
+            count: place.count,
         },
-        Naming::ByAppearance => put_number(nodes, text, at, cells, order, count, r, k),
+        Naming::ByAppearance => put_number(nodes, text, cells, order, place, r, k),
     }
 }

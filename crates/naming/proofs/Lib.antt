@@ -1,2 +1,1 @@
-pub mod NamedKinds
 pub mod NamedRecords

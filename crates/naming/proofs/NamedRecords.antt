@@ -1,18 +1,14 @@
--- The record of what a field names, case by case; and the fields of applications and input clauses as the first ones of a list.
-use mathlib.Core.Path.{◌≡◌, sym, ap, ap₂, ◌∙◌}
+-- The fields of applications and input clauses as the first ones of a list.
+use mathlib.Core.Path.{◌≡◌, sym, ap₂}
 use mathlib.Core.Bool.{Bool}
-use mathlib.Core.List.{List}
 use Prim.Native.Nat.{ℕ, suc, ◌≤◌}
 use native.Mathlib.Omega.{arith}
 use lib.Dec.{ltb, leb-suc-suc}
 use borrow.Author.Tests.{ne_eqb}
 use Rattle.record.specs.Record.{pick, applicationKind, inputKind}
-use Rattle.naming.specs.Naming.{named_in, record_named}
+use Rattle.naming.specs.Naming.{named_in}
 use Rattle.naming.specs.declared.Named.{Named}
 use Rattle.naming.specs.declared.Named.TheVariants.{Nothing, Symbol, Row, Literal}
-
-pub told_named : (symbols rows clauses : List ℕ) (what : Named) (n : ℕ) (w : Named) {r : ℕ} → what ≡ w → r ≡ record_named symbols rows clauses w n → r ≡ record_named symbols rows clauses what n
-told_named symbols rows clauses what n w e q = q ∙ sym (ap (λ (x : Named). record_named symbols rows clauses x n) e)
 
 -- Fields that are named as the first ones below a bound are, from a field on.
 abbrev pub NamedBelow : (ℕ → Named) → Named → ℕ → ℕ → Type 0

@@ -1,22 +1,9 @@
 // The record of what a field names, by the tables that the check left.
 ghost use Rattle.std.specs.Prelude.{◌≡◌, get_or};
-ghost use Rattle.naming.specs.Naming.{is_nothing, record_named};
+ghost use Rattle.naming.specs.Naming.{record_named};
 
 use super::Named;
 use tables::cell;
-
-// Whether nothing is named.
-pub fn is_nothing(what: Named) -> bool
-    ensures { result ≡ is_nothing what }
-{
-    match what {
-        Named::Nothing => true,
-        Named::Symbol => false,
-        Named::Row => false,
-        Named::Literal => false,
-        Named::Clause => false,
-    }
-}
 
 // The record of a row: that of the earliest row that it repeats, if it repeats one.
 fn row_record(n: u16, rows: &[u16]) -> u16

@@ -65,9 +65,8 @@ has_number L count n cell = pick (ltb n count) (eqb (get_or L n 0) cell) false
 abbrev pub count_after : ℕ → ℕ → ℕ
 count_after count n = pick (eqb n count) (suc count) count
 
--- What numbering a variable asks: the node table, numbers for some variables, and room for one more.
+-- What numbering a variable asks: the node table in order, numbers for some variables, and room for one more.
 pub record NumberReady (N K L : List ℕ) (count : ℕ) (x : Variable) : Type 0 where
-  pub nodes : length N ≡ 32768
   pub table : NodesOk N
   pub numberable : Numberable N x
   pub seen : List Variable

@@ -17,25 +17,22 @@ pub enum Naming {
 
 // The cell of a variable at an index.
 fn number_cell(nodes: &Nodes, r: u16, k: u16) -> u32
-    requires { length nodes.now ≡ 32768 }
     ensures { result ≡ number_cell nodes.now (r, k) }
 {
-    64 * (k as u32) + (part_of(nodes, r, 0) as u32)
+    64 * u32::from(k) + u32::from(part_of(nodes, r, 0))
 }
 
 // Whether number n, of those below the count, is that of the cell.
 fn has_number(order: &[u32], count: u16, n: u16, cell: u32) -> bool
-    requires order_len { length order.now ≡ 8192 }
-    requires count_bound { count < 8192 }
+    requires room { length order.now ≡ 8192 }
+    requires bound { count < 8192 }
     ensures { result ≡ has_number order.now count n cell }
 {
-    if n < count {
-        return order[n as usize] == cell;
-    }
-    false
+    n < count && order[n as usize] == cell
 }
 
 // The number of row r, a variable, at index k: the one that it has, or else the next.
+// Slices, since by number and index the callers of `write_piece` and `write_unit` lend shorter ones, of which an array's type would ask more.
 pub fn number(
     nodes: &Nodes,
     cells: &mut [u16],

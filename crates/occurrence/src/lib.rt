@@ -6,19 +6,19 @@ ghost use Rattle.std.specs.Prelude.{◌≡◌, length};
 ghost use Rattle.unification.specs.Row.{same};
 ghost use Rattle.following.specs.Walks.{Followable, ArgumentsFollowable, Looked, LookedBefore, TestLeavesLess, TestLeavesNoMore, met_variable};
 
+use following::failure::Failure;
 use following::follow::{Followed, follow, is_same};
 use following::nodes::{Nodes, arity_of, part_of};
-use following::occurs::Occurs;
 use following::values::ValueCells;
 
 // The test ends on an unbound variable: whether it is the variable v at index i.
-fn occurs_here(r: u16, k: u16, v: u16, i: u16, left: u16) -> Occurs
+fn occurs_here(r: u16, k: u16, v: u16, i: u16, left: u16) -> Result<u16, Failure>
     ensures { result ≡ met_variable (same (r, k) (v, i)) left }
 {
     if is_same(r, k, v, i) {
-        Occurs::Yes
+        Err(Failure::VariableOccurs)
     } else {
-        Occurs::No(left)
+        Ok(left)
     }
 }
 
@@ -33,7 +33,7 @@ pub fn occurs_in(
     t: u16,
     j: u16,
     work: u16,
-) -> Occurs
+) -> Result<u16, Failure>
     requires { Followable nodes.now values.old (t, j) }
     ensures { Looked nodes.now values.old values.new (v, i) (t, j) work result × TestLeavesLess work result × (length values.new ≡ 524416) }
 {
@@ -47,19 +47,15 @@ pub fn occurs_in(
             Followed::Application(r, k) => {
                 let last = arity_of(nodes, r);
                 if last == 0 {
-                    return Occurs::No(left);
+                    return Ok(left);
                 }
-                match occurs_in_arguments(nodes, values, v, i, r, k, last, left) {
-                    Occurs::No(w) => left = w,
-                    Occurs::Yes => return Occurs::Yes,
-                    Occurs::Spent => return Occurs::Spent,
-                }
+                left = occurs_in_arguments(nodes, values, v, i, r, k, last, left)?;
                 row = part_of(nodes, r, last);
                 index = k;
             }
         }
     }
-    Occurs::Spent
+    Err(Failure::WorkSpent)
 }
 
 // The same of the arguments of an application, in order, but for the last one, which the test that called takes up by its loop.
@@ -73,20 +69,14 @@ fn occurs_in_arguments(
     k: u16,
     last: u16,
     work: u16,
-) -> Occurs
+) -> Result<u16, Failure>
     requires { ArgumentsFollowable nodes.now values.old r k last }
     ensures { LookedBefore nodes.now values.old values.new (v, i) r k work result × TestLeavesNoMore work result × (length values.new ≡ 524416) }
 {
-    let mut n: u16 = 1;
     let mut left = work;
-    while n < last {
+    for n in 1..last {
         let a = part_of(nodes, r, n);
-        match occurs_in(nodes, values, v, i, a, k, left) {
-            Occurs::No(w) => left = w,
-            Occurs::Yes => return Occurs::Yes,
-            Occurs::Spent => return Occurs::Spent,
-        }
-        n += 1;
+        left = occurs_in(nodes, values, v, i, a, k, left)?;
     }
-    Occurs::No(left)
+    Ok(left)
 }

@@ -8,11 +8,19 @@ use Rattle.verdict.specs.Readout.{clause_line}
 use Rattle.appearance.specs.Appearance.{canonical_line}
 use Rattle.digests.specs.Digest.{DigestOf}
 use Rattle.hash.specs.Hash.{start, hash_cells}
+use Rattle.outcomes.specs.declared.outcome.Hashes.{Hashes}
 use Rattle.outcomes.specs.declared.outcome.Outcome.{Outcome}
 
 -- Tables that are just long enough, with every cell zero.
 abbrev pub zero_tables : Tables
 zero_tables = record { symbols = replicate least_lengths.symbols 0; rows = replicate least_lengths.rows 0; clauses = replicate least_lengths.clauses 0; bindings = replicate least_lengths.bindings 0 }
+
+-- The hash of each table.
+pub record HashesOf (t : Tables) (h : Hashes) : Type 0 where
+  pub symbols : h.symbols ≡ hash_cells start t.symbols
+  pub rows : h.rows ≡ hash_cells start t.rows
+  pub clauses : h.clauses ≡ hash_cells start t.clauses
+  pub bindings : h.bindings ≡ hash_cells start t.bindings
 
 -- The seven numbers of the answer, the hash of each table, and the length and the hash of both readouts, for a file that is checked on a
 -- day with some tables.

@@ -1,18 +1,19 @@
 // What the check and the readouts give for one file: the answer in numbers, a hash of each table, and each readout's length and hash.
 ghost use Rattle.record.specs.Record.{old_file};
-ghost use Rattle.entry.specs.Progress.{tables_with};
+ghost use Rattle.entry.specs.Progress.{tables_of};
 ghost use Rattle.numbering.specs.Numbering.{NumberRoom};
 ghost use Rattle.numbering.specs.declared.Naming.TheVariants.{ByAppearance};
-ghost use Rattle.outcomes.specs.Outcome.{OutcomeOf, zero_tables};
+ghost use Rattle.outcomes.specs.Outcome.{HashesOf, OutcomeOf, zero_tables};
 
 use answer::Answer;
 use checker::check_with;
 use digests::{Digest, digest_of};
-use following::nodes::{Nodes, Origins};
-use following::values::ValueCells;
+use following::lent::LentWorkspace;
 use hash::hash_of;
 use numbering::Naming;
 use record::Form;
+use std::fmt;
+use tables::lent::LentTables;
 
 // The hashes of the four tables.
 #[derive(Clone, Copy)]
@@ -21,6 +22,17 @@ pub struct Hashes {
     pub rows: u64,
     pub clauses: u64,
     pub bindings: u64,
+}
+
+// Each in 16 hexadecimal digits, with blanks between them.
+impl fmt::Display for Hashes {
+    fn fmt<W: fmt::Write>(&self, f: &mut fmt::Formatter<W>) -> fmt::Result {
+        write!(
+            f,
+            "{:016x} {:016x} {:016x} {:016x}",
+            self.symbols, self.rows, self.clauses, self.bindings
+        )
+    }
 }
 
 // The answer to a file, the hashes of the tables as the check leaves them, and the length and the hash of both readouts.
@@ -32,47 +44,50 @@ pub struct Outcome {
     pub canonical: Digest,
 }
 
+// The seven numbers of the answer, the hashes and what is said of each readout, with blanks between them.
+impl fmt::Display for Outcome {
+    fn fmt<W: fmt::Write>(&self, f: &mut fmt::Formatter<W>) -> fmt::Result {
+        for n in <[u16; 7]>::from(self.answer) {
+            write!(f, "{n} ")?;
+        }
+        write!(f, "{} {} {}", self.hashes, self.readout, self.canonical)
+    }
+}
+
+// The hash of each table.
+fn hashes_of(tables: &LentTables) -> Hashes
+    ensures { HashesOf (tables_of tables.now) result }
+{
+    Hashes {
+        symbols: hash_of(tables.symbols),
+        rows: hash_of(tables.rows),
+        clauses: hash_of(tables.clauses),
+        bindings: hash_of(tables.bindings),
+    }
+}
+
 // Checks a file on a day with the caller's tables, and goes on to both readouts by what the check left.
 fn outcome_with(
     day: u16,
     file: &[u8],
-    symbols: &mut [u16],
-    rows: &mut [u16],
-    clauses: &mut [u16],
-    bindings: &mut [u16],
-    nodes: &mut Nodes,
-    origins: &mut Origins,
-    values: &mut ValueCells,
+    tables: &mut LentTables,
+    workspace: &mut LentWorkspace,
     cells: &mut [u16],
     order: &mut [u32],
 ) -> Outcome
     requires { NumberRoom ByAppearance cells.old order.old }
-    ensures { OutcomeOf day (old_file file.now) (tables_with symbols.old rows.old clauses.old bindings.old) result }
+    ensures { OutcomeOf day (old_file file.now) (tables_of tables.old) result }
 {
-    let answer = check_with(
-        Form::Old,
-        day,
-        file,
-        symbols,
-        rows,
-        clauses,
-        bindings,
-        nodes,
-        origins,
-        values,
-    );
-    let hashes = Hashes {
-        symbols: hash_of(symbols),
-        rows: hash_of(rows),
-        clauses: hash_of(clauses),
-        bindings: hash_of(bindings),
-    };
+    let answer = check_with(Form::Old, day, file, tables, workspace);
+    let hashes = hashes_of(tables);
+    let clauses = &mut *tables.clauses;
+    let bindings = &mut *tables.bindings;
     let readout = digest_of(
         clauses,
         bindings,
-        nodes,
-        origins,
-        values,
+        workspace.nodes,
+        workspace.origins,
+        workspace.values,
         Naming::ByIndex,
         cells,
         order,
@@ -81,9 +96,9 @@ fn outcome_with(
     let canonical = digest_of(
         clauses,
         bindings,
-        nodes,
-        origins,
-        values,
+        workspace.nodes,
+        workspace.origins,
+        workspace.values,
         Naming::ByAppearance,
         cells,
         order,
@@ -105,21 +120,27 @@ pub fn outcome_of(day: u16, file: &[u8]) -> Outcome
     let mut rows = [0u16; 4096];
     let mut clauses = [0u16; 20480];
     let mut bindings = [0u16; 32768];
+    let mut tables = LentTables {
+        symbols: &mut symbols,
+        rows: &mut rows,
+        clauses: &mut clauses,
+        bindings: &mut bindings,
+    };
     let mut nodes = [0u16; 32768];
     let mut origins = [0u16; 32768];
     let mut values = [0u16; 524416];
+    let mut workspace = LentWorkspace {
+        nodes: &mut nodes,
+        origins: &mut origins,
+        values: &mut values,
+    };
     let mut cells = [0u16; 262208];
     let mut order = [0u32; 8192];
     outcome_with(
         day,
         file,
-        &mut symbols,
-        &mut rows,
-        &mut clauses,
-        &mut bindings,
-        &mut nodes,
-        &mut origins,
-        &mut values,
+        &mut tables,
+        &mut workspace,
         &mut cells,
         &mut order,
     )

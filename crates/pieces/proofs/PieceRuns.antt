@@ -6,8 +6,8 @@ use Prim.Native.Nat.{ℕ, zero, suc, ◌+◌, ◌-◌, ◌≤◌, ◌<◌}
 use native.Mathlib.Omega.{arith}
 use native.Mathlib.Numerals.{add-one}
 use lib.Dec.{eqb}
-use lib.ListN.{length, get_or, set, take, drop, length-append, drop_of_length-le}
-use lib.Seq.{paste, paste-suc, drop-cons, take_at, drop_at}
+use lib.ListN.{length, take, drop, length-append, drop_of_length-le}
+use lib.Seq.{paste, drop-cons, take_at, drop_at}
 use borrow.Author.Tests.{le-leb, lt-leb, eq-eqb, ne_eqb}
 use Rattle.record.specs.Record.{pick, File}
 use Rattle.verdict.specs.Verdict.{Lengths}
@@ -18,11 +18,6 @@ use Rattle.pieces.specs.Placed.{rest_given, stopped_at, PieceAt}
 use Rattle.pieces.specs.declared.Piece.{Piece}
 use Rattle.pieces.specs.declared.Rest.TheVariants.{Complete}
 use Rattle.units.proofs.PieceLaws.{drop_more}
-
--- One byte more.
-pub copied : (out out₀ text : List ℕ) (at i : ℕ) → out ≡ paste out₀ at text i → at + i < length out₀ → i < length text → set out (at + i) (get_or text i 0) ≡ paste out₀ at text (i + 1)
-copied out out₀ text at i q h k =
-    ap (λ (x : List ℕ). set x (at + i) (get_or text i 0)) q ∙ paste-suc out₀ at text i 0 h k ∙ ap (paste out₀ at text) (sym (add-one i))
 
 joined_more : (us : List (List ℕ)) (u : List ℕ) → joined_lines (us ++ (u ∷ [])) ≡ joined_lines us ++ u
 joined_more [] u = append-nil u

@@ -16,6 +16,7 @@ use units::{unit_count, write_unit};
 
 // What comes after a piece: nothing, all is written; the clause that the next piece begins with; or there was no room for the line of
 // this clause, with which the piece was to begin.
+// An enum of its own: two of its three ways carry a clause, so that it would be a Result within an Option, which says less.
 #[derive(Clone, Copy)]
 pub enum Rest {
     Complete,
@@ -32,15 +33,10 @@ pub struct Piece {
 
 // The first n bytes of the text go to the output, from a position on.
 fn copy_text(text: &TextBuffer, output: &mut [u8], at: usize, n: usize)
-    requires text_len { length text.now ≡ 131072 }
-    requires n_bound { (n ≤ 131072) × (at + n ≤ length output.old) }
+    requires { (n ≤ 131072) × (at + n ≤ length output.old) }
     ensures { output.new ≡ paste output.old at text.now n }
 {
-    let mut i: usize = 0;
-    while i < n {
-        output[at + i] = text[i];
-        i += 1;
-    }
+    output[at..at + n].copy_from_slice(&text[..n]);
 }
 
 // Where a piece that began with a clause stopped before clause n.
@@ -72,10 +68,8 @@ pub fn write_piece(
     ensures { PieceOf naming clauses.now bindings.now nodes.now origins.now values.old values.new a begin output.old output.new result }
 {
     let mut text = [0u8; 131072];
-    let count = unit_count(a.clauses);
-    let mut n = begin;
-    let mut written: usize = 0;
-    while n < count {
+    let mut written = 0;
+    for n in begin..unit_count(a.clauses) {
         let end = write_unit(
             clauses, bindings, nodes, origins, values, &mut text, naming, cells, order, a, n,
         );
@@ -87,7 +81,6 @@ pub fn write_piece(
         }
         copy_text(&text, output, written, end);
         written += end;
-        n += 1;
     }
     Piece {
         written,
@@ -95,38 +88,7 @@ pub fn write_piece(
     }
 }
 
-// The same with variables named by number and index, for which no room is needed.
-fn write_plain_piece(
-    clauses: &[u16],
-    bindings: &[u16],
-    nodes: &Nodes,
-    origins: &Origins,
-    values: &mut ValueCells,
-    a: Answer,
-    begin: u16,
-    output: &mut [u8],
-) -> Piece
-    requires { AfterCheck clauses.now bindings.now nodes.now origins.now values.old a }
-    ensures { PieceOf ByIndex clauses.now bindings.now nodes.now origins.now values.old values.new a begin output.old output.new result }
-{
-    let mut cells = [0u16; 1];
-    let mut order = [0u32; 1];
-    write_piece(
-        clauses,
-        bindings,
-        nodes,
-        origins,
-        values,
-        Naming::ByIndex,
-        &mut cells,
-        &mut order,
-        a,
-        begin,
-        output,
-    )
-}
-
-// The same with variables numbered by appearance, with room for the numbers of any line.
+// The same with variables numbered by appearance, with room for the numbers of any line. A function of its own, so that only this naming takes that room on the stack.
 fn write_numbered_piece(
     clauses: &[u16],
     bindings: &[u16],
@@ -157,7 +119,7 @@ fn write_numbered_piece(
     )
 }
 
-// A piece with variables named in either way: what the naming needs is made here.
+// A piece with variables named in either way. By number and index no room is needed.
 pub fn write_named_piece(
     clauses: &[u16],
     bindings: &[u16],
@@ -173,8 +135,18 @@ pub fn write_named_piece(
     ensures { PieceOf naming clauses.now bindings.now nodes.now origins.now values.old values.new a begin output.old output.new result }
 {
     match naming {
-        Naming::ByIndex => write_plain_piece(
-            clauses, bindings, nodes, origins, values, a, begin, output,
+        Naming::ByIndex => write_piece(
+            clauses,
+            bindings,
+            nodes,
+            origins,
+            values,
+            naming,
+            &mut [],
+            &mut [],
+            a,
+            begin,
+            output,
         ),
         Naming::ByAppearance => write_numbered_piece(
             clauses, bindings, nodes, origins, values, a, begin, output,

@@ -1,12 +1,11 @@
 -- Bytes placed in an output one after another: what is left to be written, placed behind what is, comes to the same as the whole.
 use mathlib.Core.Path.{◌≡◌, refl, sym, ap, ap₂, ◌∙◌}
 use mathlib.Core.Bool.{Bool}
-use mathlib.Core.List.{List, [], ◌∷◌, ◌++◌, append_assoc}
+use mathlib.Core.List.{List, [], ◌++◌, append_assoc}
 use Prim.Native.Nat.{ℕ, ◌+◌, ◌*◌, ◌≤◌, ◌<◌}
-use native.Mathlib.Numerals.{add-one}
 use native.Mathlib.Omega.{arith}
-use lib.ListN.{length, get_or, take, drop, set, take-append-drop, length-append, length-drop, drop_of_length-le}
-use lib.Seq.{length-take-le, drop-drop, drop-cons, take_at, drop_at, take-add, set_split}
+use lib.ListN.{length, take, drop, take-append-drop, length-append, length-drop, drop_of_length-le}
+use lib.Seq.{length-take-le, drop-drop, take_at, drop_at}
 use borrow.Author.Tests.{lt-ltb}
 use Rattle.record.specs.Bytes.{record_bytes, bytes_in, Bytes}
 use Rattle.record.specs.Record.{pick, Record, File, in_form, record_length, record_count, record_part, decoded, records}
@@ -47,35 +46,6 @@ module _ (at : ℕ) (xs output : List ℕ) (room : at + length xs ≤ length out
       ∙ append_assoc (take at output) xs (ys ++ drop (n + length ys) output)
       ∙ sym (ap (λ (l : List ℕ). take at output ++ l) (append_assoc xs ys (drop (n + length ys) output)))
       ∙ sym (ap (λ (m : ℕ). take at output ++ ((xs ++ ys) ++ drop m output)) long)
-
--- One byte is a store.
-place_one : (at v : ℕ) (output : List ℕ) → at < length output → set output at v ≡ placed_at at (v ∷ []) output
-place_one at v output h = set_split output at v h ∙ ap (λ (n : ℕ). take at output ++ (v ∷ drop n output)) (sym (add-one at))
-
-pub one_more : (at v : ℕ) (xs output : List ℕ) → at + length xs < length output → set (placed_at at xs output) (at + length xs) v ≡ placed_at at (xs ++ (v ∷ [])) output
-one_more at v xs output h =
-    place_one (at + length xs) v (placed_at at xs output) (let l = place_length at xs output (omega arith) in omega arith)
-    ∙ place_two at xs output (omega arith) (v ∷ [])
-
--- ── Sixteen bytes, one by one ──
-module _ (part before : List ℕ) (at i : ℕ) (h : i < length part) (room : at + i < length before) where
-  taken_more : take i part ++ (get_or part i 0 ∷ []) ≡ take (i + 1) part
-  taken_more = sym (take-add i 1 part ∙ ap (λ (l : List ℕ). take i part ++ take 1 l) (drop-cons part i 0 h))
-
-  pub byte_placed : (output : List ℕ) → output ≡ placed_at at (take i part) before → set output (at + i) (get_or part i 0) ≡ placed_at at (take (i + 1) part) before
-  byte_placed output e =
-      let l : length (take i part) ≡ i = length-take-le i part (omega arith) in
-      ap₂ (λ (o : List ℕ) (n : ℕ). set o (at + n) (get_or part i 0)) e (sym l)
-      ∙ one_more at (get_or part i 0) (take i part) before (omega arith)
-      ∙ ap (λ (xs : List ℕ). placed_at at xs before) taken_more
-
--- ── Two numbers ──
-pub pair_placed : (at a b c d : ℕ) (output : List ℕ) → at + 4 ≤ length output → set (set (set (set output at a) (at + 1) b) (at + 2) c) (at + 3) d ≡ placed_at at (a ∷ b ∷ c ∷ d ∷ []) output
-pair_placed at a b c d output h =
-    ap (λ (o : List ℕ). set (set (set o (at + 1) b) (at + 2) c) (at + 3) d) (place_one at a output (omega arith))
-    ∙ ap (λ (o : List ℕ). set (set o (at + 2) c) (at + 3) d) (one_more at b (a ∷ []) output (omega arith))
-    ∙ ap (λ (o : List ℕ). set o (at + 3) d) (one_more at c (a ∷ b ∷ []) output (omega arith))
-    ∙ one_more at d (a ∷ b ∷ c ∷ []) output (omega arith)
 
 -- ── Records of a form, one after another ──
 

@@ -15,11 +15,7 @@ pub fn put_sixteen(part: &[u8], output: &mut [u8], at: usize)
     requires { PartPlaceable part.now output.old at }
     ensures { output.new ≡ placed_at at (take 16 part.now) output.old }
 {
-    let mut i: usize = 0;
-    while i < 16 {
-        output[at + i] = part[i];
-        i += 1;
-    }
+    output[at..at + 16].copy_from_slice(&part[..16]);
 }
 
 // Two numbers in four bytes at a place, the low byte of each first.
@@ -27,10 +23,9 @@ pub fn put_pair(first: u16, second: u16, output: &mut [u8], at: usize)
     requires { at + 4 ≤ length output.old }
     ensures { output.new ≡ placed_at at (low_then_high first (low_then_high second [])) output.old }
 {
-    output[at] = (first % 256) as u8;
-    output[at + 1] = (first / 256) as u8;
-    output[at + 2] = (second % 256) as u8;
-    output[at + 3] = (second / 256) as u8;
+    let [a, b] = first.to_le_bytes();
+    let [c, d] = second.to_le_bytes();
+    output[at..at + 4].copy_from_slice(&[a, b, c, d]);
 }
 
 // The number of the next clause, after a record.

@@ -6,20 +6,17 @@
 pub mod arguments;
 pub mod input;
 
-use input::{Source, read_input};
+use input::read_input;
 use line_printing::report::unread;
 use numbering::Naming;
-use read_answer::Input;
 use readout_printing::print_readout;
 use std::io;
 
 // Reads the input and prints its readout, with its variables named in either way.
 pub fn run<R: io::Input + Print + Eprint + Alloc>(rt: &R, naming: Naming) {
     let mut space = [0u8; 65539];
-    let mut source = Source::new(rt.reader());
-    let Input::Whole(n) = read_input(&mut source, &mut space) else {
-        unread(rt, naming, source.failure.unwrap());
-        return;
-    };
-    print_readout(rt, &space, n, naming);
+    match read_input(&mut rt.reader(), &mut space) {
+        Ok(n) => print_readout(rt, &space, n, naming),
+        Err(error) => unread(rt, naming, error),
+    }
 }

@@ -10,14 +10,14 @@ use Rattle.record.specs.Record.{pick, File, old_file}
 use Rattle.verdict.specs.Refusal.{badLength}
 use Rattle.verdict.specs.Verdict.{refusal, check, Lengths, fitting_length, fitting}
 use Rattle.program_input.specs.Input.{file_part, file_in, InputsRead}
-use Rattle.program_input.specs.declared.Part.{Part}
+use Rattle.std.specs.declared.ops.Range.{Range}
 use Rattle.record.specs.declared.Form.TheVariants.{Old}
 
-short_part : (n : ℕ) → n < 2 → record { first = 0; end = 1 } ≡ file_part n
-short_part n l = sym (ap (λ (b : Bool). pick b (record { first = 0; end = 1 }) (record { first = 2; end = n })) (lt-ltb n 2 l))
+short_part : (n : ℕ) → n < 2 → record { start = 0; end = 1 } ≡ file_part n
+short_part n l = sym (ap (λ (b : Bool). pick b (record { start = 0; end = 1 }) (record { start = 2; end = n })) (lt-ltb n 2 l))
 
-whole_part : (n : ℕ) → 2 ≤ n → record { first = 2; end = n } ≡ file_part n
-whole_part n l = sym (ap (λ (b : Bool). pick b (record { first = 0; end = 1 }) (record { first = 2; end = n })) (le-ltb n 2 l))
+whole_part : (n : ℕ) → 2 ≤ n → record { start = 2; end = n } ≡ file_part n
+whole_part n l = sym (ap (λ (b : Bool). pick b (record { start = 0; end = 1 }) (record { start = 2; end = n })) (le-ltb n 2 l))
 
 one_byte : (space : List ℕ) → 1 ≤ length space → length (take 1 (drop 0 space)) ≡ 1
 one_byte [] l = absurd (omega arith)
@@ -39,9 +39,9 @@ between (x ∷ y ∷ xs) (suc (suc n)) l m = let e : suc (suc n) - 2 ≡ n = ome
 
 pub inputs_read : InputsRead
 inputs_read = record {
-  after_day = λ space n l m. ap (λ (p : Part). take (p.end - p.first) (drop p.first space)) (sym (whole_part n l)) ∙ between space n l m;
-  short = λ space n day lengths l m. unfit_refused (old_file (file_in space n)) day lengths (ap (fitting_length Old) (ap (λ (p : Part). length (take (p.end - p.first) (drop p.first space))) (sym (short_part n l)) ∙ one_byte space m));
+  after_day = λ space n l m. ap (λ (p : Range ℕ). take (p.end - p.start) (drop p.start space)) (sym (whole_part n l)) ∙ between space n l m;
+  short = λ space n day lengths l m. unfit_refused (old_file (file_in space n)) day lengths (ap (fitting_length Old) (ap (λ (p : Range ℕ). length (take (p.end - p.start) (drop p.start space))) (sym (short_part n l)) ∙ one_byte space m));
   long = λ space n day lengths l m.
-      let file = ap (λ (p : Part). take (p.end - p.first) (drop p.first space)) (sym (whole_part n (omega arith))) in
+      let file = ap (λ (p : Range ℕ). take (p.end - p.start) (drop p.start space)) (sym (whole_part n (omega arith))) in
       unfit_refused (old_file (file_in space n)) day lengths (over_unfit (length (file_in space n)) (omega (arith, ap length file, length-take (n - 2) (drop 2 space), length-drop 2 space)));
 }

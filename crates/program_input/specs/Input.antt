@@ -3,17 +3,17 @@ use Rattle.std.specs.Prelude.{◌≡◌, List, ℕ, ◌+◌, ◌-◌, ◌*◌, �
 use Rattle.record.specs.Record.{pick, old_file}
 use Rattle.verdict.specs.Refusal.{badLength}
 use Rattle.verdict.specs.Verdict.{refusal, check, Lengths}
-use Rattle.program_input.specs.declared.Part.{Part}
+use Rattle.std.specs.declared.ops.Range.{Range}
 
 abbrev pub day_of : List ℕ → ℕ
 day_of input = pick (ltb (length input) 2) 0 (get_or input 0 0 + 256 * get_or input 1 0)
 
 -- Where the file stands in the space that n bytes of input were read into, and its bytes.
-abbrev pub file_part : ℕ → Part
-file_part n = pick (ltb n 2) (record { first = 0; end = 1 }) (record { first = 2; end = n })
+abbrev pub file_part : ℕ → Range ℕ
+file_part n = pick (ltb n 2) (record { start = 0; end = 1 }) (record { start = 2; end = n })
 
 abbrev pub file_in : List ℕ → ℕ → List ℕ
-file_in space n = take ((file_part n).end - (file_part n).first) (drop (file_part n).first space)
+file_in space n = take ((file_part n).end - (file_part n).start) (drop (file_part n).start space)
 
 pub record InputsRead : Type 0 where
   -- The file is what comes after the two bytes of day.

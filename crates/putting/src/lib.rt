@@ -32,10 +32,8 @@ pub fn put_bindings(
     requires { Puttable bindings.now nodes.now values.old first n offset }
     ensures { BindingsPut bindings.now nodes.now values.old values.new first n offset }
 {
-    let mut k: u16 = 0;
-    while k < n {
+    for k in 0..n {
         let at = 4 * ((first as usize) + (k as usize));
         put_binding(bindings, nodes, values, at, offset);
-        k += 1;
     }
 }

@@ -7,7 +7,6 @@ use native.Mathlib.Omega.{arith}
 use lib.Dec.{eqb, leb, ltb}
 use lib.ListN.{length, take, drop, set, length-drop, drop_of_length-le}
 use lib.Seq.{take_all, length-take-le, drop-drop, take-add, take_at, drop_at}
-use borrow.Author.Tests.{eq-eqb, ne_eqb, lt-ltb, le-ltb, le-leb, lt-leb}
 use borrow.Rule.Slice.PartMut.{mid_of, put_mid}
 use Rattle.record.specs.Bytes.{record_bytes}
 use Rattle.record.specs.Record.{pick, Record, decoded, kind_of, count_of, field_of}
@@ -35,53 +34,6 @@ raise_bound rows clauses false inside false under false first = omega arith
 pub raised_bound : (rows clauses : ℕ) (r : Record) (i : ℕ) → raised_by rows clauses r i ≤ 2 * rows + clauses
 raised_bound rows clauses r i =
     raise_bound rows clauses (eqb r.kind 3) (leb 1 i && leb i r.count) (eqb r.kind 4) (ltb i r.count) (eqb r.kind 8) (eqb i 0)
-
-module _ (part : List ℕ) (i rows clauses : ℕ) {k n : ℕ} (is_kind : k ≡ kind_of part) (isCount : n ≡ count_of part) where
-  is_kind_lem : {m : ℕ} → k ≡ m → eqb (kind_of part) m ≡ true
-  is_kind_lem {m} e = eq-eqb (kind_of part) m (sym is_kind ∙ e)
-
-  other_kind : {m : ℕ} → ¬ (k ≡ m) → eqb (kind_of part) m ≡ false
-  other_kind {m} e = ne_eqb (kind_of part) m (λ q. e (is_kind ∙ q))
-
-  -- An application: its symbol stays, its argument rows are raised, what is behind them stays.
-  module _ (three : k ≡ 3) where
-    of_three : (inside : Bool) → (leb 1 i && leb i (count_of part)) ≡ inside → pick inside rows 0 ≡ raised_by rows clauses (decoded part) i
-    of_three inside q = sym (λ t. raise rows clauses (is_kind_lem three t) (q t) (eqb (kind_of part) 4) (ltb i (count_of part)) (eqb (kind_of part) 8) (eqb i 0))
-
-    pub symbol_stays : i < 1 → 0 ≡ raised_by rows clauses (decoded part) i
-    symbol_stays l = of_three false (ap (λ (b : Bool). b && leb i (count_of part)) (lt-leb 1 i l))
-
-    pub argument_raised : 1 ≤ i → i ≤ n → rows ≡ raised_by rows clauses (decoded part) i
-    argument_raised l m = of_three true (ap₂ ◌&&◌ (le-leb 1 i l) (le-leb i (count_of part) (subst (λ (x : ℕ). i ≤ x) isCount m)))
-
-    pub no_argument : 1 ≤ i → n < i → 0 ≡ raised_by rows clauses (decoded part) i
-    no_argument l m = of_three false (ap₂ ◌&&◌ (le-leb 1 i l) (lt-leb i (count_of part) (subst (λ (x : ℕ). x < i) isCount m)))
-
-  module _ (no-three : ¬ (k ≡ 3)) where
-    -- An input clause: its literals.
-    module _ (four : k ≡ 4) where
-      of_four : (under : Bool) → ltb i (count_of part) ≡ under → pick under (2 * rows) 0 ≡ raised_by rows clauses (decoded part) i
-      of_four under q = sym (λ t. raise rows clauses (other_kind no-three t) (leb 1 i && leb i (count_of part)) (is_kind_lem four t) (q t) (eqb (kind_of part) 8) (eqb i 0))
-
-      pub literal_raised : i < n → 2 * rows ≡ raised_by rows clauses (decoded part) i
-      literal_raised l = of_four true (lt-ltb i (count_of part) (subst (λ (x : ℕ). i < x) isCount l))
-
-      pub no_literal_lem : n ≤ i → 0 ≡ raised_by rows clauses (decoded part) i
-      no_literal_lem l = of_four false (le-ltb i (count_of part) (subst (λ (x : ℕ). x ≤ i) isCount l))
-
-    module _ (no-four : ¬ (k ≡ 4)) where
-      last_case : (eight first : Bool) → eqb (kind_of part) 8 ≡ eight → eqb i 0 ≡ first → pick eight (pick first clauses 0) 0 ≡ raised_by rows clauses (decoded part) i
-      last_case eight first p q = sym (λ t. raise rows clauses (other_kind no-three t) (leb 1 i && leb i (count_of part)) (other_kind no-four t) (ltb i (count_of part)) (p t) (q t))
-
-      -- A window: its clause.
-      pub clause_raised : k ≡ 8 → i ≡ 0 → clauses ≡ raised_by rows clauses (decoded part) i
-      clause_raised e z = last_case true true (is_kind_lem e) (eq-eqb i 0 z)
-
-      pub day_stays : k ≡ 8 → ¬ (i ≡ 0) → 0 ≡ raised_by rows clauses (decoded part) i
-      day_stays e z = last_case true false (is_kind_lem e) (ne_eqb i 0 z)
-
-      pub other_stays : ¬ (k ≡ 8) → 0 ≡ raised_by rows clauses (decoded part) i
-      other_stays e = last_case false (eqb i 0) (other_kind e) refl
 
 -- ── One record's bytes ──
 

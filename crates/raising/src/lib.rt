@@ -14,21 +14,12 @@ use record::{count, field, kind};
 fn raised_by(part: &[u8], i: u8, rows: u16, clauses: u16) -> u32
     ensures { result ≡ raised_by rows clauses (decoded part.now) i }
 {
-    let k = kind(part);
-    let n = count(part);
-    if k == 3 {
-        if i < 1 {
-            return 0;
-        }
-        return if i <= n { rows as u32 } else { 0 };
+    match kind(part) {
+        3 if 1 <= i && i <= count(part) => rows as u32,
+        4 if i < count(part) => 2 * (rows as u32),
+        8 if i == 0 => clauses as u32,
+        _ => 0,
     }
-    if k == 4 {
-        return if i < n { 2 * (rows as u32) } else { 0 };
-    }
-    if k == 8 {
-        return if i == 0 { clauses as u32 } else { 0 };
-    }
-    0
 }
 
 // Field i of a record, raised.
@@ -43,8 +34,7 @@ fn put_number(output: &mut [u8], n: u32)
     requires { 2 ≤ length output.old }
     ensures { output.new ≡ (n % 256) ∷ (n / 256 % 256) ∷ drop 2 output.old }
 {
-    output[0] = (n % 256) as u8;
-    output[1] = (n / 256 % 256) as u8;
+    output[..2].copy_from_slice(&n.to_le_bytes()[..2]);
 }
 
 // The first record of the rest of a file, shifted, to the first sixteen bytes of an output.
@@ -54,10 +44,8 @@ pub fn put_shifted(rest: &[u8], rows: u16, clauses: u16, output: &mut [u8])
 {
     output[0] = kind(rest);
     output[1] = count(rest);
-    let mut i: u8 = 0;
-    while i < 7 {
+    for i in 0..7u8 {
         let at = 2 + 2 * (i as usize);
         put_number(&mut output[at..], raised_field(rest, i, rows, clauses));
-        i += 1;
     }
 }

@@ -7,44 +7,27 @@ ghost use Rattle.record.specs.Record.{decoded, fields_of, symbolKind, variableKi
 ghost use Rattle.verdict.specs.Refusal.{zeros, in_range};
 
 use record::{count, field};
+use record_fields::fields;
 
 // Whether the fields from number `from` on are all zero.
 pub fn zeros_from(part: &[u8], from: u8) -> bool
     ensures { result ≡ zeros (drop from (fields_of part.now)) }
 {
-    let mut i = from;
-    while i < 7 {
-        if field(part, i) != 0 {
-            return false;
-        }
-        i += 1;
-    }
-    true
+    fields(part).iter().skip(usize::from(from)).all(|n| *n == 0)
 }
 
 // A symbol has an arity of at most 6 and no fields.
 pub fn symbol_in_range(part: &[u8]) -> bool
     ensures { result ≡ in_range symbolKind (decoded part.now) }
 {
-    if count(part) <= 6 {
-        zeros_from(part, 0)
-    } else {
-        false
-    }
+    count(part) <= 6 && zeros_from(part, 0)
 }
 
 // A variable has a number of at most 63 and nothing else.
 pub fn variable_in_range(part: &[u8]) -> bool
     ensures { result ≡ in_range variableKind (decoded part.now) }
 {
-    if count(part) != 0 {
-        return false;
-    }
-    if field(part, 0) <= 63 {
-        zeros_from(part, 1)
-    } else {
-        false
-    }
+    count(part) == 0 && field(part, 0) <= 63 && zeros_from(part, 1)
 }
 
 // An application has at most 6 arguments, after its symbol.
@@ -52,11 +35,7 @@ pub fn application_in_range(part: &[u8]) -> bool
     ensures { result ≡ in_range applicationKind (decoded part.now) }
 {
     let n = count(part);
-    if n <= 6 {
-        zeros_from(part, 1 + n)
-    } else {
-        false
-    }
+    n <= 6 && zeros_from(part, 1 + n)
 }
 
 // An input clause has at most 7 literals.
@@ -64,5 +43,5 @@ pub fn input_in_range(part: &[u8]) -> bool
     ensures { result ≡ in_range inputKind (decoded part.now) }
 {
     let n = count(part);
-    if n <= 7 { zeros_from(part, n) } else { false }
+    n <= 7 && zeros_from(part, n)
 }

@@ -1,17 +1,15 @@
 -- Reading all records in the program: the contracts of its inner functions. No demand needs this file.
-use Rattle.std.specs.Prelude.{◌≡◌, true, List, [], ℕ, length, replicate}
+use Rattle.std.specs.Prelude.{◌≡◌, true, List, [], ℕ, length, replicate, Ok, Err}
 use Rattle.record.specs.Record.{File}
-use Rattle.answer.specs.Given.{answer_given}
+use Rattle.answer.specs.Given.{answer_given, Ended}
 use Rattle.derivation.specs.Stored.{origin_table_of}
 use Rattle.entry.specs.Progress.{node_table_of, counts_of, ReadTo}
-use Rattle.verdict.specs.Refusal.{Reason, reason_number}
 use Rattle.verdict.specs.State.{State, empty_state}
 use Rattle.verdict.specs.Step.{all_stand, refused_at, state_of}
 use Rattle.verdict.specs.Tables.{Tables, lengths_of, filled_tables}
 use Rattle.verdict.specs.Verdict.{answer_numbers, verdict_of, answer_of, long_enough, fitting, ending}
-use Rattle.answer.specs.declared.Ended.{Ended}
 use Rattle.answer.specs.declared.Answer.{Answer}
-use Rattle.answer.specs.declared.Ended.TheVariants.{All, Refused}
+use Rattle.reasons.specs.Reasons.{meant}
 
 -- Before the first record: the length fits, the named parts of the tables `tables_before` are cleared, and the node table and the table of origins are empty.
 pub record Begun (F : File) (here : Tables) (N O A : List ℕ) : Type 0 where
@@ -25,8 +23,8 @@ pub record Begun (F : File) (here : Tables) (N O A : List ℕ) : Type 0 where
 
 -- How reading ended, by the definition, with the state S.
 abbrev pub EndsAs : File → State → Ended → Type 0
-EndsAs F S (All n) = (n ≡ counts_of S) × (ending F ≡ all_stand S)
-EndsAs F S (Refused q k n) = (n ≡ counts_of S) × ((reason : Reason) × (ending F ≡ refused_at S reason k) × (q ≡ reason_number reason))
+EndsAs F S (Ok n) = (n ≡ counts_of S) × (ending F ≡ all_stand S)
+EndsAs F S (Err r) = (r.counts ≡ counts_of S) × (ending F ≡ refused_at S (meant r.reason) r.number)
 
 pub record EndedWith (F : File) (t : Tables) (e : Ended) (here : Tables) (N O A : List ℕ) : Type 0 where
   pub state : State

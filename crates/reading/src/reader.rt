@@ -4,9 +4,9 @@ ghost use Rattle.distinct.specs.Index.{Indexed};
 ghost use Rattle.entry.specs.Progress.{tables_with};
 ghost use Rattle.reading.specs.Reader.{Begun, RecordsRead};
 
-use answer::Ended;
+use answer::Refused;
 use distinct::{Heads, Links};
-use entry::entry::{Counts, Entered};
+use entry::entry::Counts;
 use following::nodes::{Nodes, Origins};
 use following::values::ValueCells;
 use record::{Form, record_count};
@@ -25,7 +25,7 @@ fn read_indexed(
     values: &mut ValueCells,
     heads: &mut Heads,
     links: &mut Links,
-) -> Ended
+) -> Result<Counts, Refused>
     requires begun { Begun (in_form form file.now) (tables_with symbols.old rows.old clauses.old bindings.old) nodes.old origins.old values.old }
     requires indexed { Indexed nodes.old 0 heads.old links.old }
     ensures { RecordsRead (in_form form file.now) (tables_with symbols.old rows.old clauses.old bindings.old) nodes.old origins.old values.old result (tables_with symbols.new rows.new clauses.new bindings.new) nodes.new origins.new values.new }
@@ -36,21 +36,22 @@ fn read_indexed(
         clauses: 0,
         bindings: 0,
     };
-    let end = record_count(form, file);
-    let mut k = 0u16;
-    while (k as usize) < end {
+    for k in 0..record_count(form, file) as u16 {
         match read_record(
             form, file, k, counts, symbols, rows, clauses, bindings, nodes, origins, values, heads,
             links,
         ) {
-            Entered::Stands(n) => {
-                counts = n;
-                k += 1;
+            Ok(n) => counts = n,
+            Err(reason) => {
+                return Err(Refused {
+                    reason,
+                    number: k,
+                    counts,
+                });
             }
-            Entered::Refused(q) => return Ended::Refused(q, k, counts),
         }
     }
-    Ended::All(counts)
+    Ok(counts)
 }
 
 // The same, with an index of its own.
@@ -64,7 +65,7 @@ pub fn read_records(
     nodes: &mut Nodes,
     origins: &mut Origins,
     values: &mut ValueCells,
-) -> Ended
+) -> Result<Counts, Refused>
     requires { Begun (in_form form file.now) (tables_with symbols.old rows.old clauses.old bindings.old) nodes.old origins.old values.old }
     ensures { RecordsRead (in_form form file.now) (tables_with symbols.old rows.old clauses.old bindings.old) nodes.old origins.old values.old result (tables_with symbols.new rows.new clauses.new bindings.new) nodes.new origins.new values.new }
 {

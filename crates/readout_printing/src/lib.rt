@@ -5,115 +5,110 @@ ghost use Rattle.units.specs.Units.{AfterCheck};
 ghost use Rattle.input_check.specs.Checking.{Holds};
 
 use answer::Answer;
-use following::nodes::{Nodes, Origins};
-use following::values::ValueCells;
+use following::lent::LentWorkspace;
 use input_check::check_input;
-use line_printing::print_lines;
+use line_printing::report::unwritten;
+use line_printing::write_lines;
 use numbering::Naming;
+use std::io;
+use tables::lent::LentTables;
 
-// Prints the lines with variables named by number and index, for which no room is needed.
-fn print_plain<R: Print + Eprint + Alloc>(
+// Writes the lines with variables named by number and index, which need no room.
+fn write_plain<R: Print>(
     rt: &R,
-    clauses: &[u16],
-    bindings: &[u16],
-    nodes: &Nodes,
-    origins: &Origins,
-    values: &mut ValueCells,
+    tables: &LentTables,
+    workspace: &mut LentWorkspace,
     a: Answer,
-)
-    requires { AfterCheck clauses.now bindings.now nodes.now origins.now values.old a }
+) -> io::Result<()>
+    requires { AfterCheck tables.now.clauses.now tables.now.bindings.now workspace.old.nodes.now workspace.old.origins.now workspace.old.values.now a }
 {
-    let mut cells = [0u16; 1];
-    let mut order = [0u32; 1];
-    print_lines(
+    write_lines(
         rt,
-        clauses,
-        bindings,
-        nodes,
-        origins,
-        values,
+        tables.clauses,
+        tables.bindings,
+        workspace.nodes,
+        workspace.origins,
+        workspace.values,
         Naming::ByIndex,
-        &mut cells,
-        &mut order,
+        &mut [],
+        &mut [],
         a,
-    );
+    )
 }
 
 // The same with variables numbered by appearance, with room for the numbers of any line.
-fn print_numbered<R: Print + Eprint + Alloc>(
+fn write_numbered<R: Print>(
     rt: &R,
-    clauses: &[u16],
-    bindings: &[u16],
-    nodes: &Nodes,
-    origins: &Origins,
-    values: &mut ValueCells,
+    tables: &LentTables,
+    workspace: &mut LentWorkspace,
     a: Answer,
-)
-    requires { AfterCheck clauses.now bindings.now nodes.now origins.now values.old a }
+) -> io::Result<()>
+    requires { AfterCheck tables.now.clauses.now tables.now.bindings.now workspace.old.nodes.now workspace.old.origins.now workspace.old.values.now a }
 {
     let mut cells = [0u16; 262208];
     let mut order = [0u32; 8192];
-    print_lines(
+    write_lines(
         rt,
-        clauses,
-        bindings,
-        nodes,
-        origins,
-        values,
+        tables.clauses,
+        tables.bindings,
+        workspace.nodes,
+        workspace.origins,
+        workspace.values,
         Naming::ByAppearance,
         &mut cells,
         &mut order,
         a,
-    );
+    )
 }
 
-// Checks the file of an input once, on its day, and prints a readout by what the check left.
-fn print_with<R: Print + Eprint + Alloc>(
+// Checks the file of an input once, on its day, and writes a readout by what the check left.
+fn write_with<R: Print>(
     rt: &R,
     space: &[u8],
     n: usize,
-    symbols: &mut [u16],
-    rows: &mut [u16],
-    clauses: &mut [u16],
-    bindings: &mut [u16],
-    nodes: &mut Nodes,
-    origins: &mut Origins,
-    values: &mut ValueCells,
+    tables: &mut LentTables,
+    workspace: &mut LentWorkspace,
     naming: Naming,
-)
+) -> io::Result<()>
     requires { Holds space.now n }
 {
-    let a = check_input(
-        space, n, symbols, rows, clauses, bindings, nodes, origins, values,
-    );
+    let a = check_input(space, n, tables, workspace);
     match naming {
-        Naming::ByIndex => print_plain(rt, clauses, bindings, nodes, origins, values, a),
-        Naming::ByAppearance => print_numbered(rt, clauses, bindings, nodes, origins, values, a),
+        Naming::ByIndex => write_plain(rt, tables, workspace, a),
+        Naming::ByAppearance => write_numbered(rt, tables, workspace, a),
     }
 }
 
-// The same with tables that are just long enough.
-pub fn print_readout<R: Print + Eprint + Alloc>(rt: &R, space: &[u8], n: usize, naming: Naming)
+// The same with tables that are just long enough; or why the output cannot be written.
+pub fn write_readout<R: Print>(rt: &R, space: &[u8], n: usize, naming: Naming) -> io::Result<()>
     requires { Holds space.now n }
 {
     let mut symbols = [0u16; 4096];
     let mut rows = [0u16; 4096];
     let mut clauses = [0u16; 20480];
     let mut bindings = [0u16; 32768];
+    let mut tables = LentTables {
+        symbols: &mut symbols,
+        rows: &mut rows,
+        clauses: &mut clauses,
+        bindings: &mut bindings,
+    };
     let mut nodes = [0u16; 32768];
     let mut origins = [0u16; 32768];
     let mut values = [0u16; 524416];
-    print_with(
-        rt,
-        space,
-        n,
-        &mut symbols,
-        &mut rows,
-        &mut clauses,
-        &mut bindings,
-        &mut nodes,
-        &mut origins,
-        &mut values,
-        naming,
-    );
+    let mut workspace = LentWorkspace {
+        nodes: &mut nodes,
+        origins: &mut origins,
+        values: &mut values,
+    };
+    write_with(rt, space, n, &mut tables, &mut workspace, naming)
+}
+
+// Prints the readout of the file of an input; where the output cannot be written it stops, and standard error says why.
+pub fn print_readout<R: Print + Eprint + Alloc>(rt: &R, space: &[u8], n: usize, naming: Naming)
+    requires { Holds space.now n }
+{
+    if let Err(error) = write_readout(rt, space, n, naming) {
+        unwritten(rt, naming, error);
+    }
 }

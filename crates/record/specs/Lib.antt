@@ -1,4 +1,5 @@
 pub mod Record
+pub mod Answered
 pub mod Bytes
 pub mod Sorts
 pub mod Cases

@@ -3,58 +3,42 @@
 #![tactic(auto)]
 
 ghost use Rattle.std.specs.Prelude.{◌≡◌, get_or};
-ghost use Rattle.record.specs.Record.{old_file, new_file, in_form, record_count, record_part, kind_of, count_of, field_of};
+ghost use Rattle.record.specs.Record.{in_form, record_length, record_count, record_part, kind_of, count_of, field_of};
 
 // The form of a file: sixteen bytes a record, or twenty with the days beside a clause.
-#[derive(Clone, Copy)]
+#[derive(Clone, Copy, PartialEq, Eq)]
 pub enum Form {
     Old,
     New,
+}
+
+// How many bytes a record has.
+fn record_size(form: Form) -> usize
+    ensures { result ≡ record_length form }
+{
+    match form {
+        Form::Old => 16,
+        Form::New => 20,
+    }
 }
 
 // How many records are wholly inside the file.
 pub fn record_count(form: Form, file: &[u8]) -> usize
     ensures { result ≡ record_count (in_form form file.now) }
 {
-    match form {
-        Form::Old => file.len() / 16,
-        Form::New => file.len() / 20,
-    }
-}
-
-// The sixteen bytes of record k of the old form, or the empty part.
-fn old_part(file: &[u8], k: usize) -> &[u8]
-    ensures { result.now ≡ record_part (old_file file.now) k }
-{
-    if k < file.len() / 16 {
-        let from = 16 * k;
-        let to = from + 16;
-        &file[from..to]
-    } else {
-        &file[0..0]
-    }
-}
-
-// The twenty bytes of record k of the new form, or the empty part.
-fn new_part(file: &[u8], k: usize) -> &[u8]
-    ensures { result.now ≡ record_part (new_file file.now) k }
-{
-    if k < file.len() / 20 {
-        let from = 20 * k;
-        let to = from + 20;
-        &file[from..to]
-    } else {
-        &file[0..0]
-    }
+    file.len() / record_size(form)
 }
 
 // The part of the file that is record k, or the empty part where k is not wholly inside.
 pub fn record_part(form: Form, file: &[u8], k: usize) -> &[u8]
     ensures { result.now ≡ record_part (in_form form file.now) k }
 {
-    match form {
-        Form::Old => old_part(file, k),
-        Form::New => new_part(file, k),
+    if k < record_count(form, file) {
+        let size = record_size(form);
+        let from = size * k;
+        &file[from..from + size]
+    } else {
+        &[]
     }
 }
 
@@ -62,7 +46,7 @@ pub fn record_part(form: Form, file: &[u8], k: usize) -> &[u8]
 fn byte(part: &[u8], i: usize) -> u8
     ensures { result ≡ get_or part.now i 0 }
 {
-    if i < part.len() { part[i] } else { 0 }
+    part.get(i).copied().unwrap_or(0)
 }
 
 // Byte 0 of a record: its kind.
@@ -83,8 +67,8 @@ pub fn count(part: &[u8]) -> u8
 pub fn field(part: &[u8], i: u8) -> u16
     ensures { result ≡ field_of part.now i }
 {
-    let at = 2 * (i as usize);
-    let low = byte(part, at + 2) as u16;
-    let high = byte(part, at + 3) as u16;
-    low + 256 * high
+    let at = 2 * usize::from(i);
+    let low = byte(part, at + 2);
+    let high = byte(part, at + 3);
+    u16::from_le_bytes([low, high])
 }

@@ -18,18 +18,11 @@ pub struct ClauseLiterals {
 pub fn fields(part: &[u8]) -> [u16; 7]
     ensures { result ≡ fields_of part.now }
 {
-    [
-        field(part, 0),
-        field(part, 1),
-        field(part, 2),
-        field(part, 3),
-        field(part, 4),
-        field(part, 5),
-        field(part, 6),
-    ]
+    std::array::from_fn(|i| field(part, i as u8))
 }
 
 // The literals of an input clause; zeros for a record of another kind, and for one that is not wholly inside.
+#[tactic(auto, unfolding(crate::specs::Reader::clause_literals))]
 pub fn clause_literals(form: Form, file: &[u8], k: usize) -> ClauseLiterals
     ensures { result ≡ clause_literals (in_form form file.now) k }
 {
@@ -42,7 +35,7 @@ pub fn clause_literals(form: Form, file: &[u8], k: usize) -> ClauseLiterals
     } else {
         ClauseLiterals {
             count: 0,
-            numbers: [0, 0, 0, 0, 0, 0, 0],
+            numbers: [0; 7],
         }
     }
 }

@@ -8,9 +8,9 @@ use lib.ListN.{length, length-map}
 use Rattle.record.specs.Record.{File, Record, Kind, record_part, kind_of, decoded, record_at, otherKind, kind_numbered}
 use Rattle.unification.specs.Row.{Row}
 use Rattle.distinct.specs.Index.{Indexed}
-use Rattle.entry.specs.Program.{RowsReady, RowsIndexed, rows_after, symbol_left, symbol_entered, row_left, variable_entered, application_entered, input_left, input_entered}
-use Rattle.entry.specs.Progress.{Plain, Reading, RecordRead, tables_with}
-use Rattle.verdict.specs.Refusal.{badKind, kind_of_record}
+use Rattle.entry.specs.Program.{Entered, RowsReady, RowsIndexed, rows_after, symbol_left, symbol_entered, row_left, variable_entered, application_entered, input_left, input_entered}
+use Rattle.entry.specs.Progress.{Plain, Next, Reading, RecordRead, tables_with}
+use Rattle.verdict.specs.Refusal.{kind_of_record}
 use Rattle.verdict.specs.State.{State, rows_of}
 use Rattle.verdict.specs.Step.{require}
 use Rattle.inference.specs.Stepping.{BeforeStep, ResolveKind, StepRead}
@@ -21,14 +21,15 @@ use Rattle.entry.proofs.Declaring.{symbol_read, variable_read, application_read,
 use Rattle.window_entry.specs.Window.{window_entered}
 use Rattle.window_entry.proofs.WindowRead.{window_read}
 use Rattle.fields.proofs.FieldLaws.{kind_other}
-use Rattle.entry.proofs.Kept.{few_records, few_symbols, few_rows, few_clauses, rows_fit_lem, origins_length}
+use Rattle.entry.proofs.Kept.{few_records, few_symbols, few_rows, few_clauses, rows_fit_lem}
 use Rattle.entry.proofs.Entering.{rows_ready}
 use Rattle.demands.proofs.Inversions.{step_stands}
 use Rattle.demands.proofs.Resolution.{at_kind}
 use Rattle.demands.proofs.WrittenRows.{rows_entered, entered_rows}
 use Rattle.entry.specs.declared.entry.Counts.{Counts}
-use Rattle.entry.specs.declared.entry.Entered.{Entered}
-use Rattle.entry.specs.declared.entry.Entered.TheVariants.{Stands, Refused}
+use Rattle.std.specs.Prelude.{Result, Ok, Err}
+use Rattle.reasons.specs.declared.Reason.{Reason}
+use Rattle.reasons.specs.declared.Reason.TheVariants.{BadKind}
 
 module _ {F : File} {k : ℕ} {n : Counts} {here : Tables} {N O A : List ℕ} (R : Reading F k n here N O A) where
   abbrev S : State
@@ -53,30 +54,33 @@ module _ {F : File} {k : ℕ} {n : Counts} {here : Tables} {N O A : List ℕ} (R
     ready = ready;
   }
 
-  pub clauses_few : (n.clauses < 4096) × (RowsReady N × (length O ≡ 32768))
+  pub clauses_few : (n.clauses < 4096) × RowsReady N
   clauses_few =
-      (omega (arith, ap (λ (c : Counts). c.clauses) R.kept.counts, few_clauses F t k S n here N O A R.kept R.inside, below), (ready, origins_length F t k S n here N O A R.kept R.inside))
+      (omega (arith, ap (λ (c : Counts). c.clauses) R.kept.counts, few_clauses F t k S n here N O A R.kept R.inside, below), ready)
 
   -- A record that enters no row leaves the index as it is.
   pub index_kept : (e : Entered) (here' : Tables) (O' A' : List ℕ) → RecordRead F k n here N O A e here' N O' A' → ((S : State) (r : Record) → rows_entered S (kind_of_record (record_at F k)) r ≡ rows_of S) → (H L : List ℕ) → Indexed N n.rows H L → Indexed N (rows_after n e) H L
-  index_kept (Refused q) here' O' A' X same H L I = I
-  index_kept (Stands m) here' O' A' X same H L I =
+  index_kept (Err q) here' O' A' X same H L I = I
+  index_kept (Ok m) here' O' A' X same H L I =
       let z = X.next t S R.kept in
       let rows : rows_of z.0 ≡ rows_of S = entered_rows S k (record_at F k) z.0 (kind_of_record (record_at F k)) (step_stands S k (record_at F k) z.0 z.1).1 ∙ same S (record_at F k) in
       let count : n.rows ≡ m.rows = ap (λ (c : Counts). c.rows) R.kept.counts ∙ sym (length-map S.rows (λ (w : ℕ × Row). w.1)) ∙ sym (ap length rows) ∙ length-map z.0.rows (λ (w : ℕ × Row). w.1) ∙ sym (ap (λ (c : Counts). c.rows) z.2.counts) in
       subst (λ (x : ℕ). Indexed N x H L) count I
 
+pub refused_index : (n : Counts) {N H L : List ℕ} {x : Reason} {g : Entered} → g ≡ Err x → Indexed N n.rows H L → Indexed N (rows_after n g) H L
+refused_index n {N} {H} {L} h I = subst (λ (e : Entered). Indexed N (rows_after n e) H L) (sym h) I
+
 module _ {F : File} {k : ℕ} {n : Counts} {s r C B N O A : List ℕ} (R : Reading F k n (tables_with s r C B) N O A) where
-  module _ (P : List ℕ) (p : P ≡ record_part F k) (d : ℕ) (isDays : d ≡ refused_days F.form P) where
+  module _ (P : List ℕ) (p : P ≡ record_part F k) (d : Result (Unit {0}) Reason) (isDays : d ≡ refused_days F.form P) where
     days_here : d ≡ refused_days F.form (record_part F k)
     days_here = isDays ∙ ap (refused_days F.form) p
 
     -- A record that its days refuse.
-    pub days_done : ¬ (d ≡ 0) → RecordRead F k n (tables_with s r C B) N O A (Refused d) (tables_with s r C B) N O A
-    days_done z = record { next = λ t S K. let y = days_refused F.form S k (record_part F k) d days_here z in (y.0, y.1, y.2, K.tables, K.nodes, K.origins, K.values) }
+    pub days_done : {x : Reason} {g : Entered} → d ≡ Err x → g ≡ Err x → RecordRead F k n (tables_with s r C B) N O A g (tables_with s r C B) N O A
+    days_done {x} z h = record { next = λ t S K. subst (Next F t k S (tables_with s r C B) N O A) (sym h) (days_refused F.form S k (record_part F k) x (sym z ∙ days_here), K.tables, K.nodes, K.origins, K.values) }
 
-    module _ (zero : d ≡ 0) (m : ℕ) (q : m ≡ kind_of P) where
-      none_refused : 0 ≡ refused_days F.form (record_part F k)
+    module _ (zero : d ≡ Ok tt) (m : ℕ) (q : m ≡ kind_of P) where
+      none_refused : Ok tt ≡ refused_days F.form (record_part F k)
       none_refused = sym zero ∙ days_here
 
       tag_is : m ≡ kind_of (record_part F k)
@@ -130,6 +134,6 @@ module _ {F : File} {k : ℕ} {n : Counts} {s r C B N O A : List ℕ} (R : Readi
       pub step_done : (j : ℕ) → m ≡ j → ¬ (j ≡ 4) → (C' B' O' A' : List ℕ) (e : Entered) → ((E : BeforeStep F k n C B N O A) → StepRead F k n C B N O A E C' B' O' A' e) → RecordRead F k n (tables_with s r C B) N O A e (tables_with s r C' B') N O' A'
       step_done j z four C' B' O' A' e f = record { next = λ t S K. (f (record { inside = R.inside; plain = plain j z four; tables_before = t; state = S; symbols = s; rows = r; kept = K })).next }
 
-      pub other_done : ¬ (m ≡ 1) → ¬ (m ≡ 2) → ¬ (m ≡ 3) → ¬ (m ≡ 4) → ¬ (m ≡ 5) → ¬ (m ≡ 6) → ¬ (m ≡ 7) → ¬ (m ≡ 8) → RecordRead F k n (tables_with s r C B) N O A (Refused 3) (tables_with s r C B) N O A
+      pub other_done : ¬ (m ≡ 1) → ¬ (m ≡ 2) → ¬ (m ≡ 3) → ¬ (m ≡ 4) → ¬ (m ≡ 5) → ¬ (m ≡ 6) → ¬ (m ≡ 7) → ¬ (m ≡ 8) → RecordRead F k n (tables_with s r C B) N O A (Err BadKind) (tables_with s r C B) N O A
       unfolding require
-      other_done a b c d e f g h = record { next = λ t S K. (badKind, plain m refl d S ∙ at_kind S k (decoded (record_part F k)) otherKind (ap kind_numbered (sym tag_is) ∙ kind_other m a b c d e f g h), refl, K.tables, K.nodes, K.origins, K.values) }
+      other_done a b c d e f g h = record { next = λ t S K. (plain m refl d S ∙ at_kind S k (decoded (record_part F k)) otherKind (ap kind_numbered (sym tag_is) ∙ kind_other m a b c d e f g h), K.tables, K.nodes, K.origins, K.values) }

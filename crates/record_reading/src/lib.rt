@@ -9,10 +9,11 @@ ghost use Rattle.entry.specs.Progress.{Reading, RecordRead, tables_with};
 use beside::refused_days;
 use clause_entry::input_record;
 use distinct::{Heads, Links};
-use entry::entry::{Counts, Entered};
+use entry::entry::Counts;
 use factoring::factor_record;
 use following::nodes::{Nodes, Origins};
 use following::values::ValueCells;
+use reasons::Reason;
 use record::{Form, kind, record_part};
 use record_entry::{application_record, symbol_record, variable_record};
 use resolution::resolve_record;
@@ -33,17 +34,14 @@ pub fn read_record(
     values: &mut ValueCells,
     heads: &mut Heads,
     links: &mut Links,
-) -> Entered
+) -> Result<Counts, Reason>
     requires reading { Reading (in_form form file.now) k counts (tables_with symbols.old rows.old clauses.old bindings.old) nodes.old origins.old values.old }
     requires indexed { Indexed nodes.old counts.rows heads.old links.old }
     ensures record_read { RecordRead (in_form form file.now) k counts (tables_with symbols.old rows.old clauses.old bindings.old) nodes.old origins.old values.old result (tables_with symbols.new rows.new clauses.new bindings.new) nodes.new origins.new values.new }
     ensures indexed_2 { Indexed nodes.new (rows_after counts result) heads.new links.new }
 {
     let part = record_part(form, file, k as usize);
-    let q = refused_days(form, part);
-    if q != 0 {
-        return Entered::Refused(q);
-    }
+    refused_days(form, part)?;
     let tag = kind(part);
     match tag {
         1 => symbol_record(part, k, counts, symbols),
@@ -62,6 +60,6 @@ pub fn read_record(
             form, file, k, counts, clauses, bindings, nodes, origins, values,
         ),
         8 => window_record(part, counts, origins),
-        _ => Entered::Refused(3),
+        _ => Err(Reason::BadKind),
     }
 }

@@ -5,11 +5,11 @@
 ghost use Rattle.record.specs.Record.{in_form, record_part, kind_of};
 ghost use Rattle.inference.specs.Stepping.{BeforeStep, ResolveKind, StepRead};
 
-use entry::entry::{Counts, Entered};
+use entry::entry::Counts;
 use following::nodes::{Nodes, Origins};
 use following::values::ValueCells;
 use inference::{Atom, named_literal};
-use named_literals::NamedLiteral;
+use reasons::Reason;
 use record::{Form, record_part};
 use record_fields::fields;
 use resolvents::resolve_atoms;
@@ -27,7 +27,7 @@ pub fn resolve_record(
     nodes: &Nodes,
     origins: &mut Origins,
     values: &mut ValueCells,
-) -> Entered
+) -> Result<Counts, Reason>
     requires before_step { BeforeStep (in_form form file.now) k counts clauses.old bindings.old nodes.now origins.old values.old }
     requires resolve_kind { ResolveKind (kind_of (record_part (in_form form file.now) k)) }
     ensures { (E : BeforeStep (in_form form file.now) k counts clauses.old bindings.old nodes.now origins.old values.old) → StepRead (in_form form file.now) k counts clauses.old bindings.old nodes.now origins.old values.old E clauses.new bindings.new origins.new values.new result }
@@ -35,29 +35,29 @@ pub fn resolve_record(
     let part = record_part(form, file, k as usize);
     let n = right_count(part);
     if n == 0 {
-        return Entered::Refused(4);
+        return Err(Reason::OutOfRange);
     }
     let numbers = fields(part);
     let left = named_literal(origins, clauses, counts.clauses, numbers[0], numbers[1]);
-    let NamedLiteral::Found(positive, row, index) = left else {
-        return Entered::Refused(5);
+    let Some(left) = left else {
+        return Err(Reason::NotThere);
     };
     let mut listed = [0u16; 8];
-    let q = refused_rights(
+    refused_rights(
         origins,
         clauses,
         counts.clauses,
         &numbers,
         n as u16,
-        positive,
+        left.positive,
         rights_rise(part, n),
         &mut listed,
-    );
-    if q != 0 {
-        return Entered::Refused(q);
-    }
-    let clause = numbers[0];
-    let atom = Atom { clause, row, index };
+    )?;
+    let atom = Atom {
+        clause: numbers[0],
+        row: left.row,
+        index: left.index,
+    };
     resolve_atoms(
         &numbers, k, counts, clauses, bindings, nodes, origins, values, atom, &listed, n as u16,
     )

@@ -4,12 +4,14 @@
 
 ghost use Rattle.inference.specs.Stepping.{ResolveNamed, StepRead};
 
-use entry::entry::{Counts, Entered};
+use entry::entry::Counts;
+use following::failure::Failure;
 use following::nodes::{Nodes, Origins};
 use following::values::ValueCells;
 use inference::Atom;
 use outlines::some_outlines_clash;
-use resolvent_size::{Size, resolvent_size};
+use reasons::Reason;
+use resolvent_size::resolvent_size;
 use step_end::finish_step;
 use step_unify::unify_resolve;
 
@@ -26,17 +28,17 @@ pub fn resolve_atoms(
     left: Atom,
     listed: &[u16; 8],
     n: u16,
-) -> Entered
+) -> Result<Counts, Reason>
     requires { ResolveNamed numbers.now k counts clauses.old bindings.old nodes.now origins.old values.old left listed.now n }
     ensures { (R : ResolveNamed numbers.now k counts clauses.old bindings.old nodes.now origins.old values.old left listed.now n) → StepRead R.file k counts clauses.old bindings.old nodes.now origins.old values.old R.step clauses.new bindings.new origins.new values.new result }
 {
     let right = numbers[2];
     let size = resolvent_size(clauses, left.clause, right, n);
-    let Size::Fits(literals, maximum) = size else {
-        return Entered::Refused(9);
+    let Some(size) = size else {
+        return Err(Reason::TooLarge);
     };
     if some_outlines_clash(nodes, left.row, listed, n) {
-        return Entered::Refused(10);
+        return Err(Reason::Unification(Failure::SymbolsDiffer));
     }
     let u = unify_resolve(
         k, counts, clauses, bindings, nodes, origins, values, left, right, listed, n,
@@ -45,8 +47,8 @@ pub fn resolve_atoms(
         u,
         k,
         counts,
-        literals,
-        maximum,
+        size.literals,
+        size.maximum,
         2 + n,
         numbers,
         clauses,

@@ -23,7 +23,8 @@ use Rattle.convert_new.specs.NewFile.{NewWritable}
 use Rattle.convert_old.specs.OldFile.{OldWritable}
 use Rattle.writing_answer.specs.Given.{writing_given}
 use Rattle.rewriting.specs.Rewritten.{Convertible, Rewritten}
-use Rattle.writing_answer.specs.declared.WritingOutcome.{WritingOutcome}
+use Rattle.writing_answer.specs.declared.NotWritten.{NotWritten}
+use Rattle.std.specs.Prelude.{Result, Ok, Err, ⊤}
 
 -- A length that a form allows is at most 65,536.
 short_length : (form : Form) (bytes : List ℕ) → fitting_length form (length bytes) ≡ true → length bytes ≤ 65536
@@ -38,7 +39,7 @@ module _ (file : File) (output : List ℕ) (asked : Convertible file output) {n 
   abbrev looked : Bool → Writing
   looked b = elim b [ true ↦ refused_with 22 0 0 | false ↦ written (record_length (other_form file.form) * length (converted file)) ]
 
-  pub too_many_lem : most_records (other_form file.form) < n → {m : WritingOutcome} → writing_given m ≡ 2 ∷ 22 ∷ 0 ∷ 0 ∷ [] → Rewritten file output m output
+  pub too_many_lem : most_records (other_form file.form) < n → {m : Result ℕ NotWritten} → writing_given m ≡ 2 ∷ 22 ∷ 0 ∷ 0 ∷ [] → Rewritten file output m output
   too_many_lem h g =
       let e : room_for file ≡ refused_with 22 0 0 = ap looked (lt-ltb (most_records (other_form file.form)) (length (converted file)) (subst (λ (x : ℕ). most_records (other_form file.form) < x) isCount h)) in
       record { answer = g ∙ ap writing_numbers (sym e); bytes = ap (λ (x : Writing). output_left x (converted_file file).bytes output) (sym e) }
@@ -57,7 +58,7 @@ module _ (file : File) (output : List ℕ) (asked : Convertible file output) {n 
       pub short_end : end ≤ 65536
       short_end = omega (arith, W.ends, few)
 
-      pub rewritten : {m : WritingOutcome} → writing_given m ≡ 0 ∷ end ∷ 0 ∷ 0 ∷ [] → Rewritten file output m left
+      pub rewritten : {m : Result ℕ NotWritten} → writing_given m ≡ 0 ∷ end ∷ 0 ∷ 0 ∷ [] → Rewritten file output m left
       unfolding converted_file
       rewritten g =
           let ends : end ≡ record_length (other_form file.form) * length (converted file) = W.ends ∙ file_length (other_form file.form) (converted file) in
@@ -78,5 +79,5 @@ pub to_write_old : (file output : List ℕ) → Convertible (new_file file) outp
 to_write_old file output asked e h = record { short = short_length New file asked.fits; room = room_enough (new_file file) output asked e h }
 
 -- The form that the program was told.
-pub told_form : {form f : Form} (bytes output : List ℕ) {m : WritingOutcome} {left : List ℕ} → form ≡ f → Rewritten (in_form f bytes) output m left → Rewritten (in_form form bytes) output m left
+pub told_form : {form f : Form} (bytes output : List ℕ) {m : Result ℕ NotWritten} {left : List ℕ} → form ≡ f → Rewritten (in_form f bytes) output m left → Rewritten (in_form form bytes) output m left
 told_form bytes output {m} {left} e R = subst (λ (x : Form). Rewritten (in_form x bytes) output m left) (sym e) R

@@ -6,10 +6,11 @@ ghost use Rattle.std.specs.Prelude.{◌≡◌, ◌<◌};
 ghost use Rattle.distinct.specs.Index.{Indexed};
 ghost use Rattle.entry.specs.Program.{RowReady, rows_after, more_rows, row_left, row_entered};
 
-use distinct::{FoundRow, Heads, Links};
-use entry::entry::{Counts, Entered};
+use distinct::{Heads, Links};
+use entry::entry::Counts;
 use entry::rows::put_cells;
 use following::nodes::Nodes;
+use reasons::Reason;
 use row_listing::list_row;
 use row_search::find_row;
 use tables::{cell, set_cell};
@@ -20,10 +21,8 @@ fn more_rows(counts: Counts) -> Counts
     ensures { result ≡ more_rows counts }
 {
     Counts {
-        symbols: counts.symbols,
         rows: counts.rows + 1,
-        clauses: counts.clauses,
-        bindings: counts.bindings,
+        ..counts
     }
 }
 
@@ -38,21 +37,20 @@ pub fn enter_row(
     nodes: &mut Nodes,
     heads: &mut Heads,
     links: &mut Links,
-) -> Entered
+) -> Result<Counts, Reason>
     requires { RowReady nodes.old counts heads.old links.old code numbers.now }
     ensures nodes_after { row_left result rows.new nodes.new ≡ row_entered numbers.now k code counts rows.old nodes.old }
     ensures indexed { Indexed nodes.new (rows_after counts result) heads.new links.new }
 {
     let n = counts.rows;
-    let found = find_row(nodes, heads, links, n, code, numbers);
-    let FoundRow::At(q) = found else {
+    let Some(q) = find_row(nodes, heads, links, n, code, numbers) else {
         put_cells(nodes, n, code, numbers);
         list_row(nodes, heads, links, n);
         set_cell(rows, n as usize, k);
-        return Entered::Stands(more_rows(counts));
+        return Ok(more_rows(counts));
     };
     let record = cell(rows, q as usize);
     put_cells(nodes, n, 0, &[q, 0, 0, 0, 0, 0, 0]);
     set_cell(rows, n as usize, record);
-    Entered::Stands(more_rows(counts))
+    Ok(more_rows(counts))
 }

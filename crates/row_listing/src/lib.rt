@@ -1,7 +1,7 @@
 // A row listed by its bucket, as the newest of it. `Index` in specs/ of the crate distinct has the contracts.
 #![tactic(auto)]
 
-ghost use Rattle.std.specs.Prelude.{◌≡◌, ◌+◌, ◌<◌, length};
+ghost use Rattle.std.specs.Prelude.{◌≡◌, ◌+◌, ◌<◌};
 ghost use Rattle.distinct.specs.Rows.{node_at};
 ghost use Rattle.distinct.specs.Index.{bucket_of, Indexed, Listable};
 
@@ -10,11 +10,10 @@ use following::nodes::Nodes;
 
 // The bucket of row r.
 fn bucket_of_row(nodes: &Nodes, r: u16) -> usize
-    requires nodes_len { length nodes.now ≡ 32768 }
-    requires r_bound { r < 4096 }
+    requires { r < 4096 }
     ensures { (result ≡ bucket_of (node_at nodes.now r)) × (result < 4096) }
 {
-    let at = 8 * (r as usize);
+    let at = 8 * usize::from(r);
     bucket(
         nodes[at],
         nodes[at + 1],
@@ -33,6 +32,6 @@ pub fn list_row(nodes: &Nodes, heads: &mut Heads, links: &mut Links, n: u16)
     ensures { Indexed nodes.now (n + 1) heads.new links.new }
 {
     let b = bucket_of_row(nodes, n);
-    links[n as usize] = heads[b];
+    links[usize::from(n)] = heads[b];
     heads[b] = n + 1;
 }

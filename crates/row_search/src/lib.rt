@@ -2,10 +2,11 @@
 #![tactic(auto)]
 
 ghost use Rattle.std.specs.Prelude.{◌≡◌, ◌∷◌};
-ghost use Rattle.distinct.specs.Rows.{row_with_cells, found_row};
+ghost use Rattle.record.specs.Answered.{answered};
+ghost use Rattle.distinct.specs.Rows.{row_with_cells};
 ghost use Rattle.distinct.specs.Index.{Findable};
 
-use distinct::{FoundRow, Heads, Links, bucket};
+use distinct::{Heads, Links, bucket};
 use following::nodes::Nodes;
 use row_scan::{same_cells, scan_rows};
 
@@ -18,25 +19,23 @@ pub fn find_row(
     n: u16,
     code: u16,
     numbers: &[u16; 7],
-) -> FoundRow
+) -> Option<u16>
     requires { Findable nodes.now n heads.now links.now code numbers.now }
-    ensures { result ≡ found_row (row_with_cells nodes.now n (code ∷ numbers.now)) }
+    ensures { result ≡ answered (row_with_cells nodes.now n (code ∷ numbers.now)) }
 {
     let b = bucket(
         code, numbers[0], numbers[1], numbers[2], numbers[3], numbers[4], numbers[5], numbers[6],
     );
     let mut c = heads[b];
-    let mut compared: u16 = 0;
-    while c > 0 {
+    for _ in 0..16 {
+        if c == 0 {
+            return None;
+        }
         let r = c - 1;
         if same_cells(nodes, r, code, numbers) {
-            return FoundRow::At(r);
+            return Some(r);
         }
-        compared += 1;
-        if compared == 16 {
-            return scan_rows(nodes, n, code, numbers);
-        }
-        c = links[r as usize];
+        c = links[usize::from(r)];
     }
-    FoundRow::Nowhere
+    scan_rows(nodes, n, code, numbers)
 }

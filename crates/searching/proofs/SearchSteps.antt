@@ -1,29 +1,23 @@
 -- The first step of a file and the first symbol that differs, step by step as the program looks for them.
 use mathlib.Core.Path.{◌≡◌, refl, sym, ap, ap₂, ◌∙◌, subst}
-use mathlib.Core.Bool.{Bool, true, false, ◌&&◌}
+use mathlib.Core.Bool.{Bool, true, false}
 use mathlib.Core.Option.{Option, none, some}
 use mathlib.Core.List.{List, [], ◌∷◌}
 use Prim.Native.Nat.{ℕ, suc, ◌+◌, ◌≤◌, ◌<◌}
 use native.Mathlib.Numerals.{add-one}
 use native.Mathlib.Omega.{arith}
-use lib.Dec.{eqb, leb}
+use lib.Dec.{eqb}
 use lib.ListN.{length, drop, drop_of_length-le}
-use borrow.Author.Tests.{eq-eqb, ne_eqb, le-leb, lt-leb}
+use borrow.Author.Tests.{eq-eqb, ne_eqb}
 use Rattle.record.specs.Record.{old_file, Record, record_count, record_part, decoded, records, kind_of, count_of}
 use Rattle.record.proofs.Records.{record_numbered, records_length}
 use Rattle.record.specs.Sorts.{is_symbol, is_step}
 use Rattle.merging.specs.Answer.{first_where, symbol_list, first_other}
-use Rattle.searching.specs.Searching.{others_from, Moved}
-use Rattle.searching.specs.declared.Move.{Move}
-use Rattle.searching.specs.declared.Move.TheVariants as move
-
--- Whether a record is a step, by its kind: below 5, and from 5 on.
-module _ (part : List ℕ) {k : ℕ} (is_kind : k ≡ kind_of part) where
-  pub kind_under : k < 5 → false ≡ is_step (decoded part)
-  kind_under l = sym (ap (λ (x : Bool). x && leb (kind_of part) 7) (lt-leb 5 (kind_of part) (subst (λ (n : ℕ). n < 5) is_kind l)))
-
-  pub kind_from : 5 ≤ k → leb k 7 ≡ is_step (decoded part)
-  kind_from l = ap (λ (n : ℕ). leb n 7) is_kind ∙ sym (ap (λ (x : Bool). x && leb (kind_of part) 7) (le-leb 5 (kind_of part) (subst (λ (n : ℕ). 5 ≤ n) is_kind l)))
+use Rattle.searching.specs.Searching.{found_given, others_from, Moved}
+use Rattle.std.specs.declared.ops.ControlFlow.{ControlFlow}
+use Rattle.std.specs.declared.ops.ControlFlow.TheVariants.{Continue, Break}
+use Rattle.std.specs.declared.option.Option as Found
+use Rattle.std.specs.declared.option.Option.TheVariants.{Some, None}
 
 -- ── The first of a sort ──
 
@@ -89,7 +83,7 @@ module _ (first second : List ℕ) (i j : ℕ) (asked : (i < record_count (old_f
   is_kind_lem = ap kind_of (sym isMine) ∙ sym is_kind
 
   -- The first file's record is no symbol: past it.
-  pub past_first : ¬ (kind ≡ 1) → Moved first second i j (move.To (i + 1) j)
+  pub past_first : ¬ (kind ≡ 1) → Moved first second i j (Continue (i + 1, j))
   past_first e =
       let same : symbol_list (drop i (records (old_file first))) ≡ symbol_list (drop (i + 1) (records (old_file first))) =
       ap symbol_list (record_numbered (old_file first) i asked.0)
@@ -98,7 +92,7 @@ module _ (first second : List ℕ) (i j : ℕ) (asked : (i < record_count (old_f
       in
       (ap (λ (xs : List ℕ). first_other xs j (drop j (records (old_file second)))) same, omega arith, omega arith, omega arith, omega arith, omega arith)
 
-  pub second_ended : record_count (old_file second) ≤ j → Moved first second i j move.Ended
+  pub second_ended : record_count (old_file second) ≤ j → Moved first second i j (Break None)
   second_ended h = ap (first_other (symbol_list (drop i (records (old_file first)))) j) (none_left second j h) ∙ others_end (symbol_list (drop i (records (old_file first)))) j
 
   module _ (is_symbol_lem : kind ≡ 1) (inside : j < record_count (old_file second)) {theirs : List ℕ} (isTheirs : theirs ≡ record_part (old_file second) j) {kind' : ℕ} (isKind' : kind' ≡ kind_of theirs) where
@@ -109,7 +103,7 @@ module _ (first second : List ℕ) (i j : ℕ) (asked : (i < record_count (old_f
     numbered = ap (first_other (symbol_list (drop i (records (old_file first)))) j) (record_numbered (old_file second) j inside)
 
     -- The second's is none: past it.
-    pub past_second : ¬ (kind' ≡ 1) → Moved first second i j (move.To i (j + 1))
+    pub past_second : ¬ (kind' ≡ 1) → Moved first second i j (Continue (i, j + 1))
     past_second e =
         let same : others_from first second i j ≡ others_from first second i (j + 1) =
         numbered
@@ -135,7 +129,7 @@ module _ (first second : List ℕ) (i j : ℕ) (asked : (i < record_count (old_f
       second_symbol = eq-eqb (kind_of (record_part (old_file second) j)) 1 (is_kind' ∙ is-symbol')
 
       -- Symbols of one arity: past both.
-      pub past_both : count ≡ count' → Moved first second i j (move.To (i + 1) (j + 1))
+      pub past_both : count ≡ count' → Moved first second i j (Continue (i + 1, j + 1))
       past_both e =
           let same : others_from first second i j ≡ others_from first second (i + 1) (j + 1) =
           both_symbols
@@ -145,7 +139,7 @@ module _ (first second : List ℕ) (i j : ℕ) (asked : (i < record_count (old_f
           in
           (same, omega arith, omega arith, omega arith, omega arith, omega arith)
 
-      pub other_symbol_lem : ¬ (count ≡ count') → Moved first second i j move.Other
+      pub other_symbol_lem : ¬ (count ≡ count') → Moved first second i j (Break (Some j))
       other_symbol_lem e =
           both_symbols
           ∙ others_here (count_of (record_part (old_file first) i)) (symbol_list (drop (suc i) (records (old_file first)))) j (decoded (record_part (old_file second) j)) (drop (suc j) (records (old_file second))) second_symbol
@@ -156,15 +150,12 @@ pub first_ended : (first second : List ℕ) (i j : ℕ) → record_count (old_fi
 first_ended first second i j h = ap (λ (rs : List Record). first_other (symbol_list rs) j (drop j (records (old_file second)))) (none_left first i h)
 
 -- What a comparison says, by its cases.
-module _ (first second : List ℕ) (i j : ℕ) {m : Move} (moved : Moved first second i j m) (whole : others_from first second i j ≡ others_from first second 0 0) where
-  pub goes_on : {a b : ℕ} → m ≡ move.To a b → Moved first second i j (move.To a b)
+module _ (first second : List ℕ) (i j : ℕ) {m : ControlFlow (Found.Option ℕ) (ℕ × ℕ)} (moved : Moved first second i j m) (whole : others_from first second i j ≡ others_from first second 0 0) where
+  pub goes_on : {to : ℕ × ℕ} → m ≡ Continue to → Moved first second i j (Continue to)
   goes_on e = subst (Moved first second i j) e moved
 
-  pub goes_on_whole : {a b : ℕ} → m ≡ move.To a b → others_from first second a b ≡ others_from first second 0 0
+  pub goes_on_whole : {to : ℕ × ℕ} → m ≡ Continue to → others_from first second to.0 to.1 ≡ others_from first second 0 0
   goes_on_whole e = sym (goes_on e).0 ∙ whole
 
-  pub ends_without : m ≡ move.Ended → none ≡ others_from first second 0 0
-  ends_without e = sym (subst (Moved first second i j) e moved) ∙ whole
-
-  pub ends_with : m ≡ move.Other → some j ≡ others_from first second 0 0
-  ends_with e = sym (subst (Moved first second i j) e moved) ∙ whole
+  pub ends : {found : Found.Option ℕ} → m ≡ Break found → found_given found ≡ others_from first second 0 0
+  ends e = sym (subst (Moved first second i j) e moved) ∙ whole

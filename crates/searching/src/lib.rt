@@ -8,91 +8,72 @@ ghost use Rattle.merging.specs.Answer.{first_where, symbol_list, first_other};
 ghost use Rattle.searching.specs.Searching.{found_given, Moved};
 
 use record::{Form, count, kind, record_part};
-
-// The record of a number, or none.
-#[derive(Clone, Copy)]
-pub enum Found {
-    At(u16),
-    Nothing,
-}
-
-// Where a comparison goes on, in the first file and in the second; or that it has ended without a difference, or with one.
-#[derive(Clone, Copy)]
-enum Move {
-    To(usize, u16),
-    Ended,
-    Other,
-}
+use std::ops::ControlFlow;
 
 // Whether a record is a step.
 fn is_step(part: &[u8]) -> bool
     ensures { result ≡ is_step (decoded part.now) }
 {
-    let k = kind(part);
-    if k < 5 {
-        return false;
-    }
-    k <= 7
+    matches!(kind(part), 5..=7)
 }
 
 // The first record of a file that is a step.
-pub fn first_step(file: &[u8]) -> Found
+pub fn first_step(file: &[u8]) -> Option<u16>
     requires { length file.now ≤ 65536 }
     ensures { found_given result ≡ first_where is_step 0 (records (old_file file.now)) }
 {
-    let mut k: u16 = 0;
-    while (k as usize) < file.len() / 16 {
+    for k in 0..(file.len() / 16) as u16 {
         if is_step(record_part(Form::Old, file, k as usize)) {
-            return Found::At(k);
+            return Some(k);
         }
-        k += 1;
     }
-    Found::Nothing
+    None
 }
 
-// One move of the comparison of symbols: past a record that is no symbol, in the first file and then in the second; or two symbols are compared.
-fn compare_at(first: &[u8], second: &[u8], i: usize, j: u16) -> Move
+// One move of the comparison of symbols, and where it goes on, in the first file and in the second: past a record that is no symbol, in the first file and then in
+// the second, or past two symbols that are the same. Or it ends, with the record of a symbol that differs, or with none.
+fn compare_at(
+    first: &[u8],
+    second: &[u8],
+    i: usize,
+    j: u16,
+) -> ControlFlow<Option<u16>, (usize, u16)>
     requires { (i < record_count (old_file first.now)) × (length second.now ≤ 65536) × (j ≤ 4096) }
     ensures { Moved first.now second.now i j result }
 {
     let mine = record_part(Form::Old, first, i);
     if kind(mine) != 1 {
-        return Move::To(i + 1, j);
+        return ControlFlow::Continue((i + 1, j));
     }
     if second.len() / 16 <= (j as usize) {
-        return Move::Ended;
+        return ControlFlow::Break(None);
     }
     let theirs = record_part(Form::Old, second, j as usize);
     if kind(theirs) != 1 {
-        return Move::To(i, j + 1);
+        return ControlFlow::Continue((i, j + 1));
     }
     if count(mine) == count(theirs) {
-        return Move::To(i + 1, j + 1);
+        return ControlFlow::Continue((i + 1, j + 1));
     }
-    Move::Other
+    ControlFlow::Break(Some(j))
 }
 
 // The second file's first symbol record that differs from the first's symbol of its number. One pass over both files.
-pub fn first_other(first: &[u8], second: &[u8]) -> Found
+pub fn first_other(first: &[u8], second: &[u8]) -> Option<u16>
     requires { length second.now ≤ 65536 }
     ensures { found_given result ≡ first_other (symbol_list (records (old_file first.now))) 0 (records (old_file second.now)) }
 {
+    // No count: a turn goes on in one file or in both.
     let mut i: usize = 0;
     let mut j: u16 = 0;
     while i < first.len() / 16 {
-        let m = compare_at(first, second, i, j);
-        match m {
-            Move::To(next, other) => {
+        match compare_at(first, second, i, j) {
+            ControlFlow::Continue((next, other)) => {
                 i = next;
                 j = other;
             }
-            Move::Ended => {
-                return Found::Nothing;
-            }
-            Move::Other => {
-                return Found::At(j);
-            }
+            ControlFlow::Break(found) => return found,
         }
     }
-    Found::Nothing
+    None
 }

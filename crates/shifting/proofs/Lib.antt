@@ -1,2 +1,1 @@
-pub mod Dropping
 pub mod Placing

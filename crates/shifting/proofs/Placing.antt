@@ -2,7 +2,8 @@
 use mathlib.Core.Path.{◌≡◌, refl, sym, ap, ap₂, ◌∙◌}
 use mathlib.Core.Bool.{Bool, true, false}
 use mathlib.Core.List.{List, [], ◌∷◌, ◌++◌, map, map-append, append-nil}
-use Prim.Native.Nat.{ℕ, suc, ◌+◌, ◌-◌, ◌*◌, ◌/◌, ◌%◌, ◌≤◌, ◌<◌}
+use Prim.Native.Nat.{ℕ, suc, ◌+◌, ◌-◌, ◌*◌, ◌≤◌, ◌<◌}
+use native.Mathlib.Numerals.{add-one}
 use native.Mathlib.Omega.{arith}
 use lib.ListN.{length, take, drop, length-append, length-map, drop_of_length-le}
 use lib.Seq.{drop-drop}
@@ -81,41 +82,33 @@ symbols_few : (s : ℕ) (b : Bool) → pick b (suc s) s ≤ suc s
 symbols_few s true = omega arith
 symbols_few s false = omega arith
 
--- What is left of the second file from a byte on, where s symbols were before.
+-- What is left of the second file from record k on, where s symbols were before.
 abbrev left : List ℕ → ℕ → ℕ → ℕ → List Record
-left second symbols s from = without_symbols symbols s (drop (from / 16) (records (old_file second)))
+left second symbols s k = without_symbols symbols s (drop k (records (old_file second)))
 
-pub record Reached (second : List ℕ) (symbols rows clauses : ℕ) (before : List ℕ) (at : ℕ) (output : List ℕ) (from next s : ℕ) : Type 0 where
-  pub whole : from % 16 ≡ 0
-  pub inside : from ≤ length second
-  pub few : 16 * s ≤ from
+pub record Reached (second : List ℕ) (symbols rows clauses : ℕ) (before : List ℕ) (at : ℕ) (output : List ℕ) (k next s : ℕ) : Type 0 where
+  pub few : s ≤ k
   pub size : length output ≡ length before
-  pub ends : next + 16 * length (without_symbols symbols s (drop (from / 16) (records (old_file second)))) ≡ at + 16 * length (without_symbols symbols 0 (records (old_file second)))
-  pub bytes : placed_at next (shifted_bytes rows clauses (without_symbols symbols s (drop (from / 16) (records (old_file second))))) output ≡ placed_at at (shifted_bytes rows clauses (without_symbols symbols 0 (records (old_file second)))) before
+  pub ends : next + 16 * length (without_symbols symbols s (drop k (records (old_file second)))) ≡ at + 16 * length (without_symbols symbols 0 (records (old_file second)))
+  pub bytes : placed_at next (shifted_bytes rows clauses (without_symbols symbols s (drop k (records (old_file second))))) output ≡ placed_at at (shifted_bytes rows clauses (without_symbols symbols 0 (records (old_file second)))) before
 
 module _ (second : List ℕ) (symbols rows clauses : ℕ) (before : List ℕ) (at : ℕ) (asked : SecondWritable second symbols before at) where
   pub reached_first : Reached second symbols rows clauses before at before 0 at 0
-  reached_first = record { whole = refl; inside = omega arith; few = omega arith; size = refl; ends = refl; bytes = refl }
+  reached_first = record { few = omega arith; size = refl; ends = refl; bytes = refl }
 
-  module _ (output : List ℕ) (from next s : ℕ) (reached : Reached second symbols rows clauses before at output from next s) where
-    module _ (more : from < length second) {rest : List ℕ} (is_rest : rest ≡ drop from second) where
-      k_inside : from / 16 < record_count (old_file second)
-      k_inside = omega (arith, reached.whole, asked.whole)
+  module _ (output : List ℕ) (k next s : ℕ) (reached : Reached second symbols rows clauses before at output k next s) where
+    module _ (inside : k < record_count (old_file second)) {rest : List ℕ} (is_rest : rest ≡ drop (16 * k) second) where
+      rest_decoded : decoded rest ≡ decoded (record_part (old_file second) k)
+      rest_decoded = ap decoded is_rest ∙ sym (part_decoded second k inside)
 
-      rest_decoded : decoded rest ≡ decoded (record_part (old_file second) (from / 16))
-      rest_decoded =
-          let e : from ≡ 16 * (from / 16) = omega (arith, reached.whole) in
-          ap decoded (is_rest ∙ ap (λ (n : ℕ). drop n second) e) ∙ sym (part_decoded second (from / 16) k_inside)
-
-      split : {s' : ℕ} → s' ≡ symbols_after s (decoded rest) → left second symbols s from ≡ next_record rest s symbols ++ left second symbols s' (from + 16)
+      split : {s' : ℕ} → s' ≡ symbols_after s (decoded rest) → left second symbols s k ≡ next_record rest s symbols ++ left second symbols s' (k + 1)
       split {s'} q =
-          let on : suc (from / 16) ≡ (from + 16) / 16 = omega arith in
-          ap (without_symbols symbols s) (record_numbered (old_file second) (from / 16) k_inside ∙ ap (λ (r : Record). r ∷ drop (suc (from / 16)) (records (old_file second))) (sym rest_decoded))
-          ∙ unless_joined (is_dropped symbols s (decoded rest)) (decoded rest) (without_symbols symbols (symbols_after s (decoded rest)) (drop (suc (from / 16)) (records (old_file second))))
-          ∙ ap₂ (λ (n m : ℕ). next_record rest s symbols ++ without_symbols symbols n (drop m (records (old_file second)))) (sym q) on
+          ap (without_symbols symbols s) (record_numbered (old_file second) k inside ∙ ap (λ (r : Record). r ∷ drop (suc k) (records (old_file second))) (sym rest_decoded))
+          ∙ unless_joined (is_dropped symbols s (decoded rest)) (decoded rest) (without_symbols symbols (symbols_after s (decoded rest)) (drop (suc k) (records (old_file second))))
+          ∙ ap₂ (λ (n m : ℕ). next_record rest s symbols ++ without_symbols symbols n (drop m (records (old_file second)))) (sym q) (sym (add-one k))
 
-      split_length : {s' : ℕ} → s' ≡ symbols_after s (decoded rest) → length (left second symbols s from) ≡ length (next_record rest s symbols) + length (left second symbols s' (from + 16))
-      split_length {s'} q = ap (λ (rs : List Record). length rs) (split q) ∙ length-append (next_record rest s symbols) (left second symbols s' (from + 16))
+      split_length : {s' : ℕ} → s' ≡ symbols_after s (decoded rest) → length (left second symbols s k) ≡ length (next_record rest s symbols) + length (left second symbols s' (k + 1))
+      split_length {s'} q = ap (λ (rs : List Record). length rs) (split q) ∙ length-append (next_record rest s symbols) (left second symbols s' (k + 1))
 
       next_fits : next + 16 * length (next_record rest s symbols) ≤ length output
       next_fits = omega (arith, split_length refl, reached.ends, reached.size, asked.room)
@@ -124,29 +117,27 @@ module _ (second : List ℕ) (symbols rows clauses : ℕ) (before : List ℕ) (a
       next_writable = record { room = next_fits }
 
       pub reached_more : {output' : List ℕ} {next' s' : ℕ} → NextWritten rest s symbols rows clauses output next output' next' → s' ≡ symbols_after s (decoded rest)
-          → Reached second symbols rows clauses before at output' (from + 16) next' s'
+          → Reached second symbols rows clauses before at output' (k + 1) next' s'
       reached_more {output'} {next'} {s'} w q =
           let N : List ℕ = shifted_bytes rows clauses (next_record rest s symbols) in
-          let L : List ℕ = shifted_bytes rows clauses (left second symbols s' (from + 16)) in
+          let L : List ℕ = shifted_bytes rows clauses (left second symbols s' (k + 1)) in
           let long : length N ≡ 16 * length (next_record rest s symbols) = shifted_length rows clauses (next_record rest s symbols) in
           let room : next + length N ≤ length output = omega (arith, long, next_fits) in
           let e : next' ≡ next + length N = omega (arith, long, w.ends) in
-          let joined : shifted_bytes rows clauses (left second symbols s from) ≡ N ++ L =
-          ap (shifted_bytes rows clauses) (split q) ∙ shifted_joined rows clauses (next_record rest s symbols) (left second symbols s' (from + 16))
+          let joined : shifted_bytes rows clauses (left second symbols s k) ≡ N ++ L =
+          ap (shifted_bytes rows clauses) (split q) ∙ shifted_joined rows clauses (next_record rest s symbols) (left second symbols s' (k + 1))
           in
           record {
-            whole = omega (arith, reached.whole);
-            inside = omega (arith, reached.whole, asked.whole);
             few = omega (arith, reached.few, symbols_few s (is_symbol (decoded rest)));
             size = ap (λ (l : List ℕ). length l) w.bytes ∙ place_length next N output room ∙ reached.size;
             ends = omega (arith, split_length q, reached.ends, w.ends);
             bytes = ap₂ (λ (n : ℕ) (l : List ℕ). placed_at n L l) e w.bytes ∙ place_two next N output room L ∙ sym (ap (λ (l : List ℕ). placed_at next l output) joined) ∙ reached.bytes;
           }
 
-    pub reached_end : length second ≤ from → SecondWritten second symbols rows clauses before at output next
+    pub reached_end : record_count (old_file second) ≤ k → SecondWritten second symbols rows clauses before at output next
     unfolding bytes_in
     reached_end h =
-        let none : drop (from / 16) (records (old_file second)) ≡ [] = drop_of_length-le (records (old_file second)) {i = from / 16} (omega (arith, records_length (old_file second))) in
+        let none : drop k (records (old_file second)) ≡ [] = drop_of_length-le (records (old_file second)) {i = k} (omega (arith, records_length (old_file second))) in
         record {
           bytes = sym (ap (λ (rs : List Record). placed_at next (shifted_bytes rows clauses (without_symbols symbols s rs)) output) none ∙ place_none next output) ∙ reached.bytes;
           ends = omega (arith, ap (λ (rs : List Record). length (without_symbols symbols s rs)) none, reached.ends);

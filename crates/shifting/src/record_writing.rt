@@ -11,7 +11,7 @@ use record::kind;
 fn is_dropped(rest: &[u8], s: u16, symbols: u16) -> bool
     ensures { result ≡ is_dropped symbols s (decoded rest.now) }
 {
-    if kind(rest) == 1 { s < symbols } else { false }
+    kind(rest) == 1 && s < symbols
 }
 
 // The number of the next symbol, after a record.
@@ -55,14 +55,12 @@ pub fn write_second(
     requires { SecondWritable second.now symbols output.old at }
     ensures { SecondWritten second.now symbols rows clauses output.old at output.new result }
 {
-    let mut from: usize = 0;
-    let mut next: usize = at;
+    let mut next = at;
     let mut s: u16 = 0;
-    while from < second.len() {
-        let rest = &second[from..];
+    for k in 0..second.len() / 16 {
+        let rest = &second[16 * k..];
         next = write_next(rest, s, symbols, rows, clauses, output, next);
         s = symbols_after(s, rest);
-        from += 16;
     }
     next
 }

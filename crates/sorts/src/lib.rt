@@ -11,9 +11,5 @@ use record::kind;
 pub fn clauses_of(part: &[u8]) -> usize
     ensures { result ≡ one (is_clause (decoded part.now)) }
 {
-    let tag = kind(part);
-    if tag < 4 {
-        return 0;
-    }
-    if 7 < tag { 0 } else { 1 }
+    usize::from(matches!(kind(part), 4..=7))
 }

@@ -2,13 +2,14 @@
 // has the contracts.
 #![tactic(auto)]
 
-ghost use Rattle.std.specs.Prelude.{◌≡◌, length};
+ghost use Rattle.std.specs.Prelude.{◌≡◌};
 ghost use Rattle.record.specs.Record.{in_form};
 ghost use Rattle.force.specs.Flags.{flags_in_force};
 ghost use Rattle.answer.specs.Given.{verdict_coded, answer_given, ended_numbers, standing_numbers, accepts, all_set};
 
-use answer::{Answer, Ended, Verdict, with_counts};
+use answer::{Answer, Refused, Verdict, with_counts};
 use clauses::literals_cell;
+use entry::entry::Counts;
 use flagging::in_force;
 use following::nodes::Origins;
 use record::Form;
@@ -18,23 +19,17 @@ use tables::cell;
 fn is_accepted(clauses: &[u16], flags: &[u16], c: u16) -> bool
     ensures { result ≡ accepts clauses.now flags.now c }
 {
-    if literals_cell(clauses, c) == 0 {
-        cell(flags, c as usize) == 1
-    } else {
-        false
-    }
+    cell(flags, c as usize) == 1 && literals_cell(clauses, c) == 0
 }
 
 // The first clause without literals among those in force.
 fn first_accepted(clauses: &[u16], flags: &[u16], count: u16) -> Verdict
     ensures { verdict_coded result ≡ standing_numbers clauses.now flags.now count }
 {
-    let mut c = 0u16;
-    while c < count {
+    for c in 0..count {
         if is_accepted(clauses, flags, c) {
             return Verdict::Accepted(c);
         }
-        c += 1;
     }
     Verdict::Open
 }
@@ -48,7 +43,6 @@ fn standing(
     origins: &Origins,
     count: u16,
 ) -> Verdict
-    requires { length origins.now ≡ 32768 }
     ensures { verdict_coded result ≡ standing_numbers clauses.now (flags_in_force day (in_form form file.now) origins.now count all_set) count }
 {
     let mut flags = [1u16; 4096];
@@ -61,15 +55,14 @@ pub fn ended_answer(
     form: Form,
     day: u16,
     file: &[u8],
-    e: Ended,
+    e: Result<Counts, Refused>,
     clauses: &[u16],
     origins: &Origins,
 ) -> Answer
-    requires { length origins.now ≡ 32768 }
     ensures { answer_given result ≡ ended_numbers day (in_form form file.now) e clauses.now origins.now }
 {
     match e {
-        Ended::All(n) => with_counts(standing(form, day, file, clauses, origins, n.clauses), n),
-        Ended::Refused(q, k, n) => with_counts(Verdict::Refused(q, k), n),
+        Ok(n) => with_counts(standing(form, day, file, clauses, origins, n.clauses), n),
+        Err(r) => with_counts(Verdict::Refused(r.reason.number(), r.number), r.counts),
     }
 }

@@ -8,17 +8,14 @@ ghost use Rattle.verdict.specs.Refusal.{in_range, rising};
 ghost use Rattle.fields.specs.Fields.{step_in_range, right_count};
 
 use ranges::zeros_from;
-use record::{count, field, kind};
+use record::{count, kind};
+use record_fields::fields;
 
 // A resolve uses four fields, a factor and a window three; byte 1 is zero in all.
 pub fn step_in_range(part: &[u8], used: u8) -> bool
     ensures { result ≡ step_in_range used (decoded part.now) }
 {
-    if count(part) == 0 {
-        zeros_from(part, used)
-    } else {
-        false
-    }
+    count(part) == 0 && zeros_from(part, used)
 }
 
 // A resolve on several right literals has one to four of them, from field d on.
@@ -26,14 +23,7 @@ pub fn several_in_range(part: &[u8]) -> bool
     ensures { result ≡ in_range severalKind (decoded part.now) }
 {
     let n = count(part);
-    if n == 0 {
-        return false;
-    }
-    if n <= 4 {
-        zeros_from(part, 3 + n)
-    } else {
-        false
-    }
+    matches!(n, 1..=4) && zeros_from(part, 3 + n)
 }
 
 // How many right literals a resolve names, one or as many as byte 1 says; none where byte 1 or an unused field is out of its range.
@@ -41,9 +31,8 @@ pub fn right_count(part: &[u8]) -> u8
     ensures { result ≡ right_count part.now }
 {
     if kind(part) == 5 {
-        return if step_in_range(part, 4) { 1 } else { 0 };
-    }
-    if several_in_range(part) {
+        u8::from(step_in_range(part, 4))
+    } else if several_in_range(part) {
         count(part)
     } else {
         0
@@ -55,13 +44,5 @@ pub fn rights_rise(part: &[u8], n: u8) -> bool
     requires { n ≤ 4 }
     ensures { result ≡ rising (take n (drop 3 (fields_of part.now))) }
 {
-    let last = n + 2;
-    let mut i: u8 = 3;
-    while i < last {
-        if field(part, i) >= field(part, i + 1) {
-            return false;
-        }
-        i += 1;
-    }
-    true
+    fields(part)[3..][..usize::from(n)].is_sorted_by(|a, b| a < b)
 }

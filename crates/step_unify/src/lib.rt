@@ -9,6 +9,7 @@ ghost use Rattle.inference.specs.Stepping.{Resolving, UnifiedTables, atom_named,
 
 use clauses::index_cell;
 use entry::entry::Counts;
+use following::failure::Failure;
 use following::nodes::{Nodes, Origins};
 use following::values::ValueCells;
 use inference::Atom;
@@ -31,7 +32,7 @@ pub fn unify_resolve(
     right: u16,
     listed: &[u16; 8],
     n: u16,
-) -> Unified
+) -> Result<Unified, Failure>
     requires { Resolving k counts clauses.now bindings.old nodes.now origins.now values.old left right listed.now n }
     ensures rights_named_value { (R : Resolving k counts clauses.now bindings.old nodes.now origins.now values.old left right listed.now n) → unify_resolve R.step.state (atom_named R.left) (rights_named R.rights) ≡ outcome_of bindings.new counts.bindings result }
     ensures unified_tables { UnifiedTables bindings.old bindings.new values.new counts.bindings result }
@@ -65,7 +66,7 @@ pub fn unify_factor(
     values: &mut ValueCells,
     kept: Atom,
     deleted: Atom,
-) -> Unified
+) -> Result<Unified, Failure>
     requires { Factoring k counts clauses.now bindings.old nodes.now origins.now values.old kept deleted }
     ensures atom_named_value { (R : Factoring k counts clauses.now bindings.old nodes.now origins.now values.old kept deleted) → unify_factor R.step.state (atom_named R.kept) (atom_named R.deleted) ≡ outcome_of bindings.new counts.bindings result }
     ensures unified_tables { UnifiedTables bindings.old bindings.new values.new counts.bindings result }

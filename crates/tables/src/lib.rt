@@ -2,6 +2,8 @@
 // contracts.
 #![tactic(auto)]
 
+pub mod lent;
+
 ghost use Rattle.std.specs.Prelude.{◌≡◌, ◌≤◌, length, get_or, set};
 ghost use Rattle.tables.specs.Cells.{cleared_part, with_clause_cells};
 
@@ -9,7 +11,7 @@ ghost use Rattle.tables.specs.Cells.{cleared_part, with_clause_cells};
 pub fn cell(table: &[u16], at: usize) -> u16
     ensures { result ≡ get_or table.now at 0 }
 {
-    if at < table.len() { table[at] } else { 0 }
+    table.get(at).copied().unwrap_or(0)
 }
 
 // A cell written, if the table has it.
@@ -27,11 +29,7 @@ pub fn clear(table: &mut [u16], from: usize, to: usize)
     requires to_in_bounds { to ≤ length table.old }
     ensures { table.new ≡ cleared_part from to table.old }
 {
-    let mut k = from;
-    while k < to {
-        table[k] = 0;
-        k += 1;
-    }
+    table[from..to].fill(0);
 }
 
 // The five cells of clause c: its record k, how many literals it has, its maximum index, its first binding and how many it has.
@@ -46,7 +44,7 @@ pub fn put_clause(
 )
     ensures { clauses.new ≡ with_clause_cells clauses.old c k literals index first count }
 {
-    let at = 5 * (c as usize);
+    let at = 5 * usize::from(c);
     set_cell(clauses, at, k);
     set_cell(clauses, at + 1, literals);
     set_cell(clauses, at + 2, index);

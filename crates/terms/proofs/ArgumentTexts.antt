@@ -6,6 +6,7 @@ use Prim.Native.Nat.{ℕ, ◌+◌, ◌-◌, ◌≤◌, ◌<◌}
 use native.Mathlib.Omega.{arith}
 use lib.Dec.{eqb}
 use lib.ListN.{length}
+use Rattle.std.specs.Prelude.{Some, None}
 use borrow.Author.Tests.{ne_eqb}
 use Rattle.record.specs.Record.{pick}
 use Rattle.unification.specs.Environment.{Environment}
@@ -23,7 +24,7 @@ use Rattle.appearance.proofs.Positions.{longer_same, longer_then, appearing_long
 use Rattle.numbering.proofs.Keeping.{numbered_back}
 use Rattle.text.specs.Buffer.{Wrote}
 use Rattle.terms.specs.Writing.{mark_before, closing_text, Writable, WritingReady, WritingArgumentsReady, WritesTerm, arguments_out, WritesArguments}
-use Rattle.terms.specs.declared.Written.TheVariants.{Done, TooMany}
+use Rattle.terms.specs.declared.Written.{Written}
 use Rattle.text.proofs.Positions.{kept_then, wrote_nothing, wrote_onward, wrote_then}
 use Rattle.terms.proofs.TermTexts.{writable_at}
 
@@ -72,7 +73,7 @@ module _ (naming : Naming) (N A T K L : List ℕ) (count at r k left : ℕ) wher
       }
 
   module _ (A₁ T₁ K₁ L₁ : List ℕ) (end n rest spare numbered : ℕ) (S : Scanned naming N A A₁ T T₁ K K₁ L L₁ count at r k left end n rest spare numbered) where
-    pub scan_end : rest ≡ 0 → (T₂ : List ℕ) (last : ℕ) → Wrote T₁ T₂ end last (closing_text n) → WritesArguments naming N A A₁ T T₂ K K₁ L L₁ count at r k left (Done last spare numbered)
+    pub scan_end : rest ≡ 0 → (T₂ : List ℕ) (last : ℕ) → Wrote T₁ T₂ end last (closing_text n) → WritesArguments naming N A A₁ T T₂ K K₁ L L₁ count at r k left (Some (record { place = record { end = last; count = numbered }; left = spare }))
     scan_end z T₂ last v top ρ row term σ W f seen G =
         let S' = S top ρ row term σ W f seen G in
         let whole : (name : Variable → List ℕ) → S'.before name ++ closing_text n ≡ arguments_text name (arguments_out N term σ r k (node_arity N r) 1) = λ name. rw z at (S'.whole name) in
@@ -120,30 +121,31 @@ module _ (naming : Naming) (N A T K L : List ℕ) (count at r k left : ℕ) wher
             ∙ ap (λ (l : List ℕ). here.before name ++ l) (sym (ap (text_from name n) rest_out ∙ from_one name n argument further low))
             ∙ here.whole name
 
-      pub scan_broke : (A₂ T₃ K₂ L₂ : List ℕ) → WritesTerm naming N A₁ A₂ T₂ T₃ K₁ K₂ L₁ L₂ numbered begin (a, k) spare TooMany → WritesArguments naming N A A₂ T T₃ K K₂ L L₂ count at r k left TooMany
+      pub scan_broke : (A₂ T₃ K₂ L₂ : List ℕ) → WritesTerm naming N A₁ A₂ T₂ T₃ K₁ K₂ L₁ L₂ numbered begin (a, k) spare None → WritesArguments naming N A A₂ T T₃ K K₂ L L₂ count at r k left None
       scan_broke A₂ T₃ K₂ L₂ X top ρ row term σ W f seen G =
           let S' = S top ρ row term σ W f seen G in
           let X' = X top ρ row term σ (argument_writable top ρ row term σ W f seen G) S'.sofar S'.numbers in
           let M = mark_written top ρ row term σ W f seen G S'.sofar (longer_same S'.sofar) in
           record { models = X'.models; came = (omega (arith, counted top ρ row term σ W f seen G, X'.came.0), numbered_back naming N K L K₂ L₂ count numbered seen S'.sofar S'.later G X'.came.1, kept_then T T₂ T₃ at begin (wrote_onward M) M.kept X'.came.2) }
 
-      pub scan_next : (A₂ T₃ K₂ L₂ : List ℕ) (after l c : ℕ) → WritesTerm naming N A₁ A₂ T₂ T₃ K₁ K₂ L₁ L₂ numbered begin (a, k) spare (Done after l c) → Scanned naming N A A₂ T T₃ K K₂ L L₂ count at r k left after (n + 1) (rest - 1) l c
-      scan_next A₂ T₃ K₂ L₂ after l c X top ρ row term σ W f seen G =
+      pub scan_next : (A₂ T₃ K₂ L₂ : List ℕ) (w : Written) (fewer : ℕ) → rest - 1 ≡ fewer → WritesTerm naming N A₁ A₂ T₂ T₃ K₁ K₂ L₁ L₂ numbered begin (a, k) spare (Some w) → Scanned naming N A A₂ T T₃ K K₂ L L₂ count at r k left w.place.end (n + 1) fewer w.left w.place.count
+      scan_next A₂ T₃ K₂ L₂ w fewer e X top ρ row term σ W f seen G =
           let S' = S top ρ row term σ W f seen G in
           let X' = X top ρ row term σ (argument_writable top ρ row term σ W f seen G) S'.sofar S'.numbers in
           let t = written_out term σ (a, k) in
           let onto = appearing_longer S'.sofar t in
-          record {
+          subst (λ (m : ℕ). Scanning naming N top A₂ ρ row term σ T T₃ K₂ L₂ at r k left w.place.end (n + 1) m w.left w.place.count seen) e
+          (record {
             models = X'.models;
             sofar = appearing S'.sofar t;
             later = longer_then S'.later onto;
             numbers = X'.came.1;
             onward = sym (ap (all_appearing S'.sofar) (rest_out top ρ row term σ W f seen G)) ∙ S'.onward;
             before = λ name. (S'.before name ++ (m ∷ [])) ++ term_text name t;
-            wrote = λ all H. wrote_then T T₂ T₃ at begin after (S'.before (name_of naming row all) ++ (m ∷ [])) (term_text (name_of naming row all) t) (mark_written top ρ row term σ W f seen G all (longer_then onto H)) (X'.came.2 all H);
+            wrote = λ all H. wrote_then T T₂ T₃ at begin w.place.end (S'.before (name_of naming row all) ++ (m ∷ [])) (term_text (name_of naming row all) t) (mark_written top ρ row term σ W f seen G all (longer_then onto H)) (X'.came.2 all H);
             whole = λ name. append_assoc (S'.before name ++ (m ∷ [])) (term_text name t) (text_from name (n + 1) (arguments_out N term σ r k (rest - 1) (n + 1))) ∙ joined top ρ row term σ W f seen G name;
             count = omega (arith, counted top ρ row term σ W f seen G, X'.came.0);
-          }
+          })
 
 -- What writing the argument at hand asks.
 pub argument_ready : {naming : Naming} {N A A₁ T T₁ K K₁ L L₁ : List ℕ} {count at r k left end n rest spare numbered : ℕ} → WritingArgumentsReady naming N A T K L count r k left → Scanned naming N A A₁ T T₁ K K₁ L L₁ count at r k left end n rest spare numbered → 0 < rest → 1 ≤ n → n + rest ≡ node_arity N r + 1

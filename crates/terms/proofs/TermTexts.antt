@@ -1,6 +1,7 @@
 -- A term that the program writes out, step by step, is the term's text.
 use mathlib.Core.Path.{◌≡◌, refl, sym, ap, ◌∙◌, subst}
 use mathlib.Core.Option.{Option, none, some}
+use Rattle.std.specs.Prelude.{Option as Perhaps, Some, None}
 use mathlib.Core.List.{List, ◌∷◌, ◌++◌}
 use Prim.Native.Nat.{ℕ, zero, suc, ◌+◌, ◌-◌, ◌≤◌, ◌<◌}
 use native.Mathlib.Omega.{arith}
@@ -25,7 +26,6 @@ use Rattle.names.specs.declared.Place.{Place}
 use Rattle.text.specs.Buffer.{Wrote}
 use Rattle.terms.specs.Writing.{Writable, WritingReady, WritingArgumentsReady, Came, Writing, WritesTerm, arguments_out, WritesArguments, FewerOccurrencesLeft, NoMoreOccurrencesLeft}
 use Rattle.terms.specs.declared.Written.{Written}
-use Rattle.terms.specs.declared.Written.TheVariants.{Done, TooMany}
 use Rattle.text.proofs.Positions.{kept_same, kept_then, wrote_onward, wrote_then}
 
 -- Following sees the node table as it sees the rows.
@@ -72,34 +72,31 @@ some_occurrence : (t : Term Var) → 0 < occurrences t
 some_occurrence (var x) = omega arith
 some_occurrence (app s ts) = omega arith
 
-pub leaves_less : (left l count : ℕ) (w : Written) → l < left → NoMoreOccurrencesLeft l count w → FewerOccurrencesLeft left count w
-leaves_less left l count (Done end m c) h k = (omega (arith, k.0), omega (arith, k.1))
-leaves_less left l count TooMany h k = tt
-
-pub done_less : (left count : ℕ) {end l c : ℕ} {w : Written} → w ≡ Done end l c → FewerOccurrencesLeft left count w → (l < left) × (c + l ≤ count + left)
-done_less left count q h = subst (FewerOccurrencesLeft left count) q h
+pub leaves_less : (left l count : ℕ) (w : Perhaps Written) → l < left → NoMoreOccurrencesLeft l count w → FewerOccurrencesLeft left count w
+leaves_less left l count (Some w) h k = (omega (arith, k.0), omega (arith, k.1))
+leaves_less left l count None h k = tt
 
 -- An application is written by its symbol and then its arguments.
-came_application : (naming : Naming) (N : List ℕ) (row : ℕ → Row) (T T₁ T₂ K L : List ℕ) (count at next left : ℕ) (x : List ℕ) (y : (Var → List ℕ) → List ℕ) (size : ℕ) (seen after : List Var) (w : Written) → (left ≡ 0 → ⊥) → Wrote T T₁ at next x
+came_application : (naming : Naming) (N : List ℕ) (row : ℕ → Row) (T T₁ T₂ K L : List ℕ) (count at next left : ℕ) (x : List ℕ) (y : (Var → List ℕ) → List ℕ) (size : ℕ) (seen after : List Var) (w : Perhaps Written) → (left ≡ 0 → ⊥) → Wrote T T₁ at next x
     → Came naming N row T₁ T₂ K L count next (left - 1) y size seen after w → Came naming N row T T₂ K L count at left (λ name. x ++ y name) (suc size) seen after w
-came_application naming N row T T₁ T₂ K L count at next left x y size seen after (Done end l c) nz v g = (omega (arith, g.0), g.1, λ all W. wrote_then T T₁ T₂ at next end x (y (name_of naming row all)) v (g.2 all W))
-came_application naming N row T T₁ T₂ K L count at next left x y size seen after TooMany nz v g = (omega (arith, g.0), g.1, kept_then T T₁ T₂ at next (wrote_onward v) v.kept g.2)
+came_application naming N row T T₁ T₂ K L count at next left x y size seen after (Some w) nz v g = (omega (arith, g.0), g.1, λ all W. wrote_then T T₁ T₂ at next w.place.end x (y (name_of naming row all)) v (g.2 all W))
+came_application naming N row T T₁ T₂ K L count at next left x y size seen after None nz v g = (omega (arith, g.0), g.1, kept_then T T₁ T₂ at next (wrote_onward v) v.kept g.2)
 
 -- The ways out of writing a term.
 module _ (naming : Naming) (N A T K L : List ℕ) (count at : ℕ) (e : Expression) (left : ℕ) where
-  pub term_too_many : left ≡ 0 → WritesTerm naming N A A T T K K L L count at e left TooMany
+  pub term_too_many : left ≡ 0 → WritesTerm naming N A A T T K K L L count at e left None
   term_too_many z top ρ row term σ W seen G = record { models = W.models; came = (omega (arith, some_occurrence (written_out term σ e)), G, kept_same T at) }
 
   module _ (nz : left ≡ 0 → ⊥) (A' : List ℕ) (f : Followed) (F : Follows N A A' e f) where
-    pub term_variable : (r k : ℕ) → f ≡ Variable r k → (T' K' L' : List ℕ) (p : Place) → WritesName naming N T T' at K K' L L' count (r, k) p → WritesTerm naming N A A' T T' K K' L L' count at e left (Done p.end (left - 1) p.count)
+    pub term_variable : (r k : ℕ) → f ≡ Variable r k → (T' K' L' : List ℕ) (p : Place) → WritesName naming N T T' at K K' L L' count (r, k) p → WritesTerm naming N A A' T T' K K' L L' count at e left (Some (record { place = p; left = left - 1 }))
     term_variable r k q T' K' L' p named top ρ row term σ W seen G =
         let X : Walked N top A' ρ e (Variable r k) = subst (Walked N top A' ρ e) q (F top ρ W.models W.in_step) in
         let z = written_variable N top A A' ρ row term σ e W r k X in
-        subst (λ (t : Term Var). Writing naming N top A' ρ row T T' K' L' count at left (λ name. term_text name t) (occurrences t) seen (appearing seen t) (Done p.end (left - 1) p.count)) (sym z.0)
+        subst (λ (t : Term Var). Writing naming N top A' ρ row T T' K' L' count at left (λ name. term_text name t) (occurrences t) seen (appearing seen t) (Some (record { place = p; left = left - 1 }))) (sym z.0)
         (record { models = X.models; came = (omega arith, named.numbered seen G, λ all H. named.wrote row z.1 seen G all H) })
 
     pub term_application : (r k : ℕ) → f ≡ Application r k → (symbol : ℕ) → symbol ≡ part N r 0 → (T₁ : List ℕ) (next : ℕ) → Wrote T T₁ at next (115 ∷ decimal symbol)
-        → (A'' T₂ K' L' : List ℕ) (w : Written) → WritesArguments naming N A' A'' T₁ T₂ K K' L L' count next r k (left - 1) w → WritesTerm naming N A A'' T T₂ K K' L L' count at e left w
+        → (A'' T₂ K' L' : List ℕ) (w : Perhaps Written) → WritesArguments naming N A' A'' T₁ T₂ K K' L L' count next r k (left - 1) w → WritesTerm naming N A A'' T T₂ K K' L L' count at e left w
     term_application r k q symbol p T₁ next v A'' T₂ K' L' w H top ρ row term σ W seen G =
         let X : Walked N top A' ρ e (Application r k) = subst (Walked N top A' ρ e) q (F top ρ W.models W.in_step) in
         let z = written_application N top A A' ρ row term σ e W r k X in
@@ -117,12 +114,10 @@ pub ready_then : {naming : Naming} {N A T K L : List ℕ} {count : ℕ} {e : Exp
 ready_then R T' q =
     record { sized = record { nodes = R.sized.nodes; values = R.sized.values; text = q ∙ R.sized.text }; top = R.top; environment = R.environment; row = R.row; term = R.term; value = R.value; writable = R.writable; seen = R.seen; numbered = R.numbered; room = R.room }
 
-pub name_ready : {naming : Naming} {N A T K L : List ℕ} {count : ℕ} {e : Expression} {left : ℕ} → WritingReady naming N A T K L count e left → (left ≡ 0 → ⊥) → (A' : List ℕ) (f : Followed) → Follows N A A' e f → (r k : ℕ) → f ≡ Variable r k → NameReady naming N T K L count (r, k)
+pub name_ready : {naming : Naming} {N A T K L : List ℕ} {count : ℕ} {e : Expression} {left : ℕ} → WritingReady naming N A T K L count e left → (left ≡ 0 → ⊥) → (A' : List ℕ) (f : Followed) → Follows N A A' e f → (r k : ℕ) → f ≡ Variable r k → NameReady naming N K L count (r, k)
 name_ready {N = N} {A} {e = e} {left} R nz A' f F r k p =
     let X : Walked N R.top A' R.environment e (Variable r k) = subst (Walked N R.top A' R.environment e) p (F R.top R.environment R.writable.models R.writable.in_step) in
     record {
-      nodes = R.sized.nodes;
-      text = R.sized.text;
       table = R.writable.models.table;
       numberable = record { row = X.good.row; variable = (walked_var N R.top A' R.environment e r k X).0; index = omega (arith, X.good.high, R.writable.models.fits) };
       seen = R.seen;

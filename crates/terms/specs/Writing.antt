@@ -1,6 +1,6 @@
 -- The contracts of the functions that write terms and literals into the buffer. What their text is stands in `Text` of the crate verdict; this file only
 -- says how the parts of the program fit together. Of it `Sized` stands in the contract of `write_unit`.
-use Rattle.std.specs.Prelude.{◌≡◌, false, List, [], ◌∷◌, ℕ, ◌+◌, ◌≤◌, ◌<◌, eqb, length}
+use Rattle.std.specs.Prelude.{◌≡◌, false, List, [], ◌∷◌, ℕ, ◌+◌, ◌≤◌, ◌<◌, eqb, length, Option, Some, None}
 use Rattle.record.specs.Record.{pick}
 use Rattle.unification.specs.Environment.{Environment}
 use Rattle.unification.specs.Nodes.{is_variable, node_arity, HasRow, arguments_from, node_row}
@@ -15,7 +15,6 @@ use Rattle.numbering.specs.Numbering.{name_of, Numbered}
 use Rattle.appearance.specs.Growing.{Longer}
 use Rattle.numbering.specs.declared.Naming.{Naming}
 use Rattle.terms.specs.declared.Written.{Written}
-use Rattle.terms.specs.declared.Written.TheVariants.{Done, TooMany}
 
 -- The node table, the array of values and the buffer have their lengths.
 pub record Sized (N A T : List ℕ) : Type 0 where
@@ -62,18 +61,18 @@ pub record WritingArgumentsReady (naming : Naming) (N A T K L : List ℕ) (count
 -- A text, over how variables are named, with so many occurrences, of which at most `left` may be written: it was written, in every line that goes on from the
 -- variables seen after it, what is left was lowered by the occurrences, and these variables have numbers; or it has more, the buffer is kept up to where it would
 -- have begun, and the variables seen before it have their numbers.
-abbrev pub Came : Naming → List ℕ → (ℕ → Row) → List ℕ → List ℕ → List ℕ → List ℕ → ℕ → ℕ → ℕ → ((Variable → List ℕ) → List ℕ) → ℕ → List Variable → List Variable → Written → Type 0
-Came naming N row T T' K L count at left text size seen after (Done end l c) =
-    (size + l ≡ left) × Numbered naming N K L c after × ((all : List Variable) → Longer after all → Wrote T T' at end (text (name_of naming row all)))
-Came naming N row T T' K L count at left text size seen after TooMany = (left < size) × Numbered naming N K L count seen × KeptBefore T T' at
+abbrev pub Came : Naming → List ℕ → (ℕ → Row) → List ℕ → List ℕ → List ℕ → List ℕ → ℕ → ℕ → ℕ → ((Variable → List ℕ) → List ℕ) → ℕ → List Variable → List Variable → Option Written → Type 0
+Came naming N row T T' K L count at left text size seen after (Some w) =
+    (size + w.left ≡ left) × Numbered naming N K L w.place.count after × ((all : List Variable) → Longer after all → Wrote T T' at w.place.end (text (name_of naming row all)))
+Came naming N row T T' K L count at left text size seen after None = (left < size) × Numbered naming N K L count seen × KeptBefore T T' at
 
 -- What came of it, and the array still stands for ρ.
-pub record Writing (naming : Naming) (N : List ℕ) (top : ℕ) (A : List ℕ) (ρ : Environment) (row : ℕ → Row) (T T' K L : List ℕ) (count at left : ℕ) (text : (Variable → List ℕ) → List ℕ) (size : ℕ) (seen after : List Variable) (w : Written) : Type 0 where
+pub record Writing (naming : Naming) (N : List ℕ) (top : ℕ) (A : List ℕ) (ρ : Environment) (row : ℕ → Row) (T T' K L : List ℕ) (count at left : ℕ) (text : (Variable → List ℕ) → List ℕ) (size : ℕ) (seen after : List Variable) (w : Option Written) : Type 0 where
   pub models : Models N top A ρ
   pub came : Came naming N row T T' K L count at left text size seen after w
 
 -- An expression, written out as a term.
-abbrev pub WritesTerm : Naming → List ℕ → List ℕ → List ℕ → List ℕ → List ℕ → List ℕ → List ℕ → List ℕ → List ℕ → ℕ → ℕ → Expression → ℕ → Written → Type 0
+abbrev pub WritesTerm : Naming → List ℕ → List ℕ → List ℕ → List ℕ → List ℕ → List ℕ → List ℕ → List ℕ → List ℕ → ℕ → ℕ → Expression → ℕ → Option Written → Type 0
 WritesTerm naming N A A' T T' K K' L L' count at e left w =
     (top : ℕ) (ρ : Environment) (row : ℕ → Row) (term : ℕ → Term ℕ) (σ : Variable → Term Variable) → Writable N top A ρ row term σ e
     → (seen : List Variable) → Numbered naming N K L count seen
@@ -83,17 +82,17 @@ WritesTerm naming N A A' T T' K K' L L' count at e left w =
 abbrev pub arguments_out : List ℕ → (ℕ → Term ℕ) → (Variable → Term Variable) → ℕ → ℕ → ℕ → ℕ → Terms Variable
 arguments_out N term σ r k m n = apply_all (λ v. σ (v, k)) (argument_terms term (arguments_from N r m n))
 
-abbrev pub WritesArguments : Naming → List ℕ → List ℕ → List ℕ → List ℕ → List ℕ → List ℕ → List ℕ → List ℕ → List ℕ → ℕ → ℕ → ℕ → ℕ → ℕ → Written → Type 0
+abbrev pub WritesArguments : Naming → List ℕ → List ℕ → List ℕ → List ℕ → List ℕ → List ℕ → List ℕ → List ℕ → List ℕ → ℕ → ℕ → ℕ → ℕ → ℕ → Option Written → Type 0
 WritesArguments naming N A A' T T' K K' L L' count at r k left w =
     (top : ℕ) (ρ : Environment) (row : ℕ → Row) (term : ℕ → Term ℕ) (σ : Variable → Term Variable) → Writable N top A ρ row term σ (r, k) → is_variable N r ≡ false
     → (seen : List Variable) → Numbered naming N K L count seen
     → Writing naming N top A' ρ row T T' K' L' count at left (λ name. arguments_text name (arguments_out N term σ r k (node_arity N r) 1)) (all_occurrences (arguments_out N term σ r k (node_arity N r) 1)) seen (all_appearing seen (arguments_out N term σ r k (node_arity N r) 1)) w
 
 -- Less is left than before, or no more than before; and no more variables were numbered than occurrences were written.
-abbrev pub FewerOccurrencesLeft : ℕ → ℕ → Written → Type 0
-FewerOccurrencesLeft left count (Done end l c) = (l < left) × (c + l ≤ count + left)
-FewerOccurrencesLeft left count TooMany = Unit {0}
+abbrev pub FewerOccurrencesLeft : ℕ → ℕ → Option Written → Type 0
+FewerOccurrencesLeft left count (Some w) = (w.left < left) × (w.place.count + w.left ≤ count + left)
+FewerOccurrencesLeft left count None = Unit {0}
 
-abbrev pub NoMoreOccurrencesLeft : ℕ → ℕ → Written → Type 0
-NoMoreOccurrencesLeft left count (Done end l c) = (l ≤ left) × (c + l ≤ count + left)
-NoMoreOccurrencesLeft left count TooMany = Unit {0}
+abbrev pub NoMoreOccurrencesLeft : ℕ → ℕ → Option Written → Type 0
+NoMoreOccurrencesLeft left count (Some w) = (w.left ≤ left) × (w.place.count + w.left ≤ count + left)
+NoMoreOccurrencesLeft left count None = Unit {0}

@@ -2,85 +2,73 @@
 // `Text` of the crate verdict has what its text is, over how variables are named; `Writing` in specs/ says how the parts of this program go about it.
 #![tactic(auto)]
 
-ghost use Rattle.std.specs.Prelude.{◌≡◌, length};
+ghost use Rattle.std.specs.Prelude.{◌≡◌, ◌+◌};
 ghost use Rattle.text.specs.Buffer.{Wrote};
 ghost use Rattle.terms.specs.Writing.{Sized, mark_before, closing_text, WritingReady, WritingArgumentsReady, WritesTerm, WritesArguments, FewerOccurrencesLeft, NoMoreOccurrencesLeft};
 
 use following::follow::{Followed, follow};
 use following::nodes::{Nodes, arity_of, part_of};
 use following::values::ValueCells;
-use names::put_name;
+use names::{Place, put_name};
 use numbering::Naming;
-use text::{TextBuffer, put_byte, put_symbol};
+use text::{TextBuffer, put_byte, put_lettered};
 
-// The position after the term, how many occurrences may still be written, and how many variables of the line have numbers; or there are too many.
+// Where writing goes on after a term, and how many occurrences may still be written.
 #[derive(Clone, Copy)]
-pub enum Written {
-    Done(usize, u16, u16),
-    TooMany,
+pub struct Written {
+    pub place: Place,
+    pub left: u16,
 }
 
-// What stands before argument n.
+// What stands before argument n, from 0.
 fn mark(n: u16) -> u8
-    ensures { result ≡ mark_before n }
+    ensures { result ≡ mark_before (n + 1) }
 {
-    if n == 1 { b'(' } else { b',' }
+    if n == 0 { b'(' } else { b',' }
 }
 
-// What stands after the last argument, where argument n would be the next one.
-fn put_closing(text: &mut TextBuffer, at: usize, n: u16) -> usize
-    requires { length text.old ≡ 131072 }
-    ensures { Wrote text.old text.new at result (closing_text n) }
+// What stands after the last of so many arguments.
+fn put_closing(text: &mut TextBuffer, at: usize, arity: u16) -> usize
+    ensures { Wrote text.old text.new at result (closing_text (arity + 1)) }
 {
-    if n == 1 {
+    if arity == 0 {
         return at;
     }
     put_byte(text, at, b')')
 }
 
-// The row at the index, written out. Every expression taken up costs one of the occurrences that may be written.
+// The row at the index, written out; nothing if there are too many occurrences. Every expression taken up costs one of those that may be written.
 #[cycle(write_arguments_write_term)]
 pub fn write_term(
     nodes: &Nodes,
     values: &mut ValueCells,
     text: &mut TextBuffer,
-    at: usize,
     naming: Naming,
     cells: &mut [u16],
     order: &mut [u32],
-    count: u16,
+    from: Written,
     row: u16,
     index: u16,
-    left: u16,
-) -> Written
-    requires { WritingReady naming nodes.now values.old text.old cells.old order.old count (row, index) left }
-    ensures { WritesTerm naming nodes.now values.old values.new text.old text.new cells.old cells.new order.old order.new count at (row, index) left result × FewerOccurrencesLeft left count result × Sized nodes.now values.new text.new }
+) -> Option<Written>
+    requires { WritingReady naming nodes.now values.old text.old cells.old order.old from.place.count (row, index) from.left }
+    ensures { WritesTerm naming nodes.now values.old values.new text.old text.new cells.old cells.new order.old order.new from.place.count from.place.end (row, index) from.left result × FewerOccurrencesLeft from.left from.place.count result × Sized nodes.now values.new text.new }
 {
-    if left == 0 {
-        return Written::TooMany;
+    if from.left == 0 {
+        return None;
     }
+    let left = from.left - 1;
     let x = follow(nodes, values, row, index);
     match x {
         Followed::Variable(r, k) => {
-            let name = put_name(nodes, text, at, naming, cells, order, count, r, k);
-            Written::Done(name.end, left - 1, name.count)
+            let place = put_name(nodes, text, naming, cells, order, from.place, r, k);
+            Some(Written { place, left })
         }
         Followed::Application(r, k) => {
             let symbol = part_of(nodes, r, 0);
-            let next = put_symbol(text, at, symbol);
-            write_arguments(
-                nodes,
-                values,
-                text,
-                next,
-                naming,
-                cells,
-                order,
-                count,
-                r,
-                k,
-                left - 1,
-            )
+            let mut place = from.place;
+            place.end = put_lettered(text, place.end, b's', symbol);
+            let begun = Written { place, left };
+            write_arguments(nodes, values, text, naming, cells, order, begun, r, k)
         }
     }
 }
@@ -92,42 +80,23 @@ fn write_arguments(
     nodes: &Nodes,
     values: &mut ValueCells,
     text: &mut TextBuffer,
-    at: usize,
     naming: Naming,
     cells: &mut [u16],
     order: &mut [u32],
-    count: u16,
+    from: Written,
     r: u16,
     k: u16,
-    left: u16,
-) -> Written
-    requires { WritingArgumentsReady naming nodes.now values.old text.old cells.old order.old count r k left }
-    ensures { WritesArguments naming nodes.now values.old values.new text.old text.new cells.old cells.new order.old order.new count at r k left result × NoMoreOccurrencesLeft left count result × Sized nodes.now values.new text.new }
+) -> Option<Written>
+    requires { WritingArgumentsReady naming nodes.now values.old text.old cells.old order.old from.place.count r k from.left }
+    ensures { WritesArguments naming nodes.now values.old values.new text.old text.new cells.old cells.new order.old order.new from.place.count from.place.end r k from.left result × NoMoreOccurrencesLeft from.left from.place.count result × Sized nodes.now values.new text.new }
 {
-    let mut end = at;
-    let mut n: u16 = 1;
-    let mut rest = arity_of(nodes, r);
-    let mut spare = left;
-    let mut numbered = count;
-    while rest > 0 {
-        let start = put_byte(text, end, mark(n));
-        let a = part_of(nodes, r, n);
-        let one = write_term(
-            nodes, values, text, start, naming, cells, order, numbered, a, k, spare,
-        );
-        match one {
-            Written::Done(e, l, c) => {
-                end = e;
-                spare = l;
-                numbered = c;
-            }
-            Written::TooMany => {
-                return Written::TooMany;
-            }
-        }
-        n += 1;
-        rest -= 1;
+    let arity = arity_of(nodes, r);
+    let mut done = from;
+    for n in 0..arity {
+        done.place.end = put_byte(text, done.place.end, mark(n));
+        let a = part_of(nodes, r, n + 1);
+        done = write_term(nodes, values, text, naming, cells, order, done, a, k)?;
     }
-    let last = put_closing(text, end, n);
-    Written::Done(last, spare, numbered)
+    done.place.end = put_closing(text, done.place.end, arity);
+    Some(done)
 }

@@ -6,7 +6,7 @@ use Prim.Native.Nat.{ℕ, ◌+◌, ◌-◌, ◌≤◌, ◌<◌}
 use native.Mathlib.Numerals.{add-one}
 use native.Mathlib.Omega.{arith}
 use lib.Dec.{leb}
-use lib.ListN.{length, get_or, take, set, length-append, length-set, length-take}
+use lib.ListN.{length, get_or, take, set, length-append, length-set}
 use lib.Seq.{take_all, take-nil, take-suc, take-set-le, take-suc-set, take-take, length-take-le, take-append-le, take-append-add}
 use borrow.Author.Tests.{leb-true, leb-false}
 use Rattle.text.specs.Buffer.{KeptBefore, fitting_part, Wrote}
@@ -52,13 +52,10 @@ module _ (T : List ℕ) (at b : ℕ) where
         bytes = sym (append-nil (take at T)) ∙ ap (take at T ++◌) (sym none);
       }
 
--- The position does not go back, stays inside the buffer, and is past the whole text where that fits.
+-- The position does not go back, and is past the whole text where that fits.
 module _ {T T' : List ℕ} {at end : ℕ} {text : List ℕ} (w : Wrote T T' at end text) where
   pub wrote_onward : at ≤ end
   wrote_onward = omega (arith, w.position)
-
-  pub wrote_inside : at ≤ length T → end ≤ length T
-  wrote_inside h = omega (arith, w.position, length-take (length T - at) text)
 
   pub wrote_position : at + length text ≤ length T → end ≡ at + length text
   wrote_position h = omega (arith, w.position, ap length (take_all (length T - at) text (omega arith)))
@@ -91,13 +88,10 @@ module _ (T T' T'' : List ℕ) (at next end : ℕ) (x y : List ℕ) where
         bytes = l.bytes ∙ ap (◌++ fitting_part T' next y) k.bytes ∙ append_assoc (take at T) (fitting_part T at x) (fitting_part T' next y) ∙ ap (take at T ++◌) (joined k);
       }
 
--- The bytes of a word, one after another: one more, and all of them.
+-- The bytes of a word, one after another: one more.
 module _ (T T' : List ℕ) (at end n : ℕ) (word : List ℕ) (w : Wrote T T' at end (take n word)) where
   pub wrote_next : n < length word → (T'' : List ℕ) (next : ℕ) → Wrote T' T'' end next (get_or word n 0 ∷ []) → Wrote T T'' at next (take (n + 1) word)
   wrote_next h T'' next v = subst (Wrote T T'' at next) (sym (ap (λ (m : ℕ). take m word) (add-one n) ∙ take-suc word n 0 h)) (wrote_then T T' T'' at end next (take n word) (get_or word n 0 ∷ []) w v)
-
-  pub wrote_whole : length word ≤ n → Wrote T T' at end word
-  wrote_whole h = subst (Wrote T T' at end) (take_all n word h) w
 
 -- What was written at a position after something else was, from the same position on, is all that counts.
 pub wrote_over : (T T' T'' : List ℕ) (at end : ℕ) (x : List ℕ) → KeptBefore T T' at → Wrote T' T'' at end x → Wrote T T'' at end x

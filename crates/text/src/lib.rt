@@ -2,7 +2,7 @@
 // wrote; what does not fit is dropped, so that no writer asks for room.
 #![tactic(auto)]
 
-ghost use Rattle.std.specs.Prelude.{◌≡◌, [], ◌∷◌, ◌++◌, ◌+◌, ◌<◌, length};
+ghost use Rattle.std.specs.Prelude.{◌≡◌, [], ◌∷◌, ◌++◌, ◌+◌, ◌<◌};
 ghost use Rattle.verdict.specs.Text.{decimal};
 ghost use Rattle.text.specs.Buffer.{Wrote, digit_text};
 
@@ -11,10 +11,9 @@ pub type TextBuffer = [u8; 131072];
 
 // One byte.
 pub fn put_byte(text: &mut TextBuffer, at: usize, b: u8) -> usize
-    requires { length text.old ≡ 131072 }
     ensures { Wrote text.old text.new at result (b ∷ []) }
 {
-    if at < 131072 {
+    if at < text.len() {
         text[at] = b;
         at + 1
     } else {
@@ -24,14 +23,11 @@ pub fn put_byte(text: &mut TextBuffer, at: usize, b: u8) -> usize
 
 // Several bytes.
 pub fn put_word(text: &mut TextBuffer, at: usize, word: &[u8]) -> usize
-    requires { length text.old ≡ 131072 }
     ensures { Wrote text.old text.new at result word.now }
 {
     let mut end = at;
-    let mut n: usize = 0;
-    while n < word.len() {
-        end = put_byte(text, end, word[n]);
-        n += 1;
+    for &b in word {
+        end = put_byte(text, end, b);
     }
     end
 }
@@ -41,12 +37,11 @@ fn digit(n: u16) -> u8
     requires { n < 10 }
     ensures { result ≡ 48 + n }
 {
-    48 + (n as u8)
+    b'0' + (n as u8)
 }
 
 // The last digit of a number, and nothing for 0.
 fn put_digit(text: &mut TextBuffer, at: usize, n: u16) -> usize
-    requires { length text.old ≡ 131072 }
     ensures { Wrote text.old text.new at result (digit_text n) }
 {
     if n == 0 {
@@ -57,7 +52,6 @@ fn put_digit(text: &mut TextBuffer, at: usize, n: u16) -> usize
 
 // A number in decimal: five digits at most, without the zeros before the first one.
 pub fn put_decimal(text: &mut TextBuffer, at: usize, n: u16) -> usize
-    requires { length text.old ≡ 131072 }
     ensures { Wrote text.old text.new at result (decimal n) }
 {
     let thousands = put_digit(text, at, n / 10000);
@@ -67,31 +61,19 @@ pub fn put_decimal(text: &mut TextBuffer, at: usize, n: u16) -> usize
     put_byte(text, ones, digit(n % 10))
 }
 
-// `s` and the number of a symbol.
-pub fn put_symbol(text: &mut TextBuffer, at: usize, symbol: u16) -> usize
-    requires { length text.old ≡ 131072 }
-    ensures { Wrote text.old text.new at result (115 ∷ decimal symbol) }
+// A letter and a number: `s` with that of a symbol, `v` with that of a variable.
+pub fn put_lettered(text: &mut TextBuffer, at: usize, letter: u8, n: u16) -> usize
+    ensures { Wrote text.old text.new at result (letter ∷ decimal n) }
 {
-    let number = put_byte(text, at, b's');
-    put_decimal(text, number, symbol)
+    let number = put_byte(text, at, letter);
+    put_decimal(text, number, n)
 }
 
 // `v`, the number of a variable, a dot and its index.
 pub fn put_variable(text: &mut TextBuffer, at: usize, variable: u16, index: u16) -> usize
-    requires { length text.old ≡ 131072 }
     ensures { Wrote text.old text.new at result (118 ∷ (decimal variable ++ (46 ∷ decimal index))) }
 {
-    let number = put_byte(text, at, b'v');
-    let dot = put_decimal(text, number, variable);
+    let dot = put_lettered(text, at, b'v', variable);
     let last = put_byte(text, dot, b'.');
     put_decimal(text, last, index)
-}
-
-// `v` and the number of a variable by its appearance.
-pub fn put_numbered_variable(text: &mut TextBuffer, at: usize, n: u16) -> usize
-    requires { length text.old ≡ 131072 }
-    ensures { Wrote text.old text.new at result (118 ∷ decimal n) }
-{
-    let number = put_byte(text, at, b'v');
-    put_decimal(text, number, n)
 }

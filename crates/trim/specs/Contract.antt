@@ -1,14 +1,14 @@
 -- The contract of `trim`: what it promises of every day, every file, every four tables and every output, with no condition on the call.
-use Rattle.std.specs.Prelude.{◌≡◌, List, ℕ, length}
+use Rattle.std.specs.Prelude.{◌≡◌, List, ℕ, length, Result}
 use Rattle.verdict.specs.Tables.{Tables}
 use Rattle.writing.specs.Writing.{writing_numbers, output_left}
 use Rattle.writing_answer.specs.Given.{writing_given}
-use Rattle.writing_answer.specs.declared.WritingOutcome.{WritingOutcome}
+use Rattle.writing_answer.specs.declared.NotWritten.{NotWritten}
 use Rattle.trimming.specs.Answer.{trim_answer, tables_left}
 use Rattle.trimming.specs.Promised.{TrimPromised}
 use Rattle.trimming.specs.Trimming.{trimmed_file}
 
-pub record TrimAnswered (day : ℕ) (file : List ℕ) (before : Tables) (outputBefore : List ℕ) (m : WritingOutcome) (after : Tables) (outputAfter : List ℕ) : Type 0 where
+pub record TrimAnswered (day : ℕ) (file : List ℕ) (before : Tables) (outputBefore : List ℕ) (m : Result ℕ NotWritten) (after : Tables) (outputAfter : List ℕ) : Type 0 where
   -- The four numbers of the answer, each table, cell by cell, and every byte of the output.
   pub answer : writing_given m ≡ writing_numbers (trim_answer day file before (length outputBefore))
   pub symbols : after.symbols ≡ (tables_left file before (length outputBefore)).symbols

@@ -2,55 +2,64 @@
 // what this crate promises. How the records are marked and written is in the crate trim_kept.
 #![tactic(auto)]
 
-ghost use Rattle.std.specs.Prelude.{◌≤◌, length};
-ghost use Rattle.entry.specs.Progress.{tables_with};
+ghost use Rattle.tables.specs.Lent.{SameTables};
+ghost use Rattle.std.specs.Prelude.{◌≡◌, ◌≤◌, length};
+ghost use Rattle.entry.specs.Progress.{tables_of};
+ghost use Rattle.trim.specs.Accepted.{unless_accepted};
 ghost use Rattle.trim.specs.Contract.{TrimAnswered};
 
 use answer::Verdict;
 use checker::check_with;
-use following::nodes::{Nodes, Origins};
-use following::values::ValueCells;
+use following::lent::LentWorkspace;
 use record::Form;
+use tables::lent::LentTables;
 use trim_kept::trim_kept;
-use writing_answer::WritingOutcome;
+use writing_answer::{NotWritten, WritingReason};
+
+// The clause with which a file is accepted; or that none is written, for its own refusal or because it is open.
+fn accepted(verdict: Verdict) -> Result<u16, NotWritten>
+    ensures { result ≡ unless_accepted verdict }
+{
+    let (reason, at) = match verdict {
+        Verdict::Open => (WritingReason::NoneAccepted, 0),
+        Verdict::Accepted(n) => return Ok(n),
+        Verdict::Refused(number, at) => (WritingReason::OwnRefusal(number), at),
+    };
+    Err(NotWritten {
+        reason,
+        file: 1,
+        at,
+    })
+}
 
 // The trim with a workspace for the check. After it the node table and the table of origins are free, and take the marks and the new numbers.
 fn trim_with(
     day: u16,
     file: &[u8],
-    symbols: &mut [u16],
-    rows: &mut [u16],
-    clauses: &mut [u16],
-    bindings: &mut [u16],
-    nodes: &mut Nodes,
-    origins: &mut Origins,
-    values: &mut ValueCells,
+    tables: &mut LentTables,
+    workspace: &mut LentWorkspace,
     output: &mut [u8],
-) -> WritingOutcome
+) -> Result<u32, NotWritten>
     requires { 65536 ≤ length output.old }
-    ensures { TrimAnswered day file.now (tables_with symbols.old rows.old clauses.old bindings.old) output.old result (tables_with symbols.new rows.new clauses.new bindings.new) output.new }
+    ensures answered { TrimAnswered day file.now (tables_of tables.old) output.old result (tables_of tables.new) output.new }
+    ensures same_tables { SameTables tables.old tables.new }
 {
-    let a = check_with(
-        Form::Old,
-        day,
+    let a = check_with(Form::Old, day, file, tables, workspace);
+    let n = accepted(a.verdict)?;
+    let symbols = &mut *tables.symbols;
+    let rows = &mut *tables.rows;
+    let clauses = &mut *tables.clauses;
+    let end = trim_kept(
         file,
+        n,
         symbols,
         rows,
         clauses,
-        bindings,
-        nodes,
-        origins,
-        values,
+        workspace.nodes,
+        workspace.origins,
+        output,
     );
-    let v = a.verdict;
-    match v {
-        Verdict::Open => WritingOutcome::Refused(23, 1, 0),
-        Verdict::Accepted(n) => {
-            let end = trim_kept(file, n, symbols, rows, clauses, nodes, origins, output);
-            WritingOutcome::Written(end)
-        }
-        Verdict::Refused(q, k) => WritingOutcome::Refused(q, 1, k),
-    }
+    Ok(end)
 }
 
 // A file trimmed to what its accepted clause on a day uses. The output is written only if the trim goes through, and not past the trimmed file's end; a short output
@@ -58,30 +67,26 @@ fn trim_with(
 pub fn trim(
     day: u16,
     file: &[u8],
-    symbols: &mut [u16],
-    rows: &mut [u16],
-    clauses: &mut [u16],
-    bindings: &mut [u16],
+    tables: &mut LentTables,
     output: &mut [u8],
-) -> WritingOutcome
-    ensures { TrimAnswered day file.now (tables_with symbols.old rows.old clauses.old bindings.old) output.old result (tables_with symbols.new rows.new clauses.new bindings.new) output.new }
+) -> Result<u32, NotWritten>
+    ensures answered { TrimAnswered day file.now (tables_of tables.old) output.old result (tables_of tables.new) output.new }
+    ensures same_tables { SameTables tables.old tables.new }
 {
     if output.len() < 65536 {
-        return WritingOutcome::Refused(2, 0, 0);
+        return Err(NotWritten {
+            reason: WritingReason::ShortOutput,
+            file: 0,
+            at: 0,
+        });
     }
     let mut nodes = [0u16; 32768];
     let mut origins = [0u16; 32768];
     let mut values = [0u16; 524416];
-    trim_with(
-        day,
-        file,
-        symbols,
-        rows,
-        clauses,
-        bindings,
-        &mut nodes,
-        &mut origins,
-        &mut values,
-        output,
-    )
+    let mut workspace = LentWorkspace {
+        nodes: &mut nodes,
+        origins: &mut origins,
+        values: &mut values,
+    };
+    trim_with(day, file, tables, &mut workspace, output)
 }

@@ -10,10 +10,10 @@ use Rattle.unification.specs.Nodes.{node_row}
 use Rattle.unification.specs.Row.{Expression}
 use Rattle.unification.specs.Unification.{unify, most_work, most_links, unified, Pair, unifying, no_room, run}
 use Rattle.unify.specs.Unifying.{EachInStep, Facing, Ready, Answered}
-use Rattle.unify.specs.Pairs.{Filed, bindings_onto, Stand, PairReady, Pairing, Paired}
+use Rattle.unify.specs.Pairs.{Answer, done, Filed, bindings_onto, Stand, PairReady, Pairing, Paired}
 use Rattle.unify.proofs.BindingsAdded.{added_none, added_below, onto_none, onto_then}
-use Rattle.unify.specs.declared.Unified.{Unified}
-use Rattle.unify.specs.declared.Unified.TheVariants.{Done, Refused}
+use Rattle.std.specs.Prelude.{Ok, Err}
+use Rattle.following.specs.declared.failure.Failure.{Failure}
 
 -- What unification of `all` has come to: the pairs ps are still to be taken up, with `left` work left and `total` bindings held, and that
 -- has the same outcome as the whole.
@@ -55,7 +55,7 @@ run_nothing N held ρ (suc left) bs = refl
 
 module _ (N A A₁ B B₁ : List ℕ) (held : ℕ) (all : List Pair) (R : Ready N A B held all) (left total : ℕ) (K₁ : Added B B₁ held total) where
   -- All pairs were unified.
-  pub answered_done : Remains N A A₁ B₁ held all [] left total → length A₁ ≡ 524416 → length B₁ ≡ length B → Answered N A A₁ B B₁ held all (Done left total)
+  pub answered_done : Remains N A A₁ B₁ held all [] left total → length A₁ ≡ 524416 → length B₁ ≡ length B → Answered N A A₁ B B₁ held all (done left total)
   answered_done K l m =
       record {
         outcome = λ top ρ F. (K top ρ F).whole ∙ run_nothing N held ρ left (bindings_onto B₁ held (total - held) []) ∙ ap (λ (bs : List Binding). unified bs left) (append-nil (bindings_from B₁ held (total - held)));
@@ -65,27 +65,27 @@ module _ (N A A₁ B B₁ : List ℕ) (held : ℕ) (all : List Pair) (R : Ready 
         counted = (K₁.le, (K R.top R.environment R.facing).stand.few, K₁.high);
       }
 
-  module _ (e d : Expression) (ps : List Pair) (K : Remains N A A₁ B₁ held all ((e, d) ∷ ps) left total) (A₂ B₂ : List ℕ) (u : Unified) (P : Paired N A₁ A₂ B₁ B₂ total e d left u) (K₂ : Filed B₁ B₂ total u) where
+  module _ (e d : Expression) (ps : List Pair) (K : Remains N A A₁ B₁ held all ((e, d) ∷ ps) left total) (A₂ B₂ : List ℕ) (u : Answer) (P : Paired N A₁ A₂ B₁ B₂ total e d left u) (K₂ : Filed B₁ B₂ total u) where
     here : (top : ℕ) (ρ : Environment) → Facing N top A held ρ all → Pairing N top A₂ B₂ held ρ (bindings_onto B₁ held (total - held) []) total e d left u
     here top ρ F =
         let k = K top ρ F in
         P top held ρ (bindings_onto B₁ held (total - held) []) k.stand k.in_step.0 k.in_step.1
 
     -- The pair was refused.
-    pub answered_refused : (n : ℕ) → u ≡ Refused n → length A₂ ≡ 524416 → length B₂ ≡ length B → Answered N A A₂ B B₂ held all (Refused n)
+    pub answered_refused : (n : Failure) → u ≡ Err n → length A₂ ≡ 524416 → length B₂ ≡ length B → Answered N A A₂ B B₂ held all (Err n)
     answered_refused n p l m =
         let k = subst (Filed B₁ B₂ total) p K₂ in
-        let below = added_below K₁ k.0 in
+        let below = added_below K₁ k in
         record {
           outcome = λ top ρ F. (K top ρ F).whole ∙ (subst (Pairing N top A₂ B₂ held ρ (bindings_onto B₁ held (total - held) []) total e d left) p (here top ρ F)).ok ps;
           values = l;
           bindings = m;
           before = below.low;
-          counted = (k.1, below.past);
+          counted = below.past;
         }
 
     -- The pair was unified, and the others remain.
-    pub remains_next : (w h : ℕ) → u ≡ Done w h → Remains N A A₂ B₂ held all ps w h
+    pub remains_next : (w h : ℕ) → u ≡ done w h → Remains N A A₂ B₂ held all ps w h
     remains_next w h p top ρ F =
         let k = K top ρ F in
         let y = subst (Pairing N top A₂ B₂ held ρ (bindings_onto B₁ held (total - held) []) total e d left) p (here top ρ F) in
@@ -101,9 +101,9 @@ pub one_ready : {N A B : List ℕ} {held : ℕ} {e d : Expression} → Ready N A
 one_ready R = pair_ready R (remains_all R most_work refl)
 
 module _ (N A A' B B' : List ℕ) (held : ℕ) (e d : Expression) (R : Ready N A B held ((e, d) ∷ [])) (w : ℕ) (q : most_work ≡ w) where
-  pub one_answered : (u : Unified) → Paired N A A' B B' held e d w u → Filed B B' held u → length A' ≡ 524416 → length B' ≡ length B → Answered N A A' B B' held ((e, d) ∷ []) u
-  one_answered (Done left total) P K l m =
-      answered_done N A A' B B' held ((e, d) ∷ []) R left total K
-      (remains_next N A A B B held ((e, d) ∷ []) R w held (added_none B held) e d [] (remains_all R w q) A' B' (Done left total) P K left total refl) l m
-  one_answered (Refused n) P K l m =
-      answered_refused N A A B B held ((e, d) ∷ []) R w held (added_none B held) e d [] (remains_all R w q) A' B' (Refused n) P K n refl l m
+  pub one_answered : (u : Answer) → Paired N A A' B B' held e d w u → Filed B B' held u → length A' ≡ 524416 → length B' ≡ length B → Answered N A A' B B' held ((e, d) ∷ []) u
+  one_answered (Ok u) P K l m =
+      answered_done N A A' B B' held ((e, d) ∷ []) R u.work u.held K
+      (remains_next N A A B B held ((e, d) ∷ []) R w held (added_none B held) e d [] (remains_all R w q) A' B' (Ok u) P K u.work u.held refl) l m
+  one_answered (Err n) P K l m =
+      answered_refused N A A B B held ((e, d) ∷ []) R w held (added_none B held) e d [] (remains_all R w q) A' B' (Err n) P K n refl l m

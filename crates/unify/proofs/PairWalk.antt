@@ -10,14 +10,14 @@ use lib.ListN.{length}
 use native.Mathlib.Numerals.{add-one}
 use borrow.Author.Tests.{ne_eqb, le-leb, lt-leb}
 use Rattle.record.specs.Record.{pick}
-use Rattle.unification.specs.Bindings.{push, KeptBelow, Added}
+use Rattle.unification.specs.Bindings.{push, Added}
 use Rattle.unification.specs.Environment.{Binding, Environment, extend, unbound, applied}
 use Rattle.unification.specs.Nodes.{is_variable, part, node_arity, HasRow, arguments_from, node_row, node_row_if, NodesOk}
 use Rattle.unification.specs.Row.{Expression, same}
-use Rattle.unification.specs.Unification.{most_links, failure_number, clash, occurs, overwork, Outcome, unified, failed, unifying, testing, go_on, no_room, with_work, run}
-use Rattle.unify.specs.Pairs.{failure_of, LessWorkLeft, NoMoreWorkLeft, Filed, bindings_onto, outcome_onto, Stand, StepReady, Stands, PairReady, BindReady, ArgumentsReady, Settled, is_application, is_other, Alike, Pairing, Paired, Bound, Argued, Meets, same_variable, left_to_variable, left_to_application, right_variable, same_application, other_symbol, no_arguments, some_arguments, Matching, Matched, ArguedBefore}
+use Rattle.unification.specs.Unification.{most_links, clash, overwork, Outcome, unified, failed, unifying, testing, go_on, no_room, with_work, run}
+use Rattle.unify.specs.Pairs.{Answer, done, LessWorkLeft, NoMoreWorkLeft, Filed, bindings_onto, outcome_onto, Stand, StepReady, Stands, PairReady, BindReady, ArgumentsReady, Settled, is_application, is_other, Alike, Pairing, Paired, Bound, Argued, Meets, same_variable, left_to_variable, left_to_application, right_variable, same_application, other_symbol, no_arguments, some_arguments, Matching, Matched, ArguedBefore}
 use Rattle.unification.specs.ValueArray.{slot, put, InStep, Models}
-use Rattle.following.specs.Walks.{view_of, end_of, Followable, Walked, Follows, absent, broken, tested_of, then_run, PairRuns, ArgumentsRun, TestRuns, Looking, Looked}
+use Rattle.following.specs.Walks.{failure_of, view_of, end_of, Followable, Walked, Follows, absent, broken, then_run, PairRuns, ArgumentsRun, Looking, Looked}
 use Rattle.unify.proofs.BindingsAdded.{added_then, added_below, onto_none, onto_then, onto_push, length_push}
 use Rattle.unification.proofs.Chains.{Short, short_le, Firm, short_with}
 use Rattle.following.proofs.Halving.{EndsAt, walked_app, walked_var, walked_ends}
@@ -29,27 +29,26 @@ use Rattle.unification.proofs.Tests.{same_eq, same_refl, true_not_false}
 use Rattle.following.proofs.Writing.{models_bind}
 use Rattle.following.specs.declared.follow.Followed.{Followed}
 use Rattle.following.specs.declared.follow.Followed.TheVariants.{Variable, Application}
-use Rattle.following.specs.declared.occurs.Occurs.{Occurs}
-use Rattle.following.specs.declared.occurs.Occurs.TheVariants.{No, Yes, Spent}
+use Rattle.std.specs.Prelude.{Ok, Err}
+use Rattle.following.specs.declared.failure.Failure.{Failure}
+use Rattle.following.specs.declared.failure.Failure.TheVariants.{SymbolsDiffer, WorkSpent, NoRoom}
 use Rattle.unify.specs.declared.Meeting.{Meeting}
 use Rattle.unify.specs.declared.Meeting.TheVariants.{Bind, Nothing, Clash, Arguments}
-use Rattle.unify.specs.declared.Unified.{Unified}
-use Rattle.unify.specs.declared.Unified.TheVariants.{Done, Refused}
 
 -- A free variable x and what the other side ends on.
 module _ (N : List ℕ) (top : ℕ) (A B : List ℕ) (first : ℕ) (base : Environment) (bs : List Binding) (held : ℕ) where
-  pub record MetRuns (x : Expression) (y : Followed) (w : ℕ) (u : Unified) : Type 0 where
+  pub record MetRuns (x : Expression) (y : Followed) (w : ℕ) (u : Answer) : Type 0 where
     pub ok : MeetRuns (node_row N) most_links (no_room first) base w bs (unbound (part N x.0 0) x) (view_of N y) (outcome_onto u B held bs)
     pub after : Stands N top A B first base bs held u
 
-abbrev pub Met : List ℕ → List ℕ → List ℕ → List ℕ → List ℕ → ℕ → Expression → Followed → ℕ → Unified → Type 0
+abbrev pub Met : List ℕ → List ℕ → List ℕ → List ℕ → List ℕ → ℕ → Expression → Followed → ℕ → Answer → Type 0
 Met N A A' B B' held x y w u =
     (top first : ℕ) (base : Environment) (bs : List Binding) → Stand N top A B first base bs held → InStep N top x → is_variable N x.0 ≡ true → extend base bs x ≡ none
     → InStep N top (end_of y) → EndsAt N (extend base bs) y → MetRuns N top A' B' first base bs held x y w u
 
-pub leaves_less : (w v : ℕ) (u : Unified) → v < w → NoMoreWorkLeft v u → LessWorkLeft w u
-leaves_less w v (Done l h) p q = omega arith
-leaves_less w v (Refused n) p q = tt
+pub leaves_less : (w v : ℕ) (u : Answer) → v < w → NoMoreWorkLeft v u → LessWorkLeft w u
+leaves_less w v (Ok u) p q = omega arith
+leaves_less w v (Err f) p q = tt
 
 settled_firm : (N : List ℕ) (ρ : Environment) (x d : Expression) → Settled N ρ x d → Firm (HasRow N) (node_row N) ρ x d
 settled_firm N ρ x d (is_application h) = (applied (part N d.0 0) (arguments_from N d.0 (node_arity N d.0) 1) d, refl, ap (node_row_if N d.0) h, tt, λ q. q)
@@ -59,28 +58,23 @@ full_at : (first : ℕ) (bs : List Binding) (b : Bool) → leb 8192 (first + len
 full_at first bs b h = ap (λ (m : ℕ). leb m (first + length bs)) bindings_8192 ∙ h
 
 -- A binding is made, or refused.
-module _ (N A A₁ B : List ℕ) (held : ℕ) (x : Expression) (d : Expression) (w : ℕ) (o : Occurs) (L : Looked N A A₁ x d w o) where
-  pub bound_yes : o ≡ Yes → Bound N A A₁ B B held x d w (Refused 11)
-  bound_yes q top first base bs S gx vx gd f F =
+module _ (N A A₁ B : List ℕ) (held : ℕ) (x : Expression) (d : Expression) (w : ℕ) where
+  pub bound_failed : (f : Failure) → Looked N A A₁ x d w (Err f) → Bound N A A₁ B B held x d w (Err f)
+  bound_failed f L top first base bs S gx vx gd z F =
       let L' = L top (no_room first) base bs S.models gd in
-      record { tested = broken occurs; ok = subst (λ (z : Occurs). TestRuns (node_row N) most_links (no_room first) base w bs x d d (tested_of z)) q (L'.ok d); outcome = refl; after = tt }
+      record { tested = broken (failure_of f); ok = L'.ok d; outcome = refl; after = tt }
 
-  pub bound_spent : o ≡ Spent → Bound N A A₁ B B held x d w (Refused 12)
-  bound_spent q top first base bs S gx vx gd f F =
-      let L' = L top (no_room first) base bs S.models gd in
-      record { tested = broken overwork; ok = subst (λ (z : Occurs). TestRuns (node_row N) most_links (no_room first) base w bs x d d (tested_of z)) q (L'.ok d); outcome = refl; after = tt }
-
-  pub bound_full : (l : ℕ) → o ≡ No l → 8192 ≤ held → Bound N A A₁ B B held x d w (Refused 13)
-  bound_full l q h top first base bs S gx vx gd f F =
+  pub bound_full : (l : ℕ) → Looked N A A₁ x d w (Ok l) → 8192 ≤ held → Bound N A A₁ B B held x d w (Err NoRoom)
+  bound_full l L h top first base bs S gx vx gd f F =
       let L' = L top (no_room first) base bs S.models gd in
       let c = S.count in
-      record { tested = absent l; ok = subst (λ (z : Occurs). TestRuns (node_row N) most_links (no_room first) base w bs x d d (tested_of z)) q (L'.ok d); outcome = rw (full_at first bs true (le-leb 8192 (first + length bs) (omega arith))); after = tt }
+      record { tested = absent l; ok = L'.ok d; outcome = rw (full_at first bs true (le-leb 8192 (first + length bs) (omega arith))); after = tt }
 
-  pub bound_done : (l : ℕ) → o ≡ No l → held < 8192 → (at m : ℕ) → at ≡ slot N x.0 x.1 → m ≡ (d.0 + 1) % 65536 → (A₂ B₂ : List ℕ) → A₂ ≡ put A₁ at m d.1 → B₂ ≡ push B held x.0 x.1 d.0 d.1 → Bound N A A₂ B B₂ held x d w (Done l (held + 1))
-  bound_done l q h at m ps pm A₂ B₂ pa pb top first base bs S gx vx gd f F =
-      record { tested = absent l; ok = subst (λ (z : Occurs). TestRuns (node_row N) most_links (no_room first) base w bs x d d (tested_of z)) q (L'.ok d); outcome = rw (full_at first bs false (lt-leb 8192 (first + length bs) (let c = S.count in omega arith))) (ap (λ (z : List Binding). unified z l) (sym made)); after = subst (λ (z : List Binding). Stand N top A₂ B₂ first base z (held + 1)) (sym made) stands }
+  pub bound_done : (l : ℕ) → Looked N A A₁ x d w (Ok l) → held < 8192 → (at m : ℕ) → at ≡ slot N x.0 x.1 → m ≡ (d.0 + 1) % 65536 → (A₂ B₂ : List ℕ) → A₂ ≡ put A₁ at m d.1 → B₂ ≡ push B held x.0 x.1 d.0 d.1 → Bound N A A₂ B B₂ held x d w (done l (held + 1))
+  bound_done l L h at m ps pm A₂ B₂ pa pb top first base bs S gx vx gd f F =
+      record { tested = absent l; ok = L'.ok d; outcome = rw (full_at first bs false (lt-leb 8192 (first + length bs) (let c = S.count in omega arith))) (ap (λ (z : List Binding). unified z l) (sym made)); after = subst (λ (z : List Binding). Stand N top A₂ B₂ first base z (held + 1)) (sym made) stands }
     where
-      L' : Looking N top A₁ (no_room first) base bs x d w o
+      L' : Looking N top A₁ (no_room first) base bs x d w (Ok l)
       L' = L top (no_room first) base bs S.models gd
 
       made : bindings_onto B₂ held ((held + 1) - held) bs ≡ (x, d) ∷ bs
@@ -107,14 +101,14 @@ module _ (N A B : List ℕ) (held : ℕ) (x : Expression) (y : Followed) (w : �
   apart g b p q false r = refl
   apart g b p q true r = absurd (true_not_false (ap (λ (c : Expression). is_variable N c.0) (sym (same_eq x (g, b) r)) ∙ p) q)
 
-  pub met_same : (t b : ℕ) → y ≡ Variable t b → (s : Bool) → s ≡ same x (t, b) → s ≡ true → Met N A A B B held x y w (Done w held)
-  met_same t b p s q h = subst (λ (z : Followed). Met N A A B B held x z w (Done w held)) (sym p) met
+  pub met_same : (t b : ℕ) → y ≡ Variable t b → (s : Bool) → s ≡ same x (t, b) → s ≡ true → Met N A A B B held x y w (done w held)
+  met_same t b p s q h = subst (λ (z : Followed). Met N A A B B held x z w (done w held)) (sym p) met
     where
-      met : Met N A A B B held x (Variable t b) w (Done w held)
+      met : Met N A A B B held x (Variable t b) w (done w held)
       met top first base bs S gx vx fx gy ey =
           record { ok = λ ps. ap (λ (c : Bool). with_work (λ s. run (node_row N) most_links (no_room first) base w s) (suc w) (pick c (go_on (unifying bs ps)) (go_on (testing bs x (t, b) (t, b) [] ps)))) (sym q ∙ h) ∙ ap (λ (l : List Binding). run (node_row N) most_links (no_room first) base w (unifying l ps)) (sym (onto_none B held bs)); after = subst (λ (z : List Binding). Stand N top A B first base z held) (sym (onto_none B held bs)) S }
 
-  module _ (A' B' : List ℕ) (u : Unified) where
+  module _ (A' B' : List ℕ) (u : Answer) where
     pub met_other : (t b : ℕ) → y ≡ Variable t b → (s : Bool) → s ≡ same x (t, b) → s ≡ false → Bound N A A' B B' held x (t, b) w u → Met N A A' B B' held x y w u
     met_other t b p s q h K = subst (λ (z : Followed). Met N A A' B B' held x z w u) (sym p) met
       where
@@ -132,7 +126,7 @@ module _ (N A B : List ℕ) (held : ℕ) (x : Expression) (y : Followed) (w : �
             record { ok = λ ps. meet_left (node_row N) most_links (no_room first) base w bs (part N x.0 0) x (view_of N (Application g b)) tt (apart g b vx ey (same x (g, b)) refl) k.tested k.ok ps ∙ ap (λ (r : Outcome). then_run (node_row N) most_links (no_room first) base r ps) k.outcome; after = k.after }
 
 module _ (N A B : List ℕ) (held : ℕ) (e d : Expression) (w : ℕ) where
-  pub paired_spent : w ≡ 0 → Paired N A A B B held e d w (Refused 12)
+  pub paired_spent : w ≡ 0 → Paired N A A B B held e d w (Err WorkSpent)
   paired_spent z top first base bs S ge gd = record { ok = subst (λ (n : ℕ). PairRuns (node_row N) most_links (no_room first) base n bs e d (failed overwork)) (sym z) (pair_spent (node_row N) most_links (no_room first) base bs e d); after = tt }
 
   module _ (A₁ A₂ : List ℕ) (nz : w ≡ 0 → ⊥) (f g : Followed) (W₁ : Follows N A A₁ e f) (W₂ : Follows N A₁ A₂ d g) where
@@ -150,15 +144,15 @@ module _ (N A B : List ℕ) (held : ℕ) (e d : Expression) (w : ℕ) where
       at_w : (r : Outcome) → PairRuns (node_row N) most_links (no_room first) base (suc (w - 1)) bs e d r → PairRuns (node_row N) most_links (no_room first) base w bs e d r
       at_w r h = subst (λ (n : ℕ). PairRuns (node_row N) most_links (no_room first) base n bs e d r) (suc_pred w nz) h
 
-      nothing : PairRuns (node_row N) most_links (no_room first) base (suc (w - 1)) bs e d (unified bs (w - 1)) → Pairing N top A₂ B first base bs held e d w (Done (w - 1) held)
+      nothing : PairRuns (node_row N) most_links (no_room first) base (suc (w - 1)) bs e d (unified bs (w - 1)) → Pairing N top A₂ B first base bs held e d w (done (w - 1) held)
       nothing h = record { ok = at_w (unified (bindings_onto B held (held - held) bs) (w - 1)) (rw (onto_none B held bs) h); after = subst (λ (z : List Binding). Stand N top A₂ B first base z held) (sym (onto_none B held bs)) S₂ }
 
-    pub paired_same_app : (v a t b : ℕ) → f ≡ Application v a → g ≡ Application t b → (s : Bool) → s ≡ same (v, a) (t, b) → s ≡ true → Paired N A A₂ B B held e d w (Done (w - 1) held)
+    pub paired_same_app : (v a t b : ℕ) → f ≡ Application v a → g ≡ Application t b → (s : Bool) → s ≡ same (v, a) (t, b) → s ≡ true → Paired N A A₂ B B held e d w (done (w - 1) held)
     paired_same_app v a t b pf pg s ps h top first base bs S ge gd =
         nothing (Application v a) (Application t b) pf pg top first base bs S ge gd
         (pair_same (node_row N) most_links (no_room first) base (w - 1) bs e d (view_of N (Application v a)) (view_of N (Application t b)) (X (Application v a) (Application t b) pf pg top first base bs S ge gd).seen (Y (Application v a) (Application t b) pf pg top first base bs S ge gd).seen tt (same_eq (v, a) (t, b) (sym ps ∙ h)) (λ ps'. rw (sym ps ∙ h)))
 
-    module _ (A₃ B₃ : List ℕ) (u : Unified) where
+    module _ (A₃ B₃ : List ℕ) (u : Answer) where
       pub paired_variable : (v a : ℕ) → f ≡ Variable v a → Met N A₂ A₃ B B₃ held (v, a) g (w - 1) u → Paired N A A₃ B B₃ held e d w u
       paired_variable v a pf K top first base bs S ge gd =
           let x = X (Variable v a) g pf refl top first base bs S ge gd in
@@ -184,7 +178,7 @@ module _ (N A B : List ℕ) (held : ℕ) (e d : Expression) (w : ℕ) where
             let k = K top first base bs (S₂ (Application v a) (Application t b) pf pg top first base bs S ge gd) (record { left = x.good; right = y.good; left_row = walked_app N top A₁ (extend base bs) e v a x; right_row = walked_app N top A₂ (extend base bs) d t b y; symbol = sym one }) in
             record { ok = at_w (Application v a) (Application t b) pf pg top first base bs S ge gd (outcome_onto u B₃ held bs) (pair_args (node_row N) most_links (no_room first) base (w - 1) bs e d (part N v 0) (arguments_from N v (node_arity N v) 1) (arguments_from N t (node_arity N t) 1) (v, a) (t, b) x.seen (y.seen ∙ ap (λ (z : ℕ). applied z (arguments_from N t (node_arity N t) 1) (t, b)) one) (sym ps ∙ h) (outcome_onto u B₃ held bs) k.ok); after = k.after }
 
-    pub paired_clash : (v a t b : ℕ) → f ≡ Application v a → g ≡ Application t b → (s : Bool) → s ≡ same (v, a) (t, b) → s ≡ false → (m n : ℕ) → m ≡ part N v 0 → n ≡ part N t 0 → (m ≡ n → ⊥) → Paired N A A₂ B B held e d w (Refused 10)
+    pub paired_clash : (v a t b : ℕ) → f ≡ Application v a → g ≡ Application t b → (s : Bool) → s ≡ same (v, a) (t, b) → s ≡ false → (m n : ℕ) → m ≡ part N v 0 → n ≡ part N t 0 → (m ≡ n → ⊥) → Paired N A A₂ B B held e d w (Err SymbolsDiffer)
     paired_clash v a t b pf pg s ps h m n pm pn q top first base bs S ge gd =
         let x = X (Application v a) (Application t b) pf pg top first base bs S ge gd in
         let y = Y (Application v a) (Application t b) pf pg top first base bs S ge gd in
@@ -200,12 +194,12 @@ module _ (N A B : List ℕ) (held v a t b w : ℕ) where
       record { stand = subst (λ (z : List Binding). Stand N top A B first base z held) (sym (onto_none B held bs)) S; whole = λ q h. subst (λ (z : ℕ). ArgumentsRun (node_row N) most_links (no_room first) base w bs (arguments_from N v (node_arity N v) 1) a (arguments_from N t z 1) b q) (p ∙ arities S.models.table L) (subst (λ (z : ℕ). ArgumentsRun (node_row N) most_links (no_room first) base w bs (arguments_from N v z 1) a (arguments_from N t rest 1) b q) p (subst (λ (z : List Binding). ArgumentsRun (node_row N) most_links (no_room first) base w z (arguments_from N v rest 1) a (arguments_from N t rest 1) b q) (onto_none B held bs) h)) }
 
   module _ (A₁ B₁ : List ℕ) (n rest left total : ℕ) (K : Matched N A A₁ B B₁ held v a t b w n rest left total) where
-    pub match_end : rest ≡ 0 → Argued N A A₁ B B₁ held v a t b w (Done left total)
+    pub match_end : rest ≡ 0 → Argued N A A₁ B B₁ held v a t b w (done left total)
     match_end z top first base bs S L =
         let k = K top first base bs S L in
         record { ok = k.whole (unified (bindings_onto B₁ held (total - held) bs) left) (subst (λ (m : ℕ). ArgumentsRun (node_row N) most_links (no_room first) base left (bindings_onto B₁ held (total - held) bs) (arguments_from N v m n) a (arguments_from N t m n) b (unified (bindings_onto B₁ held (total - held) bs) left)) (sym z) (arguments_none (node_row N) most_links (no_room first) base left (bindings_onto B₁ held (total - held) bs) a [] b)); after = k.stand }
 
-    module _ (pos : 0 < rest) (low : 1 ≤ n) (all : n + rest ≡ node_arity N v + 1) (c d : ℕ) (pc : c ≡ part N v n) (pd : d ≡ part N t n) (A₂ B₂ : List ℕ) (u : Unified) (P : Paired N A₁ A₂ B₁ B₂ total (c, a) (d, b) left u) where
+    module _ (pos : 0 < rest) (low : 1 ≤ n) (all : n + rest ≡ node_arity N v + 1) (c d : ℕ) (pc : c ≡ part N v n) (pd : d ≡ part N t n) (A₂ B₂ : List ℕ) (u : Answer) (P : Paired N A₁ A₂ B₁ B₂ total (c, a) (d, b) left u) where
       module _ (top first : ℕ) (base : Environment) (bs : List Binding) (S : Stand N top A B first base bs held) (L : Alike N top v a t b) where
         here : Pairing N top A₂ B₂ first base (bindings_onto B₁ held (total - held) bs) total (c, a) (d, b) left u
         here =
@@ -216,32 +210,19 @@ module _ (N A B : List ℕ) (held v a t b w : ℕ) where
         ahead : (q : Outcome) → ArgumentsRun (node_row N) most_links (no_room first) base left (bindings_onto B₁ held (total - held) bs) (c ∷ arguments_from N v (rest - 1) (n + 1)) a (d ∷ arguments_from N t (rest - 1) (n + 1)) b q → ArgumentsRun (node_row N) most_links (no_room first) base w bs (arguments_from N v (node_arity N v) 1) a (arguments_from N t (node_arity N t) 1) b q
         ahead q h = (K top first base bs S L).whole q (rw (args_eq N top v n rest pos c pc, args_eq N top t n rest pos d pd) h)
 
-      pub match_refused : (x : ℕ) → u ≡ Refused x → Argued N A A₂ B B₂ held v a t b w (Refused x)
+      pub match_refused : (x : Failure) → u ≡ Err x → Argued N A A₂ B B₂ held v a t b w (Err x)
       match_refused x p top first base bs S L =
-          record { ok = ahead top first base bs S L (failed (failure_of x)) (arguments_failed (node_row N) most_links (no_room first) base left (bindings_onto B₁ held (total - held) bs) c a d b (arguments_from N v (rest - 1) (n + 1)) (arguments_from N t (rest - 1) (n + 1)) (failure_of x) (subst (λ (z : Unified). PairRuns (node_row N) most_links (no_room first) base left (bindings_onto B₁ held (total - held) bs) (c, a) (d, b) (outcome_onto z B₂ total (bindings_onto B₁ held (total - held) bs))) p (here top first base bs S L).ok)); after = tt }
+          record { ok = ahead top first base bs S L (failed (failure_of x)) (arguments_failed (node_row N) most_links (no_room first) base left (bindings_onto B₁ held (total - held) bs) c a d b (arguments_from N v (rest - 1) (n + 1)) (arguments_from N t (rest - 1) (n + 1)) (failure_of x) (subst (λ (z : Answer). PairRuns (node_row N) most_links (no_room first) base left (bindings_onto B₁ held (total - held) bs) (c, a) (d, b) (outcome_onto z B₂ total (bindings_onto B₁ held (total - held) bs))) p (here top first base bs S L).ok)); after = tt }
 
-      match_on : (l h : ℕ) → u ≡ Done l h → Added B B₁ held total → Added B₁ B₂ total h → Matched N A A₂ B B₂ held v a t b w (n + 1) (rest - 1) l h
+      match_on : (l h : ℕ) → u ≡ done l h → Added B B₁ held total → Added B₁ B₂ total h → Matched N A A₂ B B₂ held v a t b w (n + 1) (rest - 1) l h
       match_on l h p k₁ k₂ top first base bs S L =
           let j = onto_then bs k₁ k₂ in
           let y = here top first base bs S L in
-          let o : PairRuns (node_row N) most_links (no_room first) base left (bindings_onto B₁ held (total - held) bs) (c, a) (d, b) (unified (bindings_onto B₂ held (h - held) bs) l) = subst (λ (z : List Binding). PairRuns (node_row N) most_links (no_room first) base left (bindings_onto B₁ held (total - held) bs) (c, a) (d, b) (unified z l)) j (subst (λ (z : Unified). PairRuns (node_row N) most_links (no_room first) base left (bindings_onto B₁ held (total - held) bs) (c, a) (d, b) (outcome_onto z B₂ total (bindings_onto B₁ held (total - held) bs))) p y.ok) in
-          record { stand = subst (λ (z : List Binding). Stand N top A₂ B₂ first base z h) j (subst (λ (z : Unified). Stands N top A₂ B₂ first base (bindings_onto B₁ held (total - held) bs) total z) p y.after); whole = λ q g. ahead top first base bs S L q (arguments_next (node_row N) most_links (no_room first) base left (bindings_onto B₁ held (total - held) bs) c a d b (arguments_from N v (rest - 1) (n + 1)) (arguments_from N t (rest - 1) (n + 1)) (bindings_onto B₂ held (h - held) bs) l q o g) }
+          let o : PairRuns (node_row N) most_links (no_room first) base left (bindings_onto B₁ held (total - held) bs) (c, a) (d, b) (unified (bindings_onto B₂ held (h - held) bs) l) = subst (λ (z : List Binding). PairRuns (node_row N) most_links (no_room first) base left (bindings_onto B₁ held (total - held) bs) (c, a) (d, b) (unified z l)) j (subst (λ (z : Answer). PairRuns (node_row N) most_links (no_room first) base left (bindings_onto B₁ held (total - held) bs) (c, a) (d, b) (outcome_onto z B₂ total (bindings_onto B₁ held (total - held) bs))) p y.ok) in
+          record { stand = subst (λ (z : List Binding). Stand N top A₂ B₂ first base z h) j (subst (λ (z : Answer). Stands N top A₂ B₂ first base (bindings_onto B₁ held (total - held) bs) total z) p y.after); whole = λ q g. ahead top first base bs S L q (arguments_next (node_row N) most_links (no_room first) base left (bindings_onto B₁ held (total - held) bs) c a d b (arguments_from N v (rest - 1) (n + 1)) (arguments_from N t (rest - 1) (n + 1)) (bindings_onto B₂ held (h - held) bs) l q o g) }
 
-      pub match_next : (l h : ℕ) → u ≡ Done l h → Added B B₁ held total → Added B₁ B₂ total h → (rest' : ℕ) → rest' ≡ rest - 1 → Matched N A A₂ B B₂ held v a t b w (n + 1) rest' l h
+      pub match_next : (l h : ℕ) → u ≡ done l h → Added B B₁ held total → Added B₁ B₂ total h → (rest' : ℕ) → rest' ≡ rest - 1 → Matched N A A₂ B B₂ held v a t b w (n + 1) rest' l h
       match_next l h p k₁ k₂ rest' e = subst (λ (m : ℕ). Matched N A A₂ B B₂ held v a t b w (n + 1) m l h) (sym e) (match_on l h p k₁ k₂)
-
--- An answer that is known.
-pub filed_done : (B B' : List ℕ) (held : ℕ) (u : Unified) (l h : ℕ) → u ≡ Done l h → Filed B B' held u → Added B B' held h
-filed_done B B' held u l h p k = subst (Filed B B' held) p k
-
-pub filed_refused : (B B' : List ℕ) (held : ℕ) (u : Unified) (n : ℕ) → u ≡ Refused n → Filed B B' held u → KeptBelow B B' held × (n ≡ failure_number (failure_of n))
-filed_refused B B' held u n p k = subst (Filed B B' held) p k
-
-pub less_done : (w : ℕ) (u : Unified) (l h : ℕ) → u ≡ Done l h → LessWorkLeft w u → l < w
-less_done w u l h p k = subst (LessWorkLeft w) p k
-
-pub no_more_done : (w : ℕ) (u : Unified) (l h : ℕ) → u ≡ Done l h → NoMoreWorkLeft w u → l ≤ w
-no_more_done w u l h p k = subst (NoMoreWorkLeft w) p k
 
 pub match_last : (N A A₁ B B₁ : List ℕ) (held v a t b w n last left total : ℕ) → last ≡ node_arity N v → n ≡ last → Matched N A A₁ B B₁ held v a t b w n (last + 1 - n) left total → Matched N A A₁ B B₁ held v a t b w (node_arity N v) 1 left total
 match_last N A A₁ B B₁ held v a t b w n last left total p q K =
@@ -253,25 +234,25 @@ meets_as {N} {x} {y} {x'} {y'} {m} p q h = subst (λ (z : Followed). Meets N z y
 
 -- The ways out of a pair whose sides were followed, by what is to be done with them.
 module _ (N A B : List ℕ) (held : ℕ) (e d : Expression) (w : ℕ) (A₁ A₂ : List ℕ) (nz : w ≡ 0 → ⊥) (f g : Followed) (W₁ : Follows N A A₁ e f) (W₂ : Follows N A₁ A₂ d g) where
-  pub paired_nothing : {f' g' : Followed} → Meets N f' g' Nothing → f ≡ f' → g ≡ g' → Paired N A A₂ B B held e d w (Done (w - 1) held)
-  paired_nothing (same_variable {v} {a} {t} {b} q) pf pg = paired_variable N A B held e d w A₁ A₂ nz f g W₁ W₂ A₂ B (Done (w - 1) held) v a pf (met_same N A₂ B held (v, a) g (w - 1) t b pg true (sym q) refl)
+  pub paired_nothing : {f' g' : Followed} → Meets N f' g' Nothing → f ≡ f' → g ≡ g' → Paired N A A₂ B B held e d w (done (w - 1) held)
+  paired_nothing (same_variable {v} {a} {t} {b} q) pf pg = paired_variable N A B held e d w A₁ A₂ nz f g W₁ W₂ A₂ B (done (w - 1) held) v a pf (met_same N A₂ B held (v, a) g (w - 1) t b pg true (sym q) refl)
   paired_nothing (same_application {f = v} {a} {g = t} {b} q) pf pg = paired_same_app N A B held e d w A₁ A₂ nz f g W₁ W₂ v a t b pf pg true (sym q) refl
   paired_nothing (no_arguments {f = v} {a} {g = t} {b} q s z) pf pg =
-      paired_args N A B held e d w A₁ A₂ nz f g W₁ W₂ A₂ B (Done (w - 1) held) v a t b pf pg false (sym q) refl (part N v 0) (part N t 0) refl refl s
+      paired_args N A B held e d w A₁ A₂ nz f g W₁ W₂ A₂ B (done (w - 1) held) v a t b pf pg false (sym q) refl (part N v 0) (part N t 0) refl refl s
       (match_end N A₂ B held v a t b (w - 1) A₂ B 1 0 (w - 1) held (match_start N A₂ B held v a t b (w - 1) 0 z) refl)
 
-  pub paired_clashing : {f' g' : Followed} → Meets N f' g' Clash → f ≡ f' → g ≡ g' → Paired N A A₂ B B held e d w (Refused 10)
+  pub paired_clashing : {f' g' : Followed} → Meets N f' g' Clash → f ≡ f' → g ≡ g' → Paired N A A₂ B B held e d w (Err SymbolsDiffer)
   paired_clashing (other_symbol {f = v} {a} {g = t} {b} q s) pf pg = paired_clash N A B held e d w A₁ A₂ nz f g W₁ W₂ v a t b pf pg false (sym q) refl (part N v 0) (part N t 0) refl refl s
 
-  pub paired_bind : {f' g' : Followed} {v a t b : ℕ} → Meets N f' g' (Bind v a t b) → f ≡ f' → g ≡ g' → (A₃ B₃ : List ℕ) (u : Unified) → Bound N A₂ A₃ B B₃ held (v, a) (t, b) (w - 1) u → Paired N A A₃ B B₃ held e d w u
+  pub paired_bind : {f' g' : Followed} {v a t b : ℕ} → Meets N f' g' (Bind v a t b) → f ≡ f' → g ≡ g' → (A₃ B₃ : List ℕ) (u : Answer) → Bound N A₂ A₃ B B₃ held (v, a) (t, b) (w - 1) u → Paired N A A₃ B B₃ held e d w u
   paired_bind (left_to_variable {v} {a} {t} {b} q) pf pg A₃ B₃ u K = paired_variable N A B held e d w A₁ A₂ nz f g W₁ W₂ A₃ B₃ u v a pf (met_other N A₂ B held (v, a) g (w - 1) A₃ B₃ u t b pg false (sym q) refl K)
   paired_bind (left_to_application {v} {a} {g = t} {b}) pf pg A₃ B₃ u K = paired_variable N A B held e d w A₁ A₂ nz f g W₁ W₂ A₃ B₃ u v a pf (met_application N A₂ B held (v, a) g (w - 1) A₃ B₃ u t b pg K)
   paired_bind (right_variable {f = v} {a} {t} {b}) pf pg A₃ B₃ u K = paired_right N A B held e d w A₁ A₂ nz f g W₁ W₂ A₃ B₃ u v a t b pf pg K
 
   -- The arguments were refused.
-  pub paired_refused : {f' g' : Followed} {v a t b : ℕ} → Meets N f' g' (Arguments v a t b) → f ≡ f' → g ≡ g' → (A₃ B₃ : List ℕ) (u : Unified) (n : ℕ) → u ≡ Refused n → ArguedBefore N A₂ A₃ B B₃ held v a t b (w - 1) u → Paired N A A₃ B B₃ held e d w (Refused n)
+  pub paired_refused : {f' g' : Followed} {v a t b : ℕ} → Meets N f' g' (Arguments v a t b) → f ≡ f' → g ≡ g' → (A₃ B₃ : List ℕ) (u : Answer) (n : Failure) → u ≡ Err n → ArguedBefore N A₂ A₃ B B₃ held v a t b (w - 1) u → Paired N A A₃ B B₃ held e d w (Err n)
   paired_refused (some_arguments {f = v} {a} {g = t} {b} q s m) pf pg A₃ B₃ u n is_refused K =
-      paired_args N A B held e d w A₁ A₂ nz f g W₁ W₂ A₃ B₃ (Refused n) v a t b pf pg false (sym q) refl (part N v 0) (part N t 0) refl refl s
+      paired_args N A B held e d w A₁ A₂ nz f g W₁ W₂ A₃ B₃ (Err n) v a t b pf pg false (sym q) refl (part N v 0) (part N t 0) refl refl s
       (subst (ArguedBefore N A₂ A₃ B B₃ held v a t b (w - 1)) is_refused K)
 
 -- What the loop over pairs has come to: what holds of the pair at hand, with `left` work left, holds of the first.
@@ -293,28 +274,28 @@ pursued_start N A B held e d w top first base bs S ge gd = record {
   whole = λ q h. subst (λ (z : List Binding). PairRuns (node_row N) most_links (no_room first) base w z e d q) (onto_none B held bs) h;
 }
 
-pub filed_then : (B B₁ B₂ : List ℕ) (held total : ℕ) (u : Unified) → Added B B₁ held total → Filed B₁ B₂ total u → Filed B B₂ held u
-filed_then B B₁ B₂ held total (Done l h) k f = added_then k f
-filed_then B B₁ B₂ held total (Refused n) k f = (added_below k f.0, f.1)
+pub filed_then : (B B₁ B₂ : List ℕ) (held total : ℕ) (u : Answer) → Added B B₁ held total → Filed B₁ B₂ total u → Filed B B₂ held u
+filed_then B B₁ B₂ held total (Ok u) k f = added_then k f
+filed_then B B₁ B₂ held total (Err x) k f = added_below k f
 
 module _ (N A A₁ B B₁ : List ℕ) (held : ℕ) (e d : Expression) (w : ℕ) (c k : Expression) (left total : ℕ) (P : Pursued N A A₁ B B₁ held e d w c k left total) (K₁ : Added B B₁ held total) where
-  pub pursued_then : (A₂ B₂ : List ℕ) (u : Unified) → Paired N A₁ A₂ B₁ B₂ total c k left u → Filed B₁ B₂ total u → Paired N A A₂ B B₂ held e d w u
-  pursued_then A₂ B₂ (Done l h) X K₂ top first base bs S ge gd =
+  pub pursued_then : (A₂ B₂ : List ℕ) (u : Answer) → Paired N A₁ A₂ B₁ B₂ total c k left u → Filed B₁ B₂ total u → Paired N A A₂ B B₂ held e d w u
+  pursued_then A₂ B₂ (Ok u) X K₂ top first base bs S ge gd =
       let P' = P top first base bs S ge gd in
       let X' = X top first base (bindings_onto B₁ held (total - held) bs) P'.stand P'.good_left P'.good_right in
       let j = onto_then bs K₁ K₂ in
       record {
-        ok = P'.whole (unified (bindings_onto B₂ held (h - held) bs) l) (subst (λ (z : List Binding). PairRuns (node_row N) most_links (no_room first) base left (bindings_onto B₁ held (total - held) bs) c k (unified z l)) j X'.ok);
-        after = subst (λ (z : List Binding). Stand N top A₂ B₂ first base z h) j X'.after;
+        ok = P'.whole (unified (bindings_onto B₂ held (u.held - held) bs) u.work) (subst (λ (z : List Binding). PairRuns (node_row N) most_links (no_room first) base left (bindings_onto B₁ held (total - held) bs) c k (unified z u.work)) j X'.ok);
+        after = subst (λ (z : List Binding). Stand N top A₂ B₂ first base z u.held) j X'.after;
       }
-  pursued_then A₂ B₂ (Refused n) X K₂ top first base bs S ge gd =
+  pursued_then A₂ B₂ (Err x) X K₂ top first base bs S ge gd =
       let P' = P top first base bs S ge gd in
       let X' = X top first base (bindings_onto B₁ held (total - held) bs) P'.stand P'.good_left P'.good_right in
-      record { ok = P'.whole (failed (failure_of n)) X'.ok; after = tt }
+      record { ok = P'.whole (failed (failure_of x)) X'.ok; after = tt }
 
   -- The last arguments of two applications are next.
   module _ (nz : left ≡ 0 → ⊥) (A₂ A₃ : List ℕ) (f g : Followed) (W₁ : Follows N A₁ A₂ c f) (W₂ : Follows N A₂ A₃ k g) where
-    pub pursued_next : {f' g' : Followed} {v a t b : ℕ} → Meets N f' g' (Arguments v a t b) → f ≡ f' → g ≡ g' → (A₄ B₄ : List ℕ) (l h : ℕ) (u : Unified) → u ≡ Done l h → ArguedBefore N A₃ A₄ B₁ B₄ total v a t b (left - 1) u → Added B₁ B₄ total h
+    pub pursued_next : {f' g' : Followed} {v a t b : ℕ} → Meets N f' g' (Arguments v a t b) → f ≡ f' → g ≡ g' → (A₄ B₄ : List ℕ) (l h : ℕ) (u : Answer) → u ≡ done l h → ArguedBefore N A₃ A₄ B₁ B₄ total v a t b (left - 1) u → Added B₁ B₄ total h
         → (p q last : ℕ) → last ≡ node_arity N v → p ≡ part N v last → q ≡ part N t last → Pursued N A A₄ B B₄ held e d w (p, a) (q, b) l h
     pursued_next (some_arguments {f = v} {a} {g = t} {b} isApart symbol any) pf pg A₄ B₄ l h u isDone K K₂ p q last is_last pp pq top first base bs S ge gd =
         record {

@@ -1,48 +1,50 @@
 -- The contracts of the walk over pairs. What unification promises its callers is in `Unifying`; this file only says
 -- how the parts of the program fit together. Each function asks for a step whose bindings the array stands for. What it ensures is
 -- stated for every such step, and for every rest of the machine's task.
-use Rattle.std.specs.Prelude.{◌≡◌, true, false, List, ◌++◌, ℕ, ◌+◌, ◌-◌, ◌≤◌, ◌<◌, eqb, length}
+use Rattle.std.specs.Prelude.{◌≡◌, true, false, List, ◌++◌, ℕ, ◌+◌, ◌-◌, ◌≤◌, ◌<◌, length, Result, Ok, Err}
 use Rattle.std.proofs.Math.Option.{none}
-use Rattle.record.specs.Record.{pick}
 use Rattle.unification.specs.Bindings.{bindings_from, KeptBelow, Added}
 use Rattle.unification.specs.Environment.{follow, Binding, Environment, extend, Ends}
 use Rattle.unification.specs.Nodes.{is_variable, part, node_arity, HasRow, arguments_from, node_row}
 use Rattle.unification.specs.Row.{Expression, same}
-use Rattle.unification.specs.Unification.{most_links, failure_number, Failure, clash, occurs, overwork, full, Outcome, unified, failed, no_room}
+use Rattle.unification.specs.Unification.{most_links, Outcome, unified, failed, no_room}
 use Rattle.unification.specs.ValueArray.{InStep, Models}
 use Rattle.following.specs.declared.follow.Followed.{Followed}
 use Rattle.following.specs.declared.follow.Followed.TheVariants.{Variable, Application}
 use Rattle.unify.specs.declared.Meeting.{Meeting}
 use Rattle.unify.specs.declared.Meeting.TheVariants.{Bind, Nothing, Clash, Arguments}
 use Rattle.unify.specs.declared.Unified.{Unified}
-use Rattle.unify.specs.declared.Unified.TheVariants.{Done, Refused}
-use Rattle.following.specs.Walks.{Tested, PairRuns, ArgumentsRun, TestRuns, bind_outcome}
+use Rattle.following.specs.declared.failure.Failure.{Failure}
+use Rattle.following.specs.Walks.{failure_of, Tested, PairRuns, ArgumentsRun, TestRuns, bind_outcome}
 
--- The failures by the numbers of document 01's table.
-abbrev pub failure_of : ℕ → Failure
-failure_of n = pick (eqb n 10) clash (pick (eqb n 11) occurs (pick (eqb n 12) overwork full))
+-- What unification answers.
+abbrev pub Answer : Type 0
+Answer = Result Unified Failure
+
+abbrev pub done : ℕ → ℕ → Answer
+done w h = Ok (record { work = w; held = h })
 
 -- Less work is left than w; no more than w.
-abbrev pub LessWorkLeft : ℕ → Unified → Type 0
-LessWorkLeft w (Done l h) = l < w
-LessWorkLeft w (Refused n) = Unit {0}
+abbrev pub LessWorkLeft : ℕ → Answer → Type 0
+LessWorkLeft w (Ok u) = u.work < w
+LessWorkLeft w (Err f) = Unit {0}
 
-abbrev pub NoMoreWorkLeft : ℕ → Unified → Type 0
-NoMoreWorkLeft w (Done l h) = l ≤ w
-NoMoreWorkLeft w (Refused n) = Unit {0}
+abbrev pub NoMoreWorkLeft : ℕ → Answer → Type 0
+NoMoreWorkLeft w (Ok u) = u.work ≤ w
+NoMoreWorkLeft w (Err f) = Unit {0}
 
--- What the answer says of the table of bindings, whatever the array stands for; and a refusal has a number of the table of failures.
-abbrev pub Filed : List ℕ → List ℕ → ℕ → Unified → Type 0
-Filed B B' held (Done w h) = Added B B' held h
-Filed B B' held (Refused n) = KeptBelow B B' held × (n ≡ failure_number (failure_of n))
+-- What the answer says of the table of bindings, whatever the array stands for.
+abbrev pub Filed : List ℕ → List ℕ → ℕ → Answer → Type 0
+Filed B B' held (Ok u) = Added B B' held u.held
+Filed B B' held (Err f) = KeptBelow B B' held
 
 -- The bindings bs with those of the table from `held` on before them.
 abbrev pub bindings_onto : List ℕ → ℕ → ℕ → List Binding → List Binding
 bindings_onto B held n bs = bindings_from B held n ++ bs
 
-abbrev pub outcome_onto : Unified → List ℕ → ℕ → List Binding → Outcome
-outcome_onto (Done w h) B held bs = unified (bindings_onto B held (h - held) bs) w
-outcome_onto (Refused n) B held bs = failed (failure_of n)
+abbrev pub outcome_onto : Answer → List ℕ → ℕ → List Binding → Outcome
+outcome_onto (Ok u) B held bs = unified (bindings_onto B held (u.held - held) bs) u.work
+outcome_onto (Err f) B held bs = failed (failure_of f)
 
 -- The bindings bs of a step over what its parents say: `first` bindings were held before the step and `held` are now. The array
 -- stands for them, their chains are no longer than the bindings held, and the table has room.
@@ -62,9 +64,9 @@ pub record StepReady (N A B : List ℕ) (held : ℕ) : Type 0 where
   pub bindings : List Binding
   pub stand : Stand N top A B first base bindings held
 
-abbrev pub Stands : List ℕ → ℕ → List ℕ → List ℕ → ℕ → Environment → List Binding → ℕ → Unified → Type 0
-Stands N top A B first base bs held (Done w h) = Stand N top A B first base (bindings_onto B held (h - held) bs) h
-Stands N top A B first base bs held (Refused n) = Unit {0}
+abbrev pub Stands : List ℕ → ℕ → List ℕ → List ℕ → ℕ → Environment → List Binding → ℕ → Answer → Type 0
+Stands N top A B first base bs held (Ok u) = Stand N top A B first base (bindings_onto B held (u.held - held) bs) u.held
+Stands N top A B first base bs held (Err f) = Unit {0}
 
 -- What x is to be bound to was followed, and is not x.
 pub data Settled (N : List ℕ) (ρ : Environment) (x d : Expression) : Type 0 where
@@ -115,27 +117,27 @@ pub data Meets (N : List ℕ) : Followed → Followed → Meeting → Type 0 whe
 -- The machine at a pair, at a binding to be made, at an unbound variable on the left, and at the arguments of two applications; and
 -- where the step stands afterwards.
 module _ (N : List ℕ) (top : ℕ) (A B : List ℕ) (first : ℕ) (base : Environment) (bs : List Binding) (held : ℕ) where
-  pub record Pairing (e d : Expression) (w : ℕ) (u : Unified) : Type 0 where
+  pub record Pairing (e d : Expression) (w : ℕ) (u : Answer) : Type 0 where
     pub ok : PairRuns (node_row N) most_links (no_room first) base w bs e d (outcome_onto u B held bs)
     pub after : Stands N top A B first base bs held u
 
-  pub record Tying (x d : Expression) (w : ℕ) (u : Unified) : Type 0 where
+  pub record Tying (x d : Expression) (w : ℕ) (u : Answer) : Type 0 where
     pub tested : Tested
     pub ok : TestRuns (node_row N) most_links (no_room first) base w bs x d d tested
     pub outcome : bind_outcome (node_row N) most_links (no_room first) base tested bs x d ≡ outcome_onto u B held bs
     pub after : Stands N top A B first base bs held u
 
-  pub record Arguing (v a t b w : ℕ) (u : Unified) : Type 0 where
+  pub record Arguing (v a t b w : ℕ) (u : Answer) : Type 0 where
     pub ok : ArgumentsRun (node_row N) most_links (no_room first) base w bs (arguments_from N v (node_arity N v) 1) a (arguments_from N t (node_arity N t) 1) b (outcome_onto u B held bs)
     pub after : Stands N top A B first base bs held u
 
-abbrev pub Paired : List ℕ → List ℕ → List ℕ → List ℕ → List ℕ → ℕ → Expression → Expression → ℕ → Unified → Type 0
+abbrev pub Paired : List ℕ → List ℕ → List ℕ → List ℕ → List ℕ → ℕ → Expression → Expression → ℕ → Answer → Type 0
 Paired N A A' B B' held e d w u = (top first : ℕ) (base : Environment) (bs : List Binding) → Stand N top A B first base bs held → InStep N top e → InStep N top d → Pairing N top A' B' first base bs held e d w u
 
-abbrev pub Bound : List ℕ → List ℕ → List ℕ → List ℕ → List ℕ → ℕ → Expression → Expression → ℕ → Unified → Type 0
+abbrev pub Bound : List ℕ → List ℕ → List ℕ → List ℕ → List ℕ → ℕ → Expression → Expression → ℕ → Answer → Type 0
 Bound N A A' B B' held x d w u = (top first : ℕ) (base : Environment) (bs : List Binding) → Stand N top A B first base bs held → InStep N top x → is_variable N x.0 ≡ true → InStep N top d → extend base bs x ≡ none → Settled N (extend base bs) x d → Tying N top A' B' first base bs held x d w u
 
-abbrev pub Argued : List ℕ → List ℕ → List ℕ → List ℕ → List ℕ → ℕ → ℕ → ℕ → ℕ → ℕ → ℕ → Unified → Type 0
+abbrev pub Argued : List ℕ → List ℕ → List ℕ → List ℕ → List ℕ → ℕ → ℕ → ℕ → ℕ → ℕ → ℕ → Answer → Type 0
 Argued N A A' B B' held v a t b w u = (top first : ℕ) (base : Environment) (bs : List Binding) → Stand N top A B first base bs held → Alike N top v a t b → Arguing N top A' B' first base bs held v a t b w u
 
 -- In the arguments of v at index a and t at index b: what holds from argument n on, of which `rest` are left, holds of all.
@@ -148,6 +150,6 @@ abbrev pub Matched : List ℕ → List ℕ → List ℕ → List ℕ → List �
 Matched N A A' B B' held v a t b w n rest left total = (top first : ℕ) (base : Environment) (bs : List Binding) → Stand N top A B first base bs held → Alike N top v a t b → Matching N top A' B' first base bs held v a t b w n rest left total
 
 -- The arguments before the last: the last ones are left to be unified, or the arguments were refused.
-abbrev pub ArguedBefore : List ℕ → List ℕ → List ℕ → List ℕ → List ℕ → ℕ → ℕ → ℕ → ℕ → ℕ → ℕ → Unified → Type 0
-ArguedBefore N A A' B B' held v a t b w (Done l h) = Matched N A A' B B' held v a t b w (node_arity N v) 1 l h
-ArguedBefore N A A' B B' held v a t b w (Refused n) = Argued N A A' B B' held v a t b w (Refused n)
+abbrev pub ArguedBefore : List ℕ → List ℕ → List ℕ → List ℕ → List ℕ → ℕ → ℕ → ℕ → ℕ → ℕ → ℕ → Answer → Type 0
+ArguedBefore N A A' B B' held v a t b w (Ok u) = Matched N A A' B B' held v a t b w (node_arity N v) 1 u.work u.held
+ArguedBefore N A A' B B' held v a t b w (Err f) = Argued N A A' B B' held v a t b w (Err f)

@@ -1,20 +1,19 @@
 -- What `unify_literals` and `unify_with_each` ask of their caller and ensure. `Pairs` has the contracts of the functions behind them.
-use Rattle.std.specs.Prelude.{◌≡◌, List, [], ◌∷◌, map, ℕ, ◌+◌, ◌-◌, ◌*◌, ◌≤◌, ◌<◌, length, get_or}
+use Rattle.std.specs.Prelude.{◌≡◌, List, [], ◌∷◌, map, ℕ, ◌+◌, ◌-◌, ◌*◌, ◌≤◌, ◌<◌, length, get_or, Ok, Err}
 use Rattle.unification.specs.Bindings.{bindings_from}
 use Rattle.unification.specs.Environment.{follow, Environment, Ends}
 use Rattle.unification.specs.Listed.{listed_from}
 use Rattle.unification.specs.Nodes.{HasRow, node_row}
 use Rattle.unification.specs.Row.{Expression}
-use Rattle.unification.specs.Unification.{unify, failure_number, Outcome, unified, failed, Pair}
+use Rattle.unification.specs.Unification.{unify, Outcome, unified, failed, Pair}
 use Rattle.unification.specs.ValueArray.{InStep, Models}
-use Rattle.unify.specs.Pairs.{failure_of}
-use Rattle.unify.specs.declared.Unified.{Unified}
-use Rattle.unify.specs.declared.Unified.TheVariants.{Done, Refused}
+use Rattle.following.specs.Walks.{failure_of}
+use Rattle.unify.specs.Pairs.{Answer}
 
 -- The answer as an outcome of unification: the bindings are those that the table holds from `held` on.
-abbrev pub outcome_of : List ℕ → ℕ → Unified → Outcome
-outcome_of B held (Done w h) = unified (bindings_from B held (h - held)) w
-outcome_of B held (Refused n) = failed (failure_of n)
+abbrev pub outcome_of : List ℕ → ℕ → Answer → Outcome
+outcome_of B held (Ok u) = unified (bindings_from B held (u.held - held)) u.work
+outcome_of B held (Err f) = failed (failure_of f)
 
 -- Both sides of each pair are expressions of the step.
 abbrev pub EachInStep : List ℕ → ℕ → List Pair → Type 0
@@ -48,15 +47,14 @@ pub record ReadyForEach (N A B : List ℕ) (held : ℕ) (e : Expression) (rights
   pub cells : length rights ≡ 8
   pub listed : n ≤ 4
 
--- Bindings were added up to h, and the cells from there on are as they were; or the number is one of a failure, and the cells past the
--- part that bindings use are as they were.
-abbrev pub Counted : List ℕ → List ℕ → ℕ → Unified → Type 0
-Counted B B' held (Done w h) = (held ≤ h) × (h ≤ 8192) × ((k : ℕ) → 4 * h ≤ k → get_or B' k 0 ≡ get_or B k 0)
-Counted B B' held (Refused n) = (n ≡ failure_number (failure_of n)) × ((k : ℕ) → 32768 ≤ k → get_or B' k 0 ≡ get_or B k 0)
+-- Bindings were added up to h, and the cells from there on are as they were; or the cells past the part that bindings use are as they were.
+abbrev pub Counted : List ℕ → List ℕ → ℕ → Answer → Type 0
+Counted B B' held (Ok u) = (held ≤ u.held) × (u.held ≤ 8192) × ((k : ℕ) → 4 * u.held ≤ k → get_or B' k 0 ≡ get_or B k 0)
+Counted B B' held (Err f) = (k : ℕ) → 32768 ≤ k → get_or B' k 0 ≡ get_or B k 0
 
 -- What the caller gets: the outcome of unification in every environment that the array stands for. The table of bindings keeps
 -- its length and the bindings held before; after a refusal the cells from 4 * held on may have been written.
-pub record Answered (N A A' B B' : List ℕ) (held : ℕ) (ps : List Pair) (u : Unified) : Type 0 where
+pub record Answered (N A A' B B' : List ℕ) (held : ℕ) (ps : List Pair) (u : Answer) : Type 0 where
   pub outcome : (top : ℕ) (ρ : Environment) → Facing N top A held ρ ps → unify (node_row N) held ρ ps ≡ outcome_of B' held u
   pub values : length A' ≡ 524416
   pub bindings : length B' ≡ length B

@@ -1,18 +1,8 @@
 // The table of bindings, four cells for each. A write outside it does nothing.
-ghost use Rattle.std.specs.Prelude.{◌≡◌, ◌<◌};
-ghost use Rattle.unification.specs.ValueArray.{put};
+ghost use Rattle.std.specs.Prelude.{◌≡◌};
 ghost use Rattle.unification.specs.Bindings.{push};
 
-use tables::set_cell;
-
-// The two cells at `at` written.
-fn write_cells(table: &mut [u16], at: usize, a: u16, b: u16)
-    requires { at < 16777216 }
-    ensures { table.new ≡ put table.old at a b }
-{
-    set_cell(table, at, a);
-    set_cell(table, at + 1, b);
-}
+use following::values::write_cells;
 
 // Binding `held` is written: of the variable v at index i, to t at index j.
 pub fn push_binding(bindings: &mut [u16], held: u16, v: u16, i: u16, t: u16, j: u16)

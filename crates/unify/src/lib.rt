@@ -6,11 +6,11 @@
 
 pub mod bindings;
 
-// The work left and the number of bindings held; or the reason for the refusal, 10 to 13.
+// What unification leaves where it succeeds: the work that is left, and the number of bindings held.
 #[derive(Clone, Copy)]
-pub enum Unified {
-    Done(u16, u16),
-    Refused(u8),
+pub struct Unified {
+    pub work: u16,
+    pub held: u16,
 }
 
 // What is to be done with two followed sides: a variable is bound to the other side, first row and index the variable's; nothing; the

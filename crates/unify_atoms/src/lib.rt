@@ -4,6 +4,7 @@
 ghost use Rattle.std.specs.Prelude.{[], ◌∷◌};
 ghost use Rattle.unify.specs.Unifying.{Ready, Answered};
 
+use following::failure::Failure;
 use following::nodes::Nodes;
 use following::values::ValueCells;
 use unify::Unified;
@@ -20,7 +21,7 @@ pub fn unify_literals(
     i: u16,
     r: u16,
     j: u16,
-) -> Unified
+) -> Result<Unified, Failure>
     requires { Ready nodes.now values.old bindings.old held (((l, i), (r, j)) ∷ []) }
     ensures { Answered nodes.now values.old values.new bindings.old bindings.new held (((l, i), (r, j)) ∷ []) result }
 {

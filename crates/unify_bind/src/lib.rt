@@ -4,9 +4,9 @@
 ghost use Rattle.std.specs.Prelude.{◌≡◌, length};
 ghost use Rattle.unify.specs.Pairs.{BindReady, Bound, Filed, NoMoreWorkLeft};
 
+use following::failure::Failure;
 use following::nodes::Nodes;
-use following::occurs::Occurs;
-use following::values::{ValueCells, slot_of, write_value};
+use following::values::{ValueCells, slot_of, write_cells};
 use occurrence::occurs_in;
 use unify::Unified;
 use unify::bindings::push_binding;
@@ -22,25 +22,21 @@ pub fn bind(
     t: u16,
     j: u16,
     work: u16,
-) -> Unified
+) -> Result<Unified, Failure>
     requires { BindReady nodes.now values.old bindings.old held (v, i) (t, j) }
     ensures bound { Bound nodes.now values.old values.new bindings.old bindings.new held (v, i) (t, j) work result }
     ensures filed { Filed bindings.old bindings.new held result × NoMoreWorkLeft work result × (length values.new ≡ 524416) }
 {
-    let o = occurs_in(nodes, values, v, i, t, j, work);
-    match o {
-        Occurs::Yes => Unified::Refused(11),
-        Occurs::Spent => Unified::Refused(12),
-        Occurs::No(left) => {
-            if held < 8192 {
-                push_binding(bindings, held, v, i, t, j);
-                let at = slot_of(nodes, v, i);
-                // Rows are below 4,096, so this sum never wraps.
-                write_value(values, at, std::num::wrapping_add_u16(t, 1), j);
-                Unified::Done(left, held + 1)
-            } else {
-                Unified::Refused(13)
-            }
-        }
+    let left = occurs_in(nodes, values, v, i, t, j, work)?;
+    if held >= 8192 {
+        return Err(Failure::NoRoom);
     }
+    push_binding(bindings, held, v, i, t, j);
+    let at = slot_of(nodes, v, i);
+    // Rows are below 4,096, so this sum never wraps.
+    write_cells(values, at, t.wrapping_add(1), j);
+    Ok(Unified {
+        work: left,
+        held: held + 1,
+    })
 }

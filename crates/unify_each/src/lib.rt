@@ -4,6 +4,7 @@
 
 ghost use Rattle.unify.specs.Unifying.{pairs_from, ReadyForEach, Answered};
 
+use following::failure::Failure;
 use following::nodes::Nodes;
 use following::values::ValueCells;
 use unify::Unified;
@@ -21,24 +22,15 @@ pub fn unify_with_each(
     rights: &[u16; 8],
     n: u16,
     raised: u16,
-) -> Unified
+) -> Result<Unified, Failure>
     requires { ReadyForEach nodes.now values.old bindings.old held (l, i) rights.now n raised }
     ensures { Answered nodes.now values.old values.new bindings.old bindings.new held (pairs_from (l, i) raised rights.now 0 n) result }
 {
-    let mut left: u16 = 16384;
-    let mut total = held;
-    let mut j: u16 = 0;
-    while j < n {
+    let mut left = Unified { work: 16384, held };
+    for j in 0..n {
         let r = rights[2 * (j as usize)];
         let k = raised + rights[2 * (j as usize) + 1];
-        match unify_pair(nodes, values, bindings, total, l, i, r, k, left) {
-            Unified::Done(w, h) => {
-                left = w;
-                total = h;
-            }
-            Unified::Refused(q) => return Unified::Refused(q),
-        }
-        j += 1;
+        left = unify_pair(nodes, values, bindings, left.held, l, i, r, k, left.work)?;
     }
-    Unified::Done(left, total)
+    Ok(left)
 }

@@ -1,7 +1,6 @@
 // Two sides that were followed: what is to be done with them. `Pairs` in specs/ of the crate unify has the contracts.
 #![tactic(auto)]
 
-ghost use Rattle.std.specs.Prelude.{◌≡◌, length};
 ghost use Rattle.following.specs.declared.follow.Followed.TheVariants.{Application};
 ghost use Rattle.unify.specs.Pairs.{Meets};
 
@@ -11,7 +10,6 @@ use unify::Meeting;
 
 // Two applications: nothing is to be done for the same row and index, or for one symbol without arguments.
 fn meet_applications(nodes: &Nodes, f: u16, a: u16, g: u16, b: u16) -> Meeting
-    requires { length nodes.now ≡ 32768 }
     ensures { Meets nodes.now (Application f a) (Application g b) result }
 {
     if is_same(f, a, g, b) {
@@ -28,7 +26,6 @@ fn meet_applications(nodes: &Nodes, f: u16, a: u16, g: u16, b: u16) -> Meeting
 
 // The case of two followed sides. An unbound variable on the left comes before one on the right.
 pub fn meet(nodes: &Nodes, x: Followed, y: Followed) -> Meeting
-    requires { length nodes.now ≡ 32768 }
     ensures { Meets nodes.now x y result }
 {
     match x {

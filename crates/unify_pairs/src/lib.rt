@@ -5,6 +5,7 @@
 ghost use Rattle.std.specs.Prelude.{◌≡◌, length};
 ghost use Rattle.unify.specs.Pairs.{PairReady, ArgumentsReady, Paired, ArguedBefore, Filed, LessWorkLeft, NoMoreWorkLeft};
 
+use following::failure::Failure;
 use following::follow::follow;
 use following::nodes::{Nodes, arity_of, part_of};
 use following::values::ValueCells;
@@ -26,7 +27,7 @@ pub fn unify_pair(
     mut r: u16,
     mut j: u16,
     mut work: u16,
-) -> Unified
+) -> Result<Unified, Failure>
     requires { PairReady nodes.now values.old bindings.old held (l, i) (r, j) }
     ensures paired { Paired nodes.now values.old values.new bindings.old bindings.new held (l, i) (r, j) work result }
     ensures filed { Filed bindings.old bindings.new held result × LessWorkLeft work result × (length values.new ≡ 524416) }
@@ -39,25 +40,21 @@ pub fn unify_pair(
             Meeting::Bind(v, a, t, b) => {
                 return bind(nodes, values, bindings, held, v, a, t, b, work);
             }
-            Meeting::Nothing => return Unified::Done(work, held),
-            Meeting::Clash => return Unified::Refused(10),
+            Meeting::Nothing => return Ok(Unified { work, held }),
+            Meeting::Clash => return Err(Failure::SymbolsDiffer),
             Meeting::Arguments(f, a, g, b) => {
                 let last = arity_of(nodes, f);
                 l = part_of(nodes, f, last);
                 i = a;
                 r = part_of(nodes, g, last);
                 j = b;
-                match unify_arguments(nodes, values, bindings, held, f, a, g, b, last, work) {
-                    Unified::Done(w, h) => {
-                        work = w;
-                        held = h;
-                    }
-                    Unified::Refused(q) => return Unified::Refused(q),
-                }
+                let left = unify_arguments(nodes, values, bindings, held, f, a, g, b, last, work)?;
+                work = left.work;
+                held = left.held;
             }
         }
     }
-    Unified::Refused(12)
+    Err(Failure::WorkSpent)
 }
 
 // The argument walk: the arguments of two applications of one symbol, in order, but for the last ones, which the pair walk that called
@@ -74,25 +71,16 @@ fn unify_arguments(
     b: u16,
     last: u16,
     work: u16,
-) -> Unified
+) -> Result<Unified, Failure>
     requires { ArgumentsReady nodes.now values.old bindings.old held f a g b last }
     ensures argued_before { ArguedBefore nodes.now values.old values.new bindings.old bindings.new held f a g b work result }
     ensures filed { Filed bindings.old bindings.new held result × NoMoreWorkLeft work result × (length values.new ≡ 524416) }
 {
-    let mut n: u16 = 1;
-    let mut left = work;
-    let mut total = held;
-    while n < last {
+    let mut left = Unified { work, held };
+    for n in 1..last {
         let c = part_of(nodes, f, n);
         let d = part_of(nodes, g, n);
-        match unify_pair(nodes, values, bindings, total, c, a, d, b, left) {
-            Unified::Done(w, h) => {
-                left = w;
-                total = h;
-            }
-            Unified::Refused(q) => return Unified::Refused(q),
-        }
-        n += 1;
+        left = unify_pair(nodes, values, bindings, left.held, c, a, d, b, left.work)?;
     }
-    Unified::Done(left, total)
+    Ok(left)
 }

@@ -2,7 +2,7 @@
 use mathlib.Core.Path.{◌≡◌, refl, sym, ap, ◌∙◌, subst}
 use mathlib.Core.Bool.{Bool, true, false}
 use mathlib.Core.Option.{some}
-use mathlib.Core.List.{List, ◌++◌}
+use mathlib.Core.List.{List, [], ◌∷◌, ◌++◌}
 use Prim.Native.Nat.{ℕ, zero, suc, ◌<◌}
 use native.Mathlib.Omega.{arith}
 use lib.Dec.{eqb}
@@ -17,7 +17,7 @@ use Rattle.entry.specs.Progress.{ReadTo, tables_with}
 use Rattle.checker.specs.Contract.{workspace_with}
 use Rattle.answer.specs.declared.Answer.{Answer}
 use Rattle.line_texts.specs.Lines.{LineReady, LineWritten}
-use Rattle.heading.specs.Heading.{VerdictWritten}
+use Rattle.heading.specs.Heading.{given_text}
 use Rattle.units.specs.Pieces.{units_within}
 use Rattle.verdict.specs.Readout.{verdict_line}
 use Rattle.numbering.specs.Numbering.{line_of, NumberRoom}
@@ -128,7 +128,7 @@ module _ {naming : Naming} {C B N O A A' T T' : List ℕ} {a : Answer} {end : �
     sized = W.sized;
   }
 
-  pub unit_both : {n : ℕ} → n ≡ 0 → n < a.clauses → (T₁ : List ℕ) (middle : ℕ) → VerdictWritten a.verdict T T₁ 0 middle → LineWritten naming C B N O A A' T₁ T' middle n end → UnitWrote naming C B N O A A' T T' a n end
+  pub unit_both : {n : ℕ} → n ≡ 0 → n < a.clauses → (T₁ : List ℕ) (middle : ℕ) → Wrote T T₁ 0 middle (given_text a.verdict ++ (10 ∷ [])) → LineWritten naming C B N O A A' T₁ T' middle n end → UnitWrote naming C B N O A A' T T' a n end
   unit_both {n} z l T₁ middle G W = record {
     wrote = λ R.
         let c = there naming R n l in
@@ -138,16 +138,16 @@ module _ {naming : Naming} {C B N O A A' T T' : List ℕ} {a : Answer} {end : �
         (sym (ap (unit_at (line_of naming) R.day R.file (lengths_of R.before)) z ∙ unit_first (line_of naming) R.day R.file (lengths_of R.before) c.clause (subst (λ (k : ℕ). clause_of S k ≡ some c.clause) z c.is_clause)))
         (subst (λ (k : ℕ). Wrote T T' 0 end (verdict_line v ++ line_of naming S k c.clause)) z
         (wrote_then T T₁ T' 0 middle end (verdict_line v) (line_of naming S n c.clause)
-        (verdict_line_lem v (verdict_given_lem R.day R.file (lengths_of R.before) a R.checked.checked.answer) G)
+        (verdict_line_lem a.verdict v (verdict_given_lem R.day R.file (lengths_of R.before) a R.checked.checked.answer) G)
         (line_text naming R n l W c)));
     sized = W.sized;
   }
 
 module _ {naming : Naming} {C B N O A T T' : List ℕ} {a : Answer} {end : ℕ} where
-  pub unit_heading : {n : ℕ} → n ≡ 0 → a.clauses ≡ 0 → VerdictWritten a.verdict T T' 0 end → Sized N A T' → UnitWrote naming C B N O A A T T' a n end
+  pub unit_heading : {n : ℕ} → n ≡ 0 → a.clauses ≡ 0 → Wrote T T' 0 end (given_text a.verdict ++ (10 ∷ [])) → Sized N A T' → UnitWrote naming C B N O A A T T' a n end
   unit_heading {n} z none W sized = record {
     wrote = λ R. subst (Wrote T T' 0 end)
         (sym (ap (unit_at (line_of naming) R.day R.file (lengths_of R.before)) z ∙ unit_alone (line_of naming) R.day R.file (lengths_of R.before) (sym (count naming R) ∙ none)))
-        (verdict_line_lem (check R.day R.file (lengths_of R.before)).verdict (verdict_given_lem R.day R.file (lengths_of R.before) a R.checked.checked.answer) W);
+        (verdict_line_lem a.verdict (check R.day R.file (lengths_of R.before)).verdict (verdict_given_lem R.day R.file (lengths_of R.before) a R.checked.checked.answer) W);
     sized = sized;
   }

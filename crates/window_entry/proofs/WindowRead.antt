@@ -13,7 +13,7 @@ use Rattle.record.specs.Record.{pick, File, record_at, Record, record_count, rec
 use Rattle.derivation.specs.Derivation.{Derivation}
 use Rattle.derivation.specs.Stored.{origin_code, origin_list, Stored, stored_input, stored_resolve, stored_factor}
 use Rattle.entry.specs.Progress.{Plain, Kept, Next}
-use Rattle.verdict.specs.Refusal.{outOfRange, notThere, crossedDays, reason_number, kind_of_record, in_range, is_input}
+use Rattle.verdict.specs.Refusal.{outOfRange, notThere, crossedDays, kind_of_record, in_range, is_input}
 use Rattle.verdict.specs.State.{State, with_window, derivations, clause_of}
 use Rattle.verdict.specs.Step.{stands, require, window_in, step}
 use Rattle.verdict.specs.Tables.{Tables}
@@ -25,8 +25,9 @@ use Rattle.entry.proofs.NodeTable.{zeros_read}
 use Rattle.inference.proofs.KeptClauses.{stand_of, stored_of}
 use Rattle.window_entry.specs.Window.{window_entered}
 use Rattle.entry.specs.declared.entry.Counts.{Counts}
-use Rattle.entry.specs.declared.entry.Entered.{Entered}
-use Rattle.entry.specs.declared.entry.Entered.TheVariants.{Stands, Refused}
+use Rattle.entry.specs.Program.{Entered}
+use Rattle.std.specs.Prelude.{Ok, Err}
+use Rattle.reasons.specs.declared.Reason.TheVariants.{OutOfRange, NotThere, CrossedDays}
 
 -- The code of an origin says whether the clause is an input clause.
 stored_input_lem : {O C B : List ℕ} {c : ℕ} {d : Derivation} → Stored O C B c d → eqb (origin_code O c) 1 ≡ is_input (some d)
@@ -69,10 +70,10 @@ module _ (F : File) (t : Tables) (k : ℕ) (S : State) (n : Counts) (here : Tabl
           ≡ require (in_range windowKind rec) outOfRange (require (eqb (origin_code O (field_of (record_part F k) 0)) 1) notThere (require (leb (field_of (record_part F k) 1) (field_of (record_part F k) 2)) crossedDays (stands (with_window S (window_in rec)))))
       by_code = ap (λ (b : Bool). require (in_range windowKind rec) outOfRange (require b notThere (require (leb (field_of (record_part F k) 1) (field_of (record_part F k) 2)) crossedDays (stands (with_window S (window_in rec)))))) (sym (input_code (field_of (record_part F k) 0)))
 
-      try : (a b c : Bool) → tests_of a b c → Next F t k S here N O A (pick a (pick b (pick c (Stands n) (Refused (reason_number crossedDays))) (Refused (reason_number notThere))) (Refused (reason_number outOfRange)))
-      try false b c p = (outOfRange, p, refl, K.tables, K.nodes, K.origins, K.values)
-      try true false c p = (notThere, p, refl, K.tables, K.nodes, K.origins, K.values)
-      try true true false p = (crossedDays, p, refl, K.tables, K.nodes, K.origins, K.values)
+      try : (a b c : Bool) → tests_of a b c → Next F t k S here N O A (pick a (pick b (pick c (Ok n) (Err CrossedDays)) (Err NotThere)) (Err OutOfRange))
+      try false b c p = (p, K.tables, K.nodes, K.origins, K.values)
+      try true false c p = (p, K.tables, K.nodes, K.origins, K.values)
+      try true true false p = (p, K.tables, K.nodes, K.origins, K.values)
       try true true true p =
           let T = with_window S (window_in rec) in
           (T, p, kept_next F t k S n here N O A K l T p n here N O A K.counts K.tables K.nodes K.origins K.values)

@@ -78,13 +78,11 @@ pub fn write_trimmed(
         row: 0,
         clause: 0,
     };
-    let mut k: usize = 0;
-    while k < count {
+    for k in 0..count {
         let part = record_part(Form::Old, file, k);
         place = write_marked(
             part, k, place, symbols, rows, clauses, marks, numbers, output,
         );
-        k += 1;
     }
     place.at
 }

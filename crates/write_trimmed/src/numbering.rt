@@ -20,20 +20,12 @@ pub struct Place {
 pub fn own_number(part: &[u8], place: Place) -> u16
     ensures { (symbols rows clauses : List ℕ) → result ≡ own_number symbols rows clauses (next_of place) (kind_of_record (decoded part.now)) }
 {
-    let k = kind(part);
-    if k < 1 {
-        return 0;
+    match kind(part) {
+        1 => place.symbol,
+        2..=3 => place.row,
+        4..=7 => place.clause,
+        _ => 0,
     }
-    if k < 2 {
-        return place.symbol;
-    }
-    if k < 4 {
-        return place.row;
-    }
-    if k < 8 {
-        return place.clause;
-    }
-    0
 }
 
 // The place after a record.
@@ -41,23 +33,23 @@ pub fn place_after(part: &[u8], place: Place) -> Place
     requires { Growing place }
     ensures { After place (kind_of_record (decoded part.now)) result }
 {
-    let k = kind(part);
-    let mut next = place;
-    next.at = place.at + 16;
-    if k < 1 {
-        return next;
+    let next = Place {
+        at: place.at + 16,
+        ..place
+    };
+    match kind(part) {
+        1 => Place {
+            symbol: place.symbol + 1,
+            ..next
+        },
+        2..=3 => Place {
+            row: place.row + 1,
+            ..next
+        },
+        4..=7 => Place {
+            clause: place.clause + 1,
+            ..next
+        },
+        _ => next,
     }
-    if k < 2 {
-        next.symbol = place.symbol + 1;
-        return next;
-    }
-    if k < 4 {
-        next.row = place.row + 1;
-        return next;
-    }
-    if k < 8 {
-        next.clause = place.clause + 1;
-        return next;
-    }
-    next
 }

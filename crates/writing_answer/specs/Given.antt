@@ -1,16 +1,26 @@
 -- The answer as the program gives it, in the four numbers of an answer of a function that writes a file (document 02, Q-8, Q-11 and Q-12).
-use Rattle.std.specs.Prelude.{List, [], ◌∷◌, ℕ}
+use Rattle.std.specs.Prelude.{List, [], ◌∷◌, ℕ, Result, Ok, Err, ⊤}
 use Rattle.answer.specs.declared.Verdict.{Verdict}
 use Rattle.answer.specs.declared.Verdict.TheVariants as verdict
-use Rattle.writing_answer.specs.declared.WritingOutcome.{WritingOutcome}
-use Rattle.writing_answer.specs.declared.WritingOutcome.TheVariants.{Written, Refused}
+use Rattle.writing_answer.specs.declared.NotWritten.{NotWritten}
+use Rattle.writing_answer.specs.declared.WritingReason.{WritingReason}
+use Rattle.writing_answer.specs.declared.WritingReason.TheVariants.{ShortOutput, StepInInput, OtherSymbol, TooManyMerged, TooManyConverted, NoneAccepted, OwnRefusal}
 
-abbrev pub writing_given : WritingOutcome → List ℕ
-writing_given (Written n) = 0 ∷ n ∷ 0 ∷ 0 ∷ []
-writing_given (Refused number file k) = 2 ∷ number ∷ file ∷ k ∷ []
+abbrev pub reason_given : WritingReason → ℕ
+reason_given ShortOutput = 2
+reason_given StepInInput = 17
+reason_given OtherSymbol = 18
+reason_given TooManyMerged = 19
+reason_given TooManyConverted = 22
+reason_given NoneAccepted = 23
+reason_given (OwnRefusal number) = number
 
--- A file's own refusal, in the same numbers. No promise needs this.
-abbrev pub refusal_given : ℕ → Verdict → List ℕ
-refusal_given file verdict.Open = 2 ∷ 0 ∷ file ∷ 0 ∷ []
-refusal_given file (verdict.Accepted n) = 2 ∷ 0 ∷ file ∷ 0 ∷ []
-refusal_given file (verdict.Refused number k) = 2 ∷ number ∷ file ∷ k ∷ []
+abbrev pub writing_given : Result ℕ NotWritten → List ℕ
+writing_given (Ok n) = 0 ∷ n ∷ 0 ∷ 0 ∷ []
+writing_given (Err e) = 2 ∷ reason_given e.reason ∷ e.file ∷ e.at ∷ []
+
+-- A file's own refusal, if it has one. No promise needs this.
+abbrev pub own_refusal : ℕ → Verdict → Result ⊤ NotWritten
+own_refusal file verdict.Open = Ok tt
+own_refusal file (verdict.Accepted n) = Ok tt
+own_refusal file (verdict.Refused number k) = Err (record { reason = OwnRefusal number; file = file; at = k })

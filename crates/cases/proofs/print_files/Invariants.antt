@@ -2,8 +2,8 @@
 use Rattle.std.proofs.Common.{length, ◌-◌, ◌≤◌}
 use Rattle.cases.proofs.print_files.Given as goal
 
-abbrev pub invariant-loop-at : goal.invariant-loop-at
-invariant-loop-at g l = (l.at ≤ length l.pack) × (l.place ≤ l.at)
+abbrev pub invariant-loop-file : goal.invariant-loop-file
+invariant-loop-file g l = (l.at ≤ length l.pack) × (l.place ≤ l.at)
 
-abbrev pub decreases-loop-at : goal.decreases-loop-at
-decreases-loop-at g l = length l.pack - l.at
+abbrev pub decreases-loop-file : goal.decreases-loop-file
+decreases-loop-file g l = length l.pack - l.at

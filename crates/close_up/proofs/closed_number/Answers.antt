@@ -16,7 +16,7 @@ returns-in-Row c =
 
 pub returns-in-Literal : goal.returns-in-Literal
 returns-in-Literal c =
-    literal_closed c.args.symbols.now c.args.rows.now c.args.clauses.now c.args.numbers.now c.args.what c.args.n c.record_named-k.ensures c.cell-new.ensures c.in-Literal.is
+    rw (c.from.ensures, c.from-in-Literal.ensures) (literal_closed c.args.symbols.now c.args.rows.now c.args.clauses.now c.args.numbers.now c.args.what c.args.n c.record_named-k.ensures c.cell-new.ensures c.in-Literal.is)
 
 pub returns-in-Clause : goal.returns-in-Clause
 returns-in-Clause c =

@@ -8,25 +8,17 @@ use Rattle.convert_new.proofs.new_count.Goals as goal
 
 pub loop-k-init : goal.loop-k-init
 loop-k-init c =
-    (omega arith, omega arith, refl)
+    (omega arith, refl)
 
 pub overflow_add-n : goal.overflow_add-n
 overflow_add-n c =
-    omega (arith, c.kept-n.ensures, at_most_one (is_kept (decoded c.record_part.result.now)))
-
-pub overflow_add-k : goal.overflow_add-k
-overflow_add-k c =
-    omega arith
-
-pub loop-k-smaller : goal.loop-k-smaller
-loop-k-smaller c =
-    omega arith
+    omega (arith, c.loop-k.invariant.0, c.loop-k-test.true, c.record_count-count.type_inv, c.kept-n.ensures, at_most_one (is_kept (decoded c.record_part.result.now)))
 
 pub loop-k-preserved : goal.loop-k-preserved
 loop-k-preserved c =
     let l = c.loop-k in
-    (omega arith, omega (arith, c.kept-n.ensures, at_most_one (is_kept (decoded c.record_part.result.now))), one_counted (old_file c.args.file.now) is_kept 0 l.k l.n l.invariant.2 (omega (arith, c.record_count-count.ensures, c.loop-k-test.true)) c.record_part.ensures c.kept-n.ensures)
+    (omega (arith, c.loop-k.invariant.0, c.kept-n.ensures, at_most_one (is_kept (decoded c.record_part.result.now))), one_counted (old_file c.args.file.now) is_kept 0 l.k l.n l.invariant.1 (omega (arith, c.record_count-count.ensures, c.loop-k-test.true)) c.record_part.ensures c.kept-n.ensures)
 
 pub returns : goal.returns
 returns c =
-    all_kept c.args.file.now (all_counted (old_file c.args.file.now) is_kept 0 c.loop-k.k c.loop-k.n c.loop-k.invariant.2 (omega (arith, c.record_count-count.ensures, c.loop-k-test.false)))
+    all_kept c.args.file.now (all_counted (old_file c.args.file.now) is_kept 0 c.loop-k.k c.loop-k.n c.loop-k.invariant.1 (omega (arith, c.record_count-count.ensures, c.loop-k-test.false)))

@@ -11,25 +11,17 @@ use Rattle.convert_old.proofs.old_count.Goals as goal
 
 pub loop-k-init : goal.loop-k-init
 loop-k-init c =
-    (omega arith, omega arith, refl)
+    (omega arith, refl)
 
 pub overflow_add-n : goal.overflow_add-n
 overflow_add-n c =
-    omega (arith, c.record_count-count.ensures, c.dated-n.ensures, at_most_one (is_dated (decoded_in New c.record_part.result.now)))
-
-pub overflow_add-k : goal.overflow_add-k
-overflow_add-k c =
-    omega arith
-
-pub loop-k-smaller : goal.loop-k-smaller
-loop-k-smaller c =
-    omega arith
+    omega (arith, c.loop-k.invariant.0, c.loop-k-test.true, c.record_count-count.type_inv, c.record_count-count.ensures, c.dated-n.ensures, at_most_one (is_dated (decoded_in New c.record_part.result.now)))
 
 pub loop-k-preserved : goal.loop-k-preserved
 loop-k-preserved c =
     let l = c.loop-k in
-    (omega arith, omega (arith, c.dated-n.ensures, at_most_one (is_dated (decoded_in New c.record_part.result.now))), one_counted (new_file c.args.file.now) is_dated c.record_count-count.result l.k l.n l.invariant.2 (omega (arith, c.record_count-count.ensures, c.loop-k-test.true)) c.record_part.ensures c.dated-n.ensures)
+    (omega (arith, c.loop-k.invariant.0, c.dated-n.ensures, at_most_one (is_dated (decoded_in New c.record_part.result.now))), one_counted (new_file c.args.file.now) is_dated c.record_count-count.result l.k l.n l.invariant.1 (omega (arith, c.record_count-count.ensures, c.loop-k-test.true)) c.record_part.ensures c.dated-n.ensures)
 
 pub returns : goal.returns
 returns c =
-    all_dated c.args.file.now (all_counted (new_file c.args.file.now) is_dated c.record_count-count.result c.loop-k.k c.loop-k.n c.loop-k.invariant.2 (omega (arith, c.record_count-count.ensures, c.loop-k-test.false)) ∙ ap (λ (m : ℕ). m + how_many is_dated (records (new_file c.args.file.now))) c.record_count-count.ensures)
+    all_dated c.args.file.now (all_counted (new_file c.args.file.now) is_dated c.record_count-count.result c.loop-k.k c.loop-k.n c.loop-k.invariant.1 (omega (arith, c.record_count-count.ensures, c.loop-k-test.false)) ∙ ap (λ (m : ℕ). m + how_many is_dated (records (new_file c.args.file.now))) c.record_count-count.ensures)

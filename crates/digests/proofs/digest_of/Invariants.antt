@@ -6,7 +6,13 @@ use Rattle.digests.proofs.DigestLaws.{TakenAfter}
 use Rattle.digests.proofs.digest_of.Given as goal
 
 abbrev pub invariant-loop-next : goal.invariant-loop-next
-invariant-loop-next l = (length l.values ≡ 524416) × (length l.output ≡ 131072) × (l.total ≤ 131072 * l.clause) × (l.clause ≤ 65535) × TakenAfter l.naming l.clauses l.bindings l.nodes l.origins l.initial.values l.a l.clause l.total l.hash × (length l.cells ≡ length l.initial.cells) × (length l.order ≡ length l.initial.order)
+invariant-loop-next l = record {
+  values : length l.values ≡ 524416;
+  output : length l.output ≡ 131072;
+  bound : l.clause ≤ 65535;
+  few : l.length ≤ 131072 * l.clause;
+  taken : TakenAfter l.naming l.clauses l.bindings l.nodes l.origins l.initial.values l.a l.clause l.length l.hash;
+}
 
 abbrev pub decreases-loop-next : goal.decreases-loop-next
 decreases-loop-next l = 65536 - l.clause

@@ -5,10 +5,6 @@ use Rattle.inference.proofs.StepNamed.{factoring, factor_literals_lem, factor_cl
 use Rattle.inference.proofs.StepLaws.{nodes_room}
 use Rattle.factors.proofs.factor_atoms.Goals as goal
 
-pub outlines_clash-requires : goal.outlines_clash-requires
-outlines_clash-requires c =
-    nodes_room c.requires.step
-
 pub returns-then-outlines_clash : goal.returns-then-outlines_clash
 returns-then-outlines_clash c =
     λ R. factor_clashes R _ c.outlines_clash.ensures c.if-outlines_clash.true

@@ -1,31 +1,15 @@
-use mathlib.Core.Path.{◌≡◌, sym, ap, ◌∙◌}
-use Prim.Native.Nat.{ℕ, ◌+◌, ◌-◌}
-use native.Mathlib.Omega.{arith}
-use lib.ListN.{take, drop}
-use Rattle.record.specs.Record.{fields_of}
-use Rattle.verdict.specs.Refusal.{all_below}
-use Rattle.fields.proofs.FieldLaws.{below_stop, below_on, fields_end}
+-- The chain goes over the argument rows, and asks of each whether it is below the limit.
+use Rattle.std.proofs.Common.{take, drop, ltb, ◌∙◌, rules, tests}
+use Rattle.std.proofs.lemmas.Iterator.{YieldsList-from_slice, YieldsList-from_take}
+use Rattle.std.proofs.lemmas.Iterator.Adapters.{YieldsList-from_skip}
+use Rattle.std.proofs.lemmas.Iterator.Search.{all_from_yields_List}
+use Rattle.record.specs.Record.{count_of, fields_of}
+use Rattle.fields.proofs.FieldLaws.{rows_all}
 use Rattle.fields.proofs.arguments_below.Goals as goal
-
-pub loop-i-init : goal.loop-i-init
-loop-i-init c =
-    let s = c.args in
-    let p = c.requires in
-    let q = c.count-end.ensures in
-    let z : c.count-end.result + 1 - 1 ≡ c.count-end.result = omega arith in
-    (omega arith, ap (λ (n : ℕ). all_below s.limit (take n (drop 1 (fields_of s.part.now)))) (z ∙ q))
-
-pub returns-then-field-limit : goal.returns-then-field-limit
-returns-then-field-limit c =
-    let s = c.args in
-    sym (below_stop s.limit s.part.now c.loop-i.i _ c.loop-i-test.true c.loop-i.invariant.0 c.field.ensures c.if-field-limit.true) ∙ c.loop-i.invariant.1
-
-pub loop-i-preserved : goal.loop-i-preserved
-loop-i-preserved c =
-    let s = c.args in
-    (c.loop-i.invariant.0, sym (below_on s.limit s.part.now c.loop-i.i _ c.loop-i-test.true c.loop-i.invariant.0 c.field.ensures c.if-field-limit.false) ∙ c.loop-i.invariant.1)
 
 pub returns : goal.returns
 returns c =
-    let s = c.args in
-    sym (ap (all_below s.limit) (fields_end s.part.now c.loop-i.i _ c.loop-i-test.false)) ∙ c.loop-i.invariant.1
+    let limit = c.args.limit in
+    let n = count_of c.args.part.now in
+    let fields = fields_of c.args.part.now in
+    all_from_yields_List (λ r. ltb r limit) _ _ _ c.all.ensures.ran (YieldsList-from_take n (YieldsList-from_skip 1 (YieldsList-from_slice fields cc) cc) cc) (λ x b q k. search (rules, tests)) ∙ rows_all limit (take n (drop 1 fields))

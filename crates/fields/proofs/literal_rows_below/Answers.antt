@@ -1,32 +1,14 @@
-use mathlib.Core.Path.{◌≡◌, sym, ap, ◌∙◌}
-use mathlib.Core.List.{List}
-use Prim.Native.Nat.{ℕ, ◌-◌}
-use native.Mathlib.Omega.{arith}
-use lib.ListN.{take}
-use Rattle.record.specs.Record.{fields_of}
-use Rattle.verdict.specs.Refusal.{all_below}
-use Rattle.fields.proofs.FieldLaws.{rows_in, rows_stop, rows_on, fields_end}
+-- The chain goes over the literals, and asks of each whether its row is below the limit.
+use Rattle.std.proofs.Common.{◌/◌, take, ltb, ◌∙◌, rules, tests}
+use Rattle.std.proofs.lemmas.Iterator.{YieldsList-from_slice, YieldsList-from_take}
+use Rattle.std.proofs.lemmas.Iterator.Search.{all_from_yields_List}
+use Rattle.record.specs.Record.{count_of, fields_of}
+use Rattle.fields.proofs.FieldLaws.{literal_rows_all}
 use Rattle.fields.proofs.literal_rows_below.Goals as goal
-
-pub loop-i-init : goal.loop-i-init
-loop-i-init c =
-    let s = c.args in
-    let p = c.requires in
-    let q = c.count-end.ensures in
-    let z : c.count-end.result - 0 ≡ c.count-end.result = omega arith in
-    (omega arith, ap (λ (n : ℕ). all_below s.limit (rows_in (take n (fields_of s.part.now)))) (z ∙ q))
-
-pub returns-then-field-limit : goal.returns-then-field-limit
-returns-then-field-limit c =
-    let s = c.args in
-    sym (rows_stop s.limit s.part.now c.loop-i.i _ c.loop-i-test.true c.loop-i.invariant.0 c.field.ensures c.if-field-limit.true) ∙ c.loop-i.invariant.1
-
-pub loop-i-preserved : goal.loop-i-preserved
-loop-i-preserved c =
-    let s = c.args in
-    (c.loop-i.invariant.0, sym (rows_on s.limit s.part.now c.loop-i.i _ c.loop-i-test.true c.loop-i.invariant.0 c.field.ensures c.if-field-limit.false) ∙ c.loop-i.invariant.1)
 
 pub returns : goal.returns
 returns c =
-    let s = c.args in
-    sym (ap (λ (ns : List ℕ). all_below s.limit (rows_in ns)) (fields_end s.part.now c.loop-i.i _ c.loop-i-test.false)) ∙ c.loop-i.invariant.1
+    let limit = c.args.limit in
+    let n = count_of c.args.part.now in
+    let fields = fields_of c.args.part.now in
+    all_from_yields_List (λ l. ltb (l / 2) limit) _ _ _ c.all.ensures.ran (YieldsList-from_take n (YieldsList-from_slice fields cc) cc) (λ x b q k. search (rules, tests)) ∙ literal_rows_all limit (take n fields)

@@ -8,6 +8,6 @@ pub read_tables-requires : goal.read_tables-requires
 read_tables-requires c =
     record { readable = c.requires; empty = record { nodes = refl; origins = refl; values = length-replicate {A = ℕ} 524416 0 } }
 
-pub returns : goal.returns
-returns c =
-    c.read_tables.ensures.file
+pub returns-clause-read : goal.returns-clause-read
+returns-clause-read c =
+    c.read_tables.ensures.read.file

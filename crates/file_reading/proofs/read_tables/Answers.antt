@@ -1,6 +1,5 @@
 -- The cleared parts are those of the empty state, and reading goes on from there.
 use native.Mathlib.Omega.{arith}
-use Rattle.inference.proofs.KeptClauses.{origins_room}
 use Rattle.file_reading.proofs.CheckLaws.{table_sizes, begun, file_read_with}
 use Rattle.file_reading.proofs.read_tables.Goals as goal
 
@@ -32,21 +31,7 @@ read_records-e-requires c =
     let clear-says = c.clear.ensures in
     begun at-start-asked-readable clear-says clear2-says clear3-says clear4-says at-start-asked-empty-values _ _ at-start-asked-empty-nodes at-start-asked-empty-origins
 
-pub ended_answer-requires : goal.ended_answer-requires
+pub returns-clause-read : goal.returns-clause-read
 unfolding begun
-ended_answer-requires c =
-    let e = c.read_records-e.ensures.read (begun c.requires.readable c.clear.ensures c.clear-2.ensures c.clear-3.ensures c.clear-4.ensures c.requires.empty.values _ _ c.requires.empty.nodes c.requires.empty.origins) in
-    origins_room e.left.kept e.left.few
-
-pub shape_of-symbols : goal.shape_of-symbols
-shape_of-symbols c =
-    let a = c.symbols-1.given in let b = c.symbols-2-1.given in omega (arith, a, b)
-
-pub shape_of-rows : goal.shape_of-rows
-shape_of-rows c =
-    let a = c.rows-1.given in let b = c.rows-2-1.given in omega (arith, a, b)
-
-pub returns : goal.returns
-unfolding begun
-returns c =
+returns-clause-read c =
     file_read_with _ _ _ _ _ _ _ _ _ (c.read_records-e.ensures.read (begun c.requires.readable c.clear.ensures c.clear-2.ensures c.clear-3.ensures c.clear-4.ensures c.requires.empty.values _ _ c.requires.empty.nodes c.requires.empty.origins)) c.ended_answer.ensures

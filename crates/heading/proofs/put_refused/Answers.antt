@@ -3,4 +3,4 @@ use Rattle.heading.proofs.put_refused.Goals as goal
 
 pub returns : goal.returns
 returns c =
-    wrote_then _ _ _ _ _ _ _ _ (wrote_then _ _ _ _ _ _ _ _ c.put_word-reason.ensures (rw c.wide.ensures at c.put_decimal-after.ensures)) (wrote_then _ _ _ _ _ _ _ _ c.put_word-number.ensures c.put_decimal.ensures)
+    wrote_then _ _ _ _ _ _ _ _ (wrote_then _ _ _ _ _ _ _ _ c.put_word-reason.ensures c.put_decimal-after.ensures) (wrote_then _ _ _ _ _ _ _ _ c.put_word-number.ensures c.put_decimal.ensures)

@@ -7,16 +7,12 @@ pub loop-up-init : goal.loop-up-init
 loop-up-init c =
     λ B d s. from_itself c.requires.low c.requires.high s
 
-pub origin_code-requires : goal.origin_code-requires
-origin_code-requires c =
-    c.requires.clause.room
-
 pub parent_place-up-requires : goal.parent_place-up-requires
 parent_place-up-requires c =
     record { stored_literal = walk_there c.requires c.loop-up.invariant; fact = λ z. c.loop-up-test.true (c.origin_code.ensures ∙ z) }
 
-pub overflow_add-added : goal.overflow_add-added
-overflow_add-added c =
+pub overflow_add-place : goal.overflow_add-place
+overflow_add-place c =
     omega (arith, walk_small c.requires (walked c.loop-up.invariant c.parent_place-up.ensures))
 
 pub loop-up-smaller : goal.loop-up-smaller

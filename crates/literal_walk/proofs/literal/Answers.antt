@@ -23,10 +23,6 @@ pub overflow_sub-place : goal.overflow_sub-place
 overflow_sub-place c =
     let small = input_small c.input_place-place.ensures c.requires in omega arith
 
-pub part_of-x-requires : goal.part_of-x-requires
-part_of-x-requires c =
-    c.requires.room
-
 pub overflow_add-result : goal.overflow_add-result
 overflow_add-result c =
     let small = input_small c.input_place-place.ensures c.requires in omega arith

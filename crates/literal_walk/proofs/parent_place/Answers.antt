@@ -5,36 +5,20 @@ use native.Mathlib.Omega.{arith}
 use Rattle.named_literals.proofs.Origins.{comes_up, comes_high, factor_up, left_up, right_up, right_passes}
 use Rattle.literal_walk.proofs.parent_place.Goals as goal
 
-pub part_of-left-requires : goal.part_of-left-requires
-part_of-left-requires c =
-    c.requires.stored_literal.clause.room
-
-pub part_of-right-requires : goal.part_of-right-requires
-part_of-right-requires c =
-    c.requires.stored_literal.clause.room
-
-pub origin_code-requires : goal.origin_code-requires
-origin_code-requires c =
-    c.requires.stored_literal.clause.room
-
 pub passed_over-requires : goal.passed_over-requires
 passed_over-requires c =
     let H = c.requires.stored_literal in
-    omega (arith, comes_high H (factor_up H c.origin_code.ensures c.if-origin_code-eq2.true c.part_of-left.ensures c.part_of-right.ensures), c.shared_slice_known-1.given (5 * c.part_of-left.result + 1))
+    omega (arith, comes_high H (factor_up H c.origin_code.ensures c.if-origin_code-eq2.true c.part_of-left.ensures c.part_of-right.ensures), c.type_inv.clauses (5 * c.part_of-left.result + 1))
 
 pub returns-then-origin_code-eq2 : goal.returns-then-origin_code-eq2
 returns-then-origin_code-eq2 c =
     let H = c.requires.stored_literal in
     comes_up c.passed_over.ensures H (factor_up H c.origin_code.ensures c.if-origin_code-eq2.true c.part_of-left.ensures c.part_of-right.ensures)
 
-pub part_of-a-requires : goal.part_of-a-requires
-part_of-a-requires c =
-    c.requires.stored_literal.clause.room
-
 pub passed_over-requires-then-n-kept : goal.passed_over-requires-then-n-kept
 passed_over-requires-then-n-kept c =
     let H = c.requires.stored_literal in
-    omega (arith, comes_high H (left_up H c.origin_code.ensures c.requires.fact c.if-origin_code-eq2.false c.part_of-left.ensures c.part_of-a.ensures c.literals_cell.ensures c.left_over-kept.ensures c.if-n-kept.true), c.shared_slice_known-1.given (5 * c.part_of-left.result + 1))
+    omega (arith, comes_high H (left_up H c.origin_code.ensures c.requires.fact c.if-origin_code-eq2.false c.part_of-left.ensures c.part_of-a.ensures c.literals_cell.ensures c.left_over-kept.ensures c.if-n-kept.true), c.type_inv.clauses (5 * c.part_of-left.result + 1))
 
 pub returns-then-n-kept : goal.returns-then-n-kept
 returns-then-n-kept c =
@@ -44,7 +28,7 @@ returns-then-n-kept c =
 pub passed_rights-requires : goal.passed_rights-requires
 passed_rights-requires c =
     let H = c.requires.stored_literal in
-    right_passes H c.origin_code.ensures c.requires.fact c.if-origin_code-eq2.false c.part_of-left.ensures c.part_of-a.ensures c.literals_cell.ensures c.left_over-kept.ensures c.if-n-kept.false c.part_of-right.ensures (omega (arith, c.shared_slice_known-1.given (5 * c.part_of-right.result + 1)))
+    right_passes H c.origin_code.ensures c.requires.fact c.if-origin_code-eq2.false c.part_of-left.ensures c.part_of-a.ensures c.literals_cell.ensures c.left_over-kept.ensures c.if-n-kept.false c.part_of-right.ensures (omega (arith, c.type_inv.clauses (5 * c.part_of-right.result + 1)))
 
 pub returns : goal.returns
 returns c =

@@ -2,10 +2,6 @@ use native.Mathlib.Omega.{arith}
 use Rattle.loading.proofs.Putting.{input_loaded, own_puttable, to_parent, factor_loaded, to_left, left_loaded, to_right, both_loaded}
 use Rattle.loading.proofs.+load_clause.Goals as goal
 
-pub origin_code-code-requires : goal.origin_code-code-requires
-origin_code-code-requires t c =
-    c.requires.origin_room
-
 pub returns-then-code-eq1 : goal.returns-then-code-eq1
 returns-then-code-eq1 t c =
     input_loaded c.requires c.origin_code-code.ensures c.if-code-eq1.true
@@ -13,10 +9,6 @@ returns-then-code-eq1 t c =
 pub put_bindings-requires : goal.put_bindings-requires
 put_bindings-requires t c =
     own_puttable c.requires c.origin_code-code.ensures c.first_cell-first.ensures c.bindings_cell-n.ensures
-
-pub part_of-left-requires : goal.part_of-left-requires
-part_of-left-requires t c =
-    c.requires.origin_room
 
 pub load_clause-requires : goal.load_clause-requires
 load_clause-requires t c =
@@ -26,14 +18,6 @@ load_clause-requires t c =
 pub returns-then-code-eq2 : goal.returns-then-code-eq2
 returns-then-code-eq2 t c =
     factor_loaded c.requires c.origin_code-code.ensures c.first_cell-first.ensures c.bindings_cell-n.ensures c.put_bindings.ensures c.part_of-left.ensures c.if-code-eq2.true c.load_clause.ensures
-
-pub part_of-right-requires : goal.part_of-right-requires
-part_of-right-requires t c =
-    c.requires.origin_room
-
-pub origin_code-requires : goal.origin_code-requires
-origin_code-requires t c =
-    c.requires.origin_room
 
 pub load_clause-requires-then-origin_code-eq1 : goal.load_clause-requires-then-origin_code-eq1
 load_clause-requires-then-origin_code-eq1 t c =

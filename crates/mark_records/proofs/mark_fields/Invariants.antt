@@ -1,12 +1,7 @@
 -- What is left of the fields marks the same as all of them.
 use mathlib.Core.Path.{◌≡◌}
-use Prim.Native.Nat.{◌-◌, ◌≤◌}
-use lib.ListN.{length}
 use Rattle.mark_records.proofs.MarkedFields.{left_to_mark}
 use Rattle.mark_records.proofs.mark_fields.Given as goal
 
 abbrev pub invariant-loop-i : goal.invariant-loop-i
-invariant-loop-i l = (l.i ≤ 7) × (length l.marks ≡ length l.initial.marks) × (left_to_mark l.symbols l.rows l.clauses l.part l.initial.marks l.i l.marks ≡ left_to_mark l.symbols l.rows l.clauses l.part l.initial.marks 0 l.initial.marks)
-
-abbrev pub decreases-loop-i : goal.decreases-loop-i
-decreases-loop-i l = 7 - l.i
+invariant-loop-i l = left_to_mark l.symbols l.rows l.clauses l.part l.initial.marks l.i l.marks ≡ left_to_mark l.symbols l.rows l.clauses l.part l.initial.marks 0 l.initial.marks

@@ -1,9 +1,5 @@
-use Rattle.mark_records.proofs.MarkedFields.{window_names_none, names_marked}
+use Rattle.mark_records.proofs.MarkedFields.{names_marked}
 use Rattle.mark_records.proofs.mark_named.Goals as goal
-
-pub returns-then-kind-eq8 : goal.returns-then-kind-eq8
-returns-then-kind-eq8 c =
-    window_names_none c.args.symbols.now c.args.rows.now c.args.clauses.now c.args.part.now c.args.marks.now c.kind.ensures c.if-kind-eq8.true
 
 pub returns : goal.returns
 returns c =

@@ -1,15 +1,16 @@
 -- The second file is refused, or both stand.
+use mathlib.Core.Path.{sym, ◌∙◌}
 use Rattle.merge_second.proofs.SecondAnswered.{second_refused_lem, both_stand, both_joined}
 use Rattle.merge_second.proofs.merge_second.Goals as goal
 
-pub returns-then-not-stands : goal.returns-then-not-stands
-returns-then-not-stands c =
-    second_refused_lem _ _ _ _ c.args.mine _ _ c.check_with-theirs.ensures.checked _ _ c.stands.ensures c.if-not-stands.true c.refusal.ensures
+pub returns-in_err-standing-clause-answered : goal.returns-in_err-standing-clause-answered
+returns-in_err-standing-clause-answered c =
+    second_refused_lem _ _ _ _ c.args.mine _ _ c.check_with-theirs.ensures.answered.checked _ c.from_residual.ensures.1 (sym c.standing.ensures ∙ c.in_err-standing.was)
 
 pub join-requires : goal.join-requires
 join-requires c =
-    both_stand _ _ _ _ _ _ _ c.check_with-theirs.ensures.checked _ c.stands.ensures c.if-not-stands.false c.requires
+    both_stand _ _ _ _ _ _ _ c.check_with-theirs.ensures.answered.checked (sym c.standing.ensures ∙ c.in_ok-standing.was) c.requires
 
-pub returns : goal.returns
-returns c =
-    both_joined _ _ _ _ c.args.mine _ _ c.check_with-theirs.ensures.checked _ c.stands.ensures c.if-not-stands.false _ _ c.join.ensures
+pub returns-clause-answered : goal.returns-clause-answered
+returns-clause-answered c =
+    both_joined _ _ _ _ c.args.mine _ _ c.check_with-theirs.ensures.answered.checked (sym c.standing.ensures ∙ c.in_ok-standing.was) _ _ c.join.ensures

@@ -3,41 +3,21 @@ use mathlib.Core.Path.{◌∙◌}
 use Rattle.named_literals.proofs.Numbers.{one_right, fits_first, fits_second, fits_third, fits_fourth, passed_four}
 use Rattle.named_literals.proofs.passed_rights.Goals as goal
 
-pub part_of-requires : goal.part_of-requires
-part_of-requires c =
-    c.requires.room
-
 pub passed_over-first-requires : goal.passed_over-first-requires
 passed_over-first-requires c =
     fits_first c.requires _ c.part_of.ensures
-
-pub origin_code-requires : goal.origin_code-requires
-origin_code-requires c =
-    c.requires.room
 
 pub returns-then-origin_code-eq3 : goal.returns-then-origin_code-eq3
 returns-then-origin_code-eq3 c =
     λ ns H. c.passed_over-first.ensures ∙ one_right H _ _ _ c.part_of.ensures c.origin_code.ensures c.if-origin_code-eq3.true
 
-pub part_of-requires-2 : goal.part_of-requires-2
-part_of-requires-2 c =
-    c.requires.room
-
 pub passed_over-second-requires : goal.passed_over-second-requires
 passed_over-second-requires c =
     fits_second c.requires _ _ _ c.part_of.ensures c.passed_over-first.ensures c.part_of-2.ensures
 
-pub part_of-requires-3 : goal.part_of-requires-3
-part_of-requires-3 c =
-    c.requires.room
-
 pub passed_over-third-requires : goal.passed_over-third-requires
 passed_over-third-requires c =
     fits_third c.requires _ _ _ _ _ c.part_of.ensures c.passed_over-first.ensures c.part_of-2.ensures c.passed_over-second.ensures c.part_of-3.ensures
-
-pub part_of-requires-4 : goal.part_of-requires-4
-part_of-requires-4 c =
-    c.requires.room
 
 pub passed_over-requires : goal.passed_over-requires
 passed_over-requires c =

@@ -8,7 +8,7 @@ use Rattle.names.proofs.put_name.Goals as goal
 pub put_number-requires : goal.put_number-requires
 put_number-requires c =
     let s = c.args in
-    subst (λ (m : Naming). NameReady m s.nodes.now s.text.now s.cells.now s.order.now s.count (s.r, s.k)) c.in-ByAppearance.is c.requires
+    subst (λ (m : Naming). NameReady m s.nodes.now s.cells.now s.order.now s.place.count (s.r, s.k)) c.in-ByAppearance.is c.requires
 
 pub returns-in-ByIndex : goal.returns-in-ByIndex
 returns-in-ByIndex c =

@@ -7,4 +7,4 @@ number-n-requires c =
 
 pub returns : goal.returns
 returns c =
-    name_numbered _ _ _ _ _ _ _ _ _ _ _ c.number-n.ensures _ c.put_numbered_variable-end.ensures c.count_after.ensures
+    name_numbered _ _ _ _ _ _ _ _ _ _ _ c.number-n.ensures _ c.put_lettered-end.ensures c.count_after.ensures

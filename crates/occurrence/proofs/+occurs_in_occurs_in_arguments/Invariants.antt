@@ -14,10 +14,7 @@ abbrev pub decreases-occurs_in : goal.decreases-occurs_in
 decreases-occurs_in l = 2 * l.work
 
 abbrev pub invariant-occurs_in_arguments-loop-n : goal.invariant-occurs_in_arguments-loop-n
-invariant-occurs_in_arguments-loop-n l = (length l.values ≡ 524416) × (l.left ≤ l.work) × (1 ≤ l.n) × (l.n ≤ l.last) × Scanned l.nodes l.initial.values l.values (l.v, l.i) l.r l.k l.work l.n (l.last + 1 - l.n) l.left
-
-abbrev pub decreases-occurs_in_arguments-loop-n : goal.decreases-occurs_in_arguments-loop-n
-decreases-occurs_in_arguments-loop-n l = l.last - l.n
+invariant-occurs_in_arguments-loop-n l = (length l.values ≡ 524416) × (l.left ≤ l.work) × Scanned l.nodes l.initial.values l.values (l.v, l.i) l.r l.k l.work l.n (l.last + 1 - l.n) l.left
 
 abbrev pub invariant-occurs_in-loop-left : goal.invariant-occurs_in-loop-left
 invariant-occurs_in-loop-left l = (length l.values ≡ 524416) × (l.left ≤ l.work) × Sought l.nodes l.initial.values l.values (l.v, l.i) (l.t, l.j) l.work (l.row, l.index) l.left

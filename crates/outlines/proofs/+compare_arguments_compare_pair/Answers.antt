@@ -7,13 +7,13 @@ pub compare_arguments-loop-n-init : goal.compare_arguments-loop-n-init
 compare_arguments-loop-n-init t c =
     arguments_first _ _ _ _ _
 
-pub compare_arguments-returns-in_default : goal.compare_arguments-returns-in_default
-compare_arguments-returns-in_default t c =
-    arguments_clash _ _ _ _ _ _ c.loop-n.n c.loop-n.invariant c.loop-n-test.true _ _ c.part_of-a.ensures c.part_of-b.ensures _ c.compare_pair-c.ensures c.common_arity-most.ensures.0 c.in_default.is
+pub compare_arguments-returns-in_err-left : goal.compare_arguments-returns-in_err-left
+compare_arguments-returns-in_err-left t c =
+    rw c.from_residual.ensures (arguments_clash _ _ _ _ _ _ c.loop-n.n c.loop-n.invariant c.loop-n-test.true _ _ c.part_of-a.ensures c.part_of-b.ensures _ c.compare_pair.ensures c.common_arity-most.ensures.0 c.in_err-left.was)
 
 pub compare_arguments-loop-n-preserved : goal.compare_arguments-loop-n-preserved
 compare_arguments-loop-n-preserved t c =
-    arguments_next _ _ _ _ _ _ c.loop-n.n c.loop-n.invariant c.loop-n-test.true _ _ c.part_of-a.ensures c.part_of-b.ensures _ c.compare_pair-c.ensures _ c.in-Agree.is
+    arguments_next _ _ _ _ _ _ c.loop-n.n c.loop-n.invariant c.loop-n-test.true _ _ c.part_of-a.ensures c.part_of-b.ensures _ c.compare_pair.ensures _ c.in_ok-left.was
 
 pub compare_arguments-returns : goal.compare_arguments-returns
 compare_arguments-returns t c =

@@ -1,5 +1,5 @@
 -- The measure is twice the pairs left, and one more for the arguments. Each way out is one law of `Walk`.
-use Prim.Native.Nat.{◌+◌, ◌-◌, ◌*◌}
+use Prim.Native.Nat.{◌+◌, ◌*◌}
 use Rattle.outlines.proofs.Walk.{ArgumentsLeft}
 use Rattle.outlines.proofs.+compare_arguments_compare_pair.Given as goal
 
@@ -11,6 +11,3 @@ decreases-compare_pair l = 2 * l.pairs
 
 abbrev pub invariant-compare_arguments-loop-n : goal.invariant-compare_arguments-loop-n
 invariant-compare_arguments-loop-n l = ArgumentsLeft l.nodes l.r l.q l.pairs l.most l.left l.n
-
-abbrev pub decreases-compare_arguments-loop-n : goal.decreases-compare_arguments-loop-n
-decreases-compare_arguments-loop-n l = l.most - l.n

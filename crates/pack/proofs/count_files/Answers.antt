@@ -1,29 +1,18 @@
-use mathlib.Core.Path.{sym, ◌∙◌}
+use mathlib.Core.Path.{sym, subst, ◌∙◌}
 use native.Mathlib.Omega.{arith}
-use Rattle.pack.proofs.PackLaws.{inside, passed_none, passed_more, passed_all_lem, passed_cut}
+use Rattle.pack.proofs.PackLaws.{inside, passed_more, passed_cut}
+use Rattle.pack.specs.Pack.{RightCount}
 use Rattle.pack.proofs.count_files.Goals as goal
 
-pub loop-at-init : goal.loop-at-init
-loop-at-init c =
-    passed_none _
-
-pub returns-in_default : goal.returns-in_default
-returns-in_default c =
-    passed_cut c.loop-at.invariant (sym c.entry_at.ensures ∙ c.in_default.is) c.loop-at-test.true
-
-pub overflow_add-n : goal.overflow_add-n
-overflow_add-n c =
-    omega (arith, c.loop-at.invariant.few, c.loop-at-test.true)
+pub returns-in_err-at : goal.returns-in_err-at
+returns-in_err-at c =
+    subst (RightCount c.args.pack.now) (sym c.from_residual.ensures) (passed_cut c.loop-at.invariant (sym c.entry_at.ensures ∙ c.in_err-at.was) c.loop-at-test.true)
 
 pub loop-at-smaller : goal.loop-at-smaller
 loop-at-smaller c =
-    let i = inside (sym c.entry_at.ensures ∙ c.in-File.is) in
+    let i = inside (sym c.entry_at.ensures ∙ c.in_ok-at.was) in
     omega (arith, i.begins, i.ordered, i.ends, c.loop-at-test.true)
 
 pub loop-at-preserved : goal.loop-at-preserved
 loop-at-preserved c =
-    passed_more c.loop-at.invariant (sym c.entry_at.ensures ∙ c.in-File.is)
-
-pub returns : goal.returns
-returns c =
-    passed_all_lem c.loop-at.invariant c.loop-at-test.false
+    passed_more c.loop-at.invariant (sym c.entry_at.ensures ∙ c.in_ok-at.was)

@@ -1,9 +1,5 @@
 use Rattle.pieces.proofs.write_named_piece.Goals as goal
 
-pub returns-in-ByIndex : goal.returns-in-ByIndex
-returns-in-ByIndex c =
-    rw c.in-ByIndex.is c.write_plain_piece.ensures
-
 pub returns-in-ByAppearance : goal.returns-in-ByAppearance
 returns-in-ByAppearance c =
     rw c.in-ByAppearance.is c.write_numbered_piece.ensures

@@ -1,4 +1,4 @@
-use mathlib.Core.Path.{refl, ◌∙◌, subst}
+use mathlib.Core.Path.{refl, subst}
 use Prim.Native.Nat.{ℕ, ◌<◌}
 use native.Mathlib.Omega.{arith}
 use lib.ListN.{length-replicate}
@@ -10,44 +10,41 @@ use Rattle.pieces.proofs.write_piece.Goals as goal
 
 pub loop-n-init : goal.loop-n-init
 loop-n-init c =
-    (c.requires.after.checked.values, length-replicate {A = ℕ} 131072 0, refl, written_none c.args.naming, refl, refl)
+    record { values = c.requires.after.checked.values; text = length-replicate {A = ℕ} 131072 0; written = written_none c.args.naming }
 
 pub write_unit-end-requires : goal.write_unit-end-requires
 write_unit-end-requires c =
-    record { after = after_again c.requires.after c.loop-n.invariant.0; inside = subst (λ (k : ℕ). c.loop-n.n < k) c.unit_count-count.ensures c.loop-n-test.true; text = c.loop-n.invariant.1; numbers = room_kept c.args.naming c.args.cells.now c.args.order.now c.loop-n.cells c.loop-n.order c.loop-n.invariant.4 c.loop-n.invariant.5 c.requires.numbers }
+    let l = c.loop-n in
+    record { after = after_again c.requires.after l.invariant.values; inside = subst (λ (k : ℕ). l.n < k) c.unit_count-n-end.ensures c.loop-n-test.true; text = l.invariant.text; numbers = room_kept c.args.naming c.args.cells.now c.args.order.now l.cells l.order l.auto.cells l.auto.order c.requires.numbers }
 
 pub overflow_sub-output : goal.overflow_sub-output
 overflow_sub-output c =
-    omega (arith, (c.loop-n.invariant.3 c.requires.after).low, c.loop-n.invariant.2)
+    omega (arith, (c.loop-n.invariant.written c.requires.after).low)
 
 pub returns-then-output-written : goal.returns-then-output-written
 returns-then-output-written c =
-    written_stopped _ c.loop-n.invariant.3 c.loop-n.invariant.0 (subst (λ (k : ℕ). c.loop-n.n < k) c.unit_count-count.ensures c.loop-n-test.true) c.write_unit-end.ensures (omega (arith, c.if-output-written.true, c.loop-n.invariant.2)) _ refl c.stopped.ensures
+    let l = c.loop-n in
+    written_stopped _ l.invariant.written l.invariant.values (subst (λ (k : ℕ). l.n < k) c.unit_count-n-end.ensures c.loop-n-test.true) c.write_unit-end.ensures (omega (arith, c.if-output-written.true)) _ refl c.stopped.ensures
 
 pub copy_text-requires : goal.copy_text-requires
 copy_text-requires c =
-    record { text_len = c.write_unit-end.ensures.sized.text; n_bound = (end_inside (after_again c.requires.after c.loop-n.invariant.0) c.write_unit-end.ensures, omega (arith, c.if-output-written.false, (c.loop-n.invariant.3 c.requires.after).low, c.loop-n.invariant.2)) }
+    (end_inside (after_again c.requires.after c.loop-n.invariant.values) c.write_unit-end.ensures, omega (arith, c.if-output-written.false, (c.loop-n.invariant.written c.requires.after).low))
 
 pub overflow_add-written : goal.overflow_add-written
 overflow_add-written c =
-    omega (arith, c.if-output-written.false, (c.loop-n.invariant.3 c.requires.after).low, c.loop-n.invariant.2, c.well_formed.1.1.1.1.1.1.1.1.1.1.0.0)
+    omega (arith, c.if-output-written.false, (c.loop-n.invariant.written c.requires.after).low)
 
 pub loop-n-preserved : goal.loop-n-preserved
 loop-n-preserved c =
-    let write-unit-says-sized-values = c.write_unit-end.ensures.sized.values in
-    let write-unit-says-sized-text = c.write_unit-end.ensures.sized.text in
-    let unit-count-says = c.unit_count-count.ensures in
-    let write-unit-says = c.write_unit-end.ensures in
-    let copy-text-says = c.copy_text.ensures in
-    let loop-test-taken = c.loop-n-test.true in
-    let output-given = c.output-1.given in
-    let loop-inv-2 = c.loop-n.invariant.2 in
-    let loop-inv-3 = c.loop-n.invariant.3 in
-    let loop-inv-0 = c.loop-n.invariant.0 in
-    let if1-left = c.if-output-written.false in
-    let loop-n = c.loop-n.n in
-    (write-unit-says-sized-values, write-unit-says-sized-text, output-given ∙ loop-inv-2, written_more _ loop-inv-3 loop-inv-0 (subst (λ (k : ℕ). loop-n < k) unit-count-says loop-test-taken) write-unit-says (omega (arith, if1-left, loop-inv-2)) copy-text-says, c.cells-1.given ∙ c.loop-n.invariant.4, c.order-1.given ∙ c.loop-n.invariant.5)
+    let l = c.loop-n in
+    let w = c.write_unit-end.ensures in
+    record {
+      values = w.sized.values;
+      text = w.sized.text;
+      written = written_more _ l.invariant.written l.invariant.values (subst (λ (k : ℕ). l.n < k) c.unit_count-n-end.ensures c.loop-n-test.true) w (omega (arith, c.if-output-written.false)) c.copy_text.ensures;
+    }
 
 pub returns : goal.returns
 returns c =
-    written_all _ c.loop-n.invariant.3 c.loop-n.invariant.0 (omega (arith, c.unit_count-count.ensures, c.loop-n-test.false)) _ refl refl
+    let l = c.loop-n in
+    written_all _ l.invariant.written l.invariant.values (omega (arith, c.unit_count-n-end.ensures, c.loop-n-test.false)) _ refl refl

@@ -6,7 +6,7 @@ use Rattle.putting.proofs.put_bindings.Goals as goal
 
 pub loop-k-init : goal.loop-k-init
 loop-k-init c =
-    (c.requires.room, omega arith, refl)
+    (c.requires.room, refl)
 
 pub put_binding-requires : goal.put_binding-requires
 put_binding-requires c =
@@ -14,9 +14,9 @@ put_binding-requires c =
 
 pub loop-k-preserved : goal.loop-k-preserved
 loop-k-preserved c =
-    (ap length c.put_binding.ensures ∙ cells_room _ _ _ _ _ c.loop-k.invariant.0, omega arith, put_one _ _ _ _ _ c.loop-k.k c.loop-k.invariant.2 c.put_binding.ensures)
+    (ap length c.put_binding.ensures ∙ cells_room _ _ _ _ _ c.loop-k.invariant.0, put_one _ _ _ _ _ c.loop-k.k c.loop-k.invariant.1 c.put_binding.ensures)
 
 pub returns : goal.returns
 returns c =
-    let z : c.loop-k.k ≡ c.args.n = omega arith in
-    record { room = c.loop-k.invariant.0; cells = rw z at c.loop-k.invariant.2 }
+    let z : c.loop-k.k ≡ c.args.n = omega (arith, c.loop-k.auto.k-end) in
+    record { room = c.loop-k.invariant.0; cells = rw z at c.loop-k.invariant.1 }

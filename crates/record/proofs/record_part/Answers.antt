@@ -1,12 +1,13 @@
-use mathlib.Core.Path.{sym, ap, ◌∙◌}
-use Rattle.record.specs.Record.{record_part, in_form}
-use Rattle.record.specs.declared.Form.{Form}
+-- Both sides make the same test; where it holds, the range has a record's length, and where it fails both parts are empty.
+use Rattle.std.proofs.Math.Nat.{add-sub_cancel_left}
+use borrow.Author.Tests.{lt-ltb, le-ltb}
+use Rattle.record.specs.Record.{record_part}
 use Rattle.record.proofs.record_part.Goals as goal
 
-pub returns-in-Old : goal.returns-in-Old
-returns-in-Old c =
-    c.old_part.ensures ∙ sym (ap (λ (f : Form). record_part (in_form f c.args.file.now) c.args.k) c.in-Old.is)
+pub returns-then-k-record_count : goal.returns-then-k-record_count
+unfolding record_part
+returns-then-k-record_count c = rw (c.record_size-size.ensures, ← c.record_count.ensures, lt-ltb _ _ c.if-k-record_count.true, add-sub_cancel_left)
 
-pub returns-in-New : goal.returns-in-New
-returns-in-New c =
-    c.new_part.ensures ∙ sym (ap (λ (f : Form). record_part (in_form f c.args.file.now) c.args.k) c.in-New.is)
+pub returns-else-k-record_count : goal.returns-else-k-record_count
+unfolding record_part
+returns-else-k-record_count c = rw (← c.record_count.ensures, le-ltb _ _ c.if-k-record_count.false)

@@ -1,9 +1,9 @@
--- Each return is a case of the definition; a record in range has few enough arguments to be read.
+-- Each return is a case of the definition.
 use Rattle.record.specs.Record.{in_form}
 use native.Mathlib.Omega.{arith}
 use mathlib.Core.Path.{ap}
 use lib.ListN.{length}
-use Rattle.entry.proofs.EntryLaws.{application_out, application_few, application_missing, application_in}
+use Rattle.entry.proofs.EntryLaws.{application_out, application_missing, application_in}
 use Rattle.std.proofs.Common.{ap}
 use Rattle.std.proofs.Common.{not}
 use Rattle.record_entry.proofs.application_record.Goals as goal
@@ -13,19 +13,10 @@ returns-then-not-application_in_range c =
     let s = c.args in
     record { nodes_after = application_out (in_form s.form s.file.now) s.part.now s.k s.counts s.symbols.now s.rows.now s.nodes.now c.application_in_range.ensures (ap not c.if-not-application_in_range.true); indexed = c.requires.index }
 
-pub application_there-requires : goal.application_there-requires
-application_there-requires c =
-    let s = c.args in
-    application_few (in_form s.form s.file.now) s.part.now s.k s.counts s.symbols.now s.rows.now s.nodes.now c.application_in_range.ensures (ap not c.if-not-application_in_range.false)
-
 pub returns-then-not-application_there : goal.returns-then-not-application_there
 returns-then-not-application_there c =
     let s = c.args in
     record { nodes_after = application_missing (in_form s.form s.file.now) s.part.now s.k s.counts s.symbols.now s.rows.now s.nodes.now c.application_in_range.ensures (ap not c.if-not-application_in_range.false) c.application_there.ensures (ap not c.if-not-application_there.true); indexed = c.requires.index }
-
-pub taken_arguments-numbers-requires : goal.taken_arguments-numbers-requires
-taken_arguments-numbers-requires c =
-    c.requires.ready.room
 
 pub enter_row-requires : goal.enter_row-requires
 enter_row-requires c =

@@ -1,7 +1,6 @@
 -- Each way out is one law of `StepTests`.
-use mathlib.Core.Path.{refl, ap}
-use Prim.Native.Nat.{ℕ}
-use lib.ListN.{length, length-replicate}
+use mathlib.Core.Path.{refl}
+use Rattle.reasons.proofs.Refusals.{handed_on}
 use Rattle.inference.proofs.StepTests.{clauses_stored, rights_there, resolve_out, resolve_left_absent, resolve_refused, resolve_checked, resolve_read}
 use Rattle.resolution.proofs.resolve_record.Goals as goal
 
@@ -28,27 +27,27 @@ pub rights_rise-requires : goal.rights_rise-requires
 rights_rise-requires c =
     (rights_there c.requires.before_step c.requires.resolve_kind _ c.record_part-part.ensures _ c.right_count-n.ensures c.if-n-eq0.false).few
 
-pub refused_rights-q-requires : goal.refused_rights-q-requires
-refused_rights-q-requires c =
-    record { clauses_stored = clauses_stored c.requires.before_step; numbers_len = ap length c.fields-numbers.ensures; listed_len = length-replicate {A = ℕ} 8 0; n_bound = (rights_there c.requires.before_step c.requires.resolve_kind _ c.record_part-part.ensures _ c.right_count-n.ensures c.if-n-eq0.false).few }
+pub refused_rights-requires : goal.refused_rights-requires
+refused_rights-requires c =
+    record { clauses_stored = clauses_stored c.requires.before_step; n_bound = (rights_there c.requires.before_step c.requires.resolve_kind _ c.record_part-part.ensures _ c.right_count-n.ensures c.if-n-eq0.false).few }
 
-pub returns-then-q-ne0 : goal.returns-then-q-ne0
-returns-then-q-ne0 c =
+pub returns-in_err-refused_rights : goal.returns-in_err-refused_rights
+returns-in_err-refused_rights c =
     let asked = c.requires.resolve_kind in
     let part_Says = c.record_part-part.ensures in
     let count-says = c.right_count-n.ensures in
     let some-there = c.if-n-eq0.false in
     let fields-say = c.fields-numbers.ensures in
     let left-says = c.named_literal-left.ensures in
-    let left-found = c.in-Found.is in
+    let left-found = c.in-Some.is in
     let rises-says = c.rights_rise.ensures in
-    let rights-say = c.refused_rights-q.ensures in
-    let refused = c.if-q-ne0.true in
-    λ E. resolve_refused E asked _ part_Says _ count-says some-there _ fields-say _ left-says _ _ _ left-found _ rises-says _ _ rights-say refused
+    let rights-say = c.refused_rights.ensures in
+    let refused = c.in_err-refused_rights.was in
+    λ E. resolve_refused E asked _ part_Says _ count-says some-there _ fields-say _ left-says _ left-found _ rises-says _ _ rights-say refused (handed_on _ c.from_residual.ensures)
 
 pub resolve_atoms-requires : goal.resolve_atoms-requires
 resolve_atoms-requires c =
-    resolve_checked c.requires.before_step c.requires.resolve_kind _ c.record_part-part.ensures _ c.right_count-n.ensures c.if-n-eq0.false _ c.fields-numbers.ensures _ c.named_literal-left.ensures _ _ _ c.in-Found.is _ c.rights_rise.ensures _ _ c.refused_rights-q.ensures c.if-q-ne0.false _ refl
+    resolve_checked c.requires.before_step c.requires.resolve_kind _ c.record_part-part.ensures _ c.right_count-n.ensures c.if-n-eq0.false _ c.fields-numbers.ensures _ c.named_literal-left.ensures _ c.in-Some.is _ c.rights_rise.ensures _ _ c.refused_rights.ensures c.in_ok-refused_rights.was _ refl
 
 pub returns : goal.returns
 returns c =
@@ -58,9 +57,9 @@ returns c =
     let some-there = c.if-n-eq0.false in
     let fields-say = c.fields-numbers.ensures in
     let left-says = c.named_literal-left.ensures in
-    let left-found = c.in-Found.is in
+    let left-found = c.in-Some.is in
     let rises-says = c.rights_rise.ensures in
-    let rights-say = c.refused_rights-q.ensures in
-    let passed = c.if-q-ne0.false in
+    let rights-say = c.refused_rights.ensures in
+    let passed = c.in_ok-refused_rights.was in
     let atoms-say = c.resolve_atoms.ensures in
-    λ E. resolve_read E asked _ part_Says _ count-says some-there _ fields-say _ left-says _ _ _ left-found _ rises-says _ _ rights-say passed _ refl _ _ _ _ _ atoms-say
+    λ E. resolve_read E asked _ part_Says _ count-says some-there _ fields-say _ left-says _ left-found _ rises-says _ _ rights-say passed _ refl _ _ _ _ _ atoms-say

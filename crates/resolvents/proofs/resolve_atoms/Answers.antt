@@ -16,15 +16,15 @@ returns-in_default c =
 
 pub some_outlines_clash-requires : goal.some_outlines_clash-requires
 some_outlines_clash-requires c =
-    record { nodes_len = nodes_room c.requires.step; listed_len = c.requires.room; n_bound = c.requires.few }
+    c.requires.few
 
 pub returns-then-some_outlines_clash : goal.returns-then-some_outlines_clash
 returns-then-some_outlines_clash c =
-    λ R. sized_clashes R _ refl c.resolvent_size-size.ensures c.in-Fits.is _ c.some_outlines_clash.ensures c.if-some_outlines_clash.true
+    λ R. sized_clashes R _ refl c.resolvent_size-size.ensures c.in-Some.is _ c.some_outlines_clash.ensures c.if-some_outlines_clash.true
 
 pub unify_resolve-u-requires : goal.unify_resolve-u-requires
 unify_resolve-u-requires c =
-    sized_resolving c.requires _ refl c.resolvent_size-size.ensures c.in-Fits.is
+    sized_resolving c.requires _ refl c.resolvent_size-size.ensures c.in-Some.is
 
 pub finish_step-requires : goal.finish_step-requires
 finish_step-requires c =
@@ -33,7 +33,7 @@ finish_step-requires c =
 pub returns : goal.returns
 returns c =
     let size-says = c.resolvent_size-size.ensures in
-    let size-given = c.in-Fits.is in
+    let size-given = c.in-Some.is in
     let outlines-say = c.some_outlines_clash.ensures in
     let if1-left = c.if-some_outlines_clash.false in
     let unify-resolve-says-0 = c.unify_resolve-u.ensures.rights_named_value in

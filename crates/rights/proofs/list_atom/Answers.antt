@@ -3,4 +3,4 @@ use Rattle.rights.proofs.list_atom.Goals as goal
 
 pub returns : goal.returns
 returns c =
-    atom_listed _ _ _ _ c.requires.listed_len c.requires.j_bound
+    atom_listed _ _ _ _ c.told-listed c.requires

@@ -12,29 +12,24 @@ room N r h l = omega arith
 pub returns-then-nodes-at : goal.returns-then-nodes-at
 returns-then-nodes-at c =
     let s = c.args in
-    let p = c.requires in
-    sym (code_differs s.nodes.now (8 * s.r) (room s.nodes.now s.r p.nodes_len p.r_bound) s.code s.numbers.now p.numbers_len c.if-nodes-at.true)
+    sym (code_differs s.nodes.now (8 * s.r) (room s.nodes.now s.r c.told-nodes c.requires) s.code s.numbers.now c.told-numbers c.if-nodes-at.true)
 
 pub loop-i-init : goal.loop-i-init
 loop-i-init c =
     let s = c.args in
-    let p = c.requires in
-    (omega arith, sym (code_same s.nodes.now (8 * s.r) (room s.nodes.now s.r p.nodes_len p.r_bound) s.code s.numbers.now p.numbers_len c.if-nodes-at.false))
+    sym (code_same s.nodes.now (8 * s.r) (room s.nodes.now s.r c.told-nodes c.requires) s.code s.numbers.now c.told-numbers c.if-nodes-at.false)
 
 pub returns-then-nodes-at-2 : goal.returns-then-nodes-at-2
 returns-then-nodes-at-2 c =
     let s = c.args in
-    let p = c.requires in
-    sym (number_differs s.nodes.now (8 * s.r) (room s.nodes.now s.r p.nodes_len p.r_bound) s.code s.numbers.now p.numbers_len c.loop-i.i (omega (arith, c.loop-i-test.true)) c.if-nodes-at-2.true) ∙ c.loop-i.invariant.1
+    sym (number_differs s.nodes.now (8 * s.r) (room s.nodes.now s.r c.told-nodes c.requires) s.code s.numbers.now c.told-numbers c.loop-i.i (omega (arith, c.loop-i-test.true)) c.if-nodes-at-2.true) ∙ c.loop-i.invariant
 
 pub loop-i-preserved : goal.loop-i-preserved
 loop-i-preserved c =
     let s = c.args in
-    let p = c.requires in
-    (omega arith, sym (number_same s.nodes.now (8 * s.r) (room s.nodes.now s.r p.nodes_len p.r_bound) s.code s.numbers.now p.numbers_len c.loop-i.i (omega (arith, c.loop-i-test.true)) c.if-nodes-at-2.false) ∙ c.loop-i.invariant.1)
+    sym (number_same s.nodes.now (8 * s.r) (room s.nodes.now s.r c.told-nodes c.requires) s.code s.numbers.now c.told-numbers c.loop-i.i (omega (arith, c.loop-i-test.true)) c.if-nodes-at-2.false) ∙ c.loop-i.invariant
 
 pub returns : goal.returns
 returns c =
     let s = c.args in
-    let p = c.requires in
-    sym (numbers_end s.nodes.now (8 * s.r) (room s.nodes.now s.r p.nodes_len p.r_bound) s.code s.numbers.now p.numbers_len c.loop-i.i c.loop-i.invariant.0 (omega (arith, c.loop-i-test.false))) ∙ c.loop-i.invariant.1
+    sym (numbers_end s.nodes.now (8 * s.r) (room s.nodes.now s.r c.told-nodes c.requires) s.code s.numbers.now c.told-numbers c.loop-i.i (omega arith) (omega (arith, c.loop-i-test.false))) ∙ c.loop-i.invariant

@@ -1,8 +1,7 @@
 -- What is left of the cells has the same answer as the whole row.
--- The row's eight cells are inside.
 use mathlib.Core.Path.{◌≡◌}
 use mathlib.Core.List.{◌∷◌}
-use Prim.Native.Nat.{◌-◌, ◌*◌, ◌≤◌}
+use Prim.Native.Nat.{◌*◌}
 use lib.ListN.{drop}
 use Rattle.unification.specs.Repeated.{equal_lists}
 use Rattle.distinct.specs.Rows.{node_at}
@@ -10,7 +9,4 @@ use Rattle.distinct.proofs.Cells.{numbers_from}
 use Rattle.row_scan.proofs.same_cells.Given as goal
 
 abbrev pub invariant-loop-i : goal.invariant-loop-i
-invariant-loop-i l = (l.i ≤ 7) × (equal_lists (numbers_from l.nodes (8 * l.r) l.i) (drop l.i l.numbers) ≡ equal_lists (node_at l.nodes l.r) (l.code ∷ l.numbers))
-
-abbrev pub decreases-loop-i : goal.decreases-loop-i
-decreases-loop-i l = 7 - l.i
+invariant-loop-i l = equal_lists (numbers_from l.nodes (8 * l.r) l.i) (drop l.i l.numbers) ≡ equal_lists (node_at l.nodes l.r) (l.code ∷ l.numbers)

@@ -2,12 +2,8 @@
 use mathlib.Core.Path.{◌≡◌}
 use mathlib.Core.Option.{none}
 use mathlib.Core.List.{◌∷◌}
-use Prim.Native.Nat.{◌-◌, ◌≤◌}
 use Rattle.distinct.specs.Rows.{row_with_cells}
 use Rattle.row_scan.proofs.scan_rows.Given as goal
 
 abbrev pub invariant-loop-row : goal.invariant-loop-row
-invariant-loop-row l = (row_with_cells l.nodes l.row (l.code ∷ l.numbers) ≡ none) × (l.row ≤ l.n)
-
-abbrev pub decreases-loop-row : goal.decreases-loop-row
-decreases-loop-row l = l.n - l.row
+invariant-loop-row l = row_with_cells l.nodes l.row (l.code ∷ l.numbers) ≡ none

@@ -1,11 +1,7 @@
--- Every row below n that has the cells is on the rest of the chain. The measure is the chain's number, which falls.
+-- Every row below n that has the cells is on the rest of the chain.
 use mathlib.Core.List.{◌∷◌}
-use Prim.Native.Nat.{◌<◌}
 use Rattle.distinct.proofs.Searching.{Sought}
 use Rattle.row_search.proofs.find_row.Given as goal
 
-abbrev pub invariant-loop-c : goal.invariant-loop-c
-invariant-loop-c l = (l.compared < 16) × Sought l.nodes l.n l.links (l.code ∷ l.numbers) l.c
-
-abbrev pub decreases-loop-c : goal.decreases-loop-c
-decreases-loop-c l = l.c
+abbrev pub invariant-loop : goal.invariant-loop
+invariant-loop l = Sought l.nodes l.n l.links (l.code ∷ l.numbers) l.c

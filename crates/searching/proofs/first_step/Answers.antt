@@ -1,20 +1,19 @@
 use mathlib.Core.Path.{refl}
-use native.Mathlib.Omega.{arith}
 use Rattle.searching.proofs.SearchSteps.{no_step_left, step_here, step_later}
 use Rattle.searching.proofs.first_step.Goals as goal
 
 pub loop-k-init : goal.loop-k-init
 loop-k-init c =
-    (omega arith, refl)
+    refl
 
 pub returns-then-is_step : goal.returns-then-is_step
 returns-then-is_step c =
-    step_here _ _ c.loop-k.invariant.1 c.loop-k-test.true c.record_part.ensures c.is_step.ensures c.if-is_step.true
+    step_here _ _ c.loop-k.invariant c.loop-k-test.true c.record_part.ensures c.is_step.ensures c.if-is_step.true
 
 pub loop-k-preserved : goal.loop-k-preserved
 loop-k-preserved c =
-    (omega arith, step_later _ _ c.loop-k.invariant.1 c.loop-k-test.true c.record_part.ensures c.is_step.ensures c.if-is_step.false)
+    step_later _ _ c.loop-k.invariant c.loop-k-test.true c.record_part.ensures c.is_step.ensures c.if-is_step.false
 
 pub returns : goal.returns
 returns c =
-    no_step_left _ _ c.loop-k.invariant.1 c.loop-k-test.false
+    no_step_left _ _ c.loop-k.invariant c.loop-k-test.false

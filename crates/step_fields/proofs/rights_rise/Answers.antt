@@ -1,25 +1,31 @@
-use mathlib.Core.Path.{◌≡◌, sym, ap, ◌∙◌}
-use Prim.Native.Nat.{ℕ, ◌+◌, ◌-◌}
-use native.Mathlib.Omega.{arith}
-use lib.ListN.{take, drop}
+-- Numbers of which each is less than the next rise.
+use Rattle.std.proofs.Common.{◌≡◌, ℕ, zero, suc, ◌<◌, Bool, true, false, ◌&&◌, ltb, List, [], ◌∷◌, length, get_or, take, drop, refl, sym, ap, ◌∙◌, add-one, arith, rules, tests}
+use Rattle.std.specs.List.{IsAllAdjacentAnswer}
+use Rattle.std.proofs.Math.Bool.{and-false}
+use Rattle.std.proofs.lemmas.List.Sorted.{answers_always}
 use Rattle.record.specs.Record.{fields_of}
 use Rattle.verdict.specs.Refusal.{rising}
-use Rattle.fields.proofs.FieldLaws.{rise_stop, rise_on, rise_end}
 use Rattle.step_fields.proofs.rights_rise.Goals as goal
 
-pub loop-i-init : goal.loop-i-init
-loop-i-init c =
-    let z : c.args.n + 3 - 3 ≡ c.args.n = omega arith in
-    (omega arith, ap (λ (m : ℕ). rising (take m (drop 3 (fields_of c.args.part.now)))) z)
+all_rise : (xs : List ℕ) → ((k : ℕ) → suc k < length xs → true ≡ ltb (get_or xs k 0) (get_or xs (suc k) 0)) → true ≡ rising xs
+all_rise [] h = refl
+all_rise (n ∷ []) h = refl
+all_rise (n ∷ m ∷ ns) h =
+    let less : ltb n m ≡ true = sym (h 0 (omega arith)) in
+    rw less (all_rise (m ∷ ns) (λ k l. h (suc k) (omega arith)))
 
-pub returns-then-field : goal.returns-then-field
-returns-then-field c =
-    sym (rise_stop c.args.part.now c.args.n c.loop-i.i c.requires c.loop-i.invariant.0 c.loop-i-test.true c.field.ensures c.field-in-loop-i.ensures c.if-field.true) ∙ c.loop-i.invariant.1
+one_falls : (xs : List ℕ) (k : ℕ) → suc k < length xs → false ≡ ltb (get_or xs k 0) (get_or xs (suc k) 0) → false ≡ rising xs
+one_falls [] k l h = absurd (omega arith)
+one_falls (n ∷ []) k l h = absurd (omega arith)
+one_falls (n ∷ m ∷ ns) zero l h = let less : ltb n m ≡ false = sym h in rw less
+one_falls (n ∷ m ∷ ns) (suc k) l h = sym (and-false (ltb n m)) ∙ ap (λ (b : Bool). ltb n m && b) (one_falls (m ∷ ns) k (omega arith) h)
 
-pub loop-i-preserved : goal.loop-i-preserved
-loop-i-preserved c =
-    (omega arith, sym (rise_on c.args.part.now c.args.n c.loop-i.i c.requires c.loop-i.invariant.0 c.loop-i-test.true c.field.ensures c.field-in-loop-i.ensures c.if-field.false) ∙ c.loop-i.invariant.1)
+adjacent_rising : (xs : List ℕ) (r : Bool) → IsAllAdjacentAnswer (λ x y b. b ≡ ltb x y) xs r → r ≡ rising xs
+adjacent_rising xs true h = all_rise xs (λ k l. rw add-one at (h k 0 (omega arith)))
+adjacent_rising xs false h = one_falls xs h.0 (rw add-one at h.1) (rw add-one at (h.2 0))
 
 pub returns : goal.returns
 returns c =
-    sym (rise_end c.args.part.now c.args.n c.loop-i.i c.requires c.loop-i.invariant.0 c.loop-i-test.false) ∙ c.loop-i.invariant.1
+    let numbers = take c.from.result (take 4 (drop 3 c.fields.result)) in
+    let same : numbers ≡ take c.args.n (drop 3 (fields_of c.args.part.now)) = rw (c.from.ensures, c.fields.ensures) in
+    adjacent_rising numbers _ (c.is_sorted_by.ensures.cases ltb (answers_always _ _ _ (λ f a r g k. search (rules, tests)))) ∙ ap rising same

@@ -3,7 +3,7 @@ use Rattle.step_unify.proofs.unify_factor.Goals as goal
 
 pub clear-requires : goal.clear-requires
 clear-requires c =
-    record { values_len = (factor_clear c.requires _ c.index_cell.ensures).0; top_bound = (factor_clear c.requires _ c.index_cell.ensures).1 }
+    (factor_clear c.requires _ c.index_cell.ensures).1
 
 pub load-requires : goal.load-requires
 load-requires c =

@@ -8,7 +8,7 @@ overflow_add-top c =
 
 pub clear-requires : goal.clear-requires
 clear-requires c =
-    record { values_len = (resolve_clear c.requires _ _ c.index_cell-raised.ensures c.index_cell.ensures).0; top_bound = (resolve_clear c.requires _ _ c.index_cell-raised.ensures c.index_cell.ensures).1 }
+    (resolve_clear c.requires _ _ c.index_cell-raised.ensures c.index_cell.ensures).1
 
 pub load-requires : goal.load-requires
 load-requires c =

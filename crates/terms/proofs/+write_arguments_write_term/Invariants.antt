@@ -1,20 +1,20 @@
-use mathlib.Core.Path.{◌≡◌}
-use Prim.Native.Nat.{◌≤◌, ◌+◌, ◌*◌, ◌<◌}
+use Prim.Native.Nat.{◌≤◌, ◌+◌, ◌-◌, ◌*◌}
 use Rattle.unification.specs.Nodes.{node_arity}
 use Rattle.terms.specs.Writing.{Sized}
 use Rattle.terms.proofs.ArgumentTexts.{Scanned}
-use lib.ListN.{length}
-use Prim.Native.Nat.{◌<◌}
 use Rattle.terms.proofs.+write_arguments_write_term.Given as goal
 
 abbrev pub decreases-write_arguments : goal.decreases-write_arguments
-decreases-write_arguments l = 2 * l.left + 1
+decreases-write_arguments l = 2 * l.from.left + 1
 
 abbrev pub decreases-write_term : goal.decreases-write_term
-decreases-write_term l = 2 * l.left
+decreases-write_term l = 2 * l.from.left
 
-abbrev pub invariant-write_arguments-loop-rest : goal.invariant-write_arguments-loop-rest
-invariant-write_arguments-loop-rest l = Sized l.nodes l.values l.text × (l.spare ≤ l.left) × (1 ≤ l.n) × (l.n + l.rest ≡ node_arity l.nodes l.r + 1) × (l.n + l.rest < 65535) × (l.numbered + l.spare ≤ l.count + l.left) × Scanned l.naming l.nodes l.initial.values l.values l.initial.text l.text l.initial.cells l.cells l.initial.order l.order l.count l.at l.r l.k l.left l.end l.n l.rest l.spare l.numbered × (length l.cells ≡ length l.initial.cells) × (length l.order ≡ length l.initial.order)
-
-abbrev pub decreases-write_arguments-loop-rest : goal.decreases-write_arguments-loop-rest
-decreases-write_arguments-loop-rest l = l.rest
+-- What was written before argument n, from 0, and those left make the text of all.
+abbrev pub invariant-write_arguments-loop-n : goal.invariant-write_arguments-loop-n
+invariant-write_arguments-loop-n l = record {
+  sized : Sized l.nodes l.values l.text;
+  fewer : l.done.left ≤ l.fn.from.left;
+  few : l.done.place.count + l.done.left ≤ l.fn.from.place.count + l.fn.from.left;
+  scanned : Scanned l.naming l.nodes l.initial.values l.values l.initial.text l.text l.initial.cells l.cells l.initial.order l.order l.fn.from.place.count l.fn.from.place.end l.r l.k l.fn.from.left l.done.place.end (l.n + 1) (node_arity l.nodes l.r - l.n) l.done.left l.done.place.count;
+}

@@ -4,8 +4,8 @@ use Rattle.text.proofs.put_byte.Goals as goal
 
 pub returns-then-at-lt131072 : goal.returns-then-at-lt131072
 returns-then-at-lt131072 c =
-    wrote_byte _ _ _ (omega (arith, c.requires))
+    wrote_byte _ _ _ (omega arith)
 
 pub returns-else-at-lt131072 : goal.returns-else-at-lt131072
 returns-else-at-lt131072 c =
-    dropped_byte _ _ _ (omega (arith, c.requires))
+    dropped_byte _ _ _ (omega arith)

@@ -15,13 +15,10 @@ abbrev pub decreases-unify_pair : goal.decreases-unify_pair
 decreases-unify_pair l = 2 * l.work
 
 abbrev pub invariant-unify_arguments-loop-n : goal.invariant-unify_arguments-loop-n
-invariant-unify_arguments-loop-n l = (length l.values ≡ 524416) × (length l.bindings ≡ length l.initial.bindings) × (l.left ≤ l.work) × (1 ≤ l.n) × (l.n ≤ l.last) × Added l.initial.bindings l.bindings l.held l.total × Matched l.nodes l.initial.values l.values l.initial.bindings l.bindings l.held l.f l.a l.g l.b l.work l.n (l.last + 1 - l.n) l.left l.total
-
-abbrev pub decreases-unify_arguments-loop-n : goal.decreases-unify_arguments-loop-n
-decreases-unify_arguments-loop-n l = l.last - l.n
+invariant-unify_arguments-loop-n l = (length l.values ≡ 524416) × (l.left.work ≤ l.work) × Added l.initial.bindings l.bindings l.held l.left.held × Matched l.nodes l.initial.values l.values l.initial.bindings l.bindings l.held l.f l.a l.g l.b l.work l.n (l.last + 1 - l.n) l.left.work l.left.held
 
 abbrev pub invariant-unify_pair-loop-work : goal.invariant-unify_pair-loop-work
-invariant-unify_pair-loop-work l = (length l.values ≡ 524416) × (length l.bindings ≡ length l.initial.bindings) × (l.work ≤ l.initial.work) × Added l.initial.bindings l.bindings l.initial.held l.held × Pursued l.nodes l.initial.values l.values l.initial.bindings l.bindings l.initial.held (l.initial.l, l.initial.i) (l.initial.r, l.initial.j) l.initial.work (l.l, l.i) (l.r, l.j) l.work l.held
+invariant-unify_pair-loop-work l = (length l.values ≡ 524416) × (l.work ≤ l.initial.work) × Added l.initial.bindings l.bindings l.initial.held l.held × Pursued l.nodes l.initial.values l.values l.initial.bindings l.bindings l.initial.held (l.initial.l, l.initial.i) (l.initial.r, l.initial.j) l.initial.work (l.l, l.i) (l.r, l.j) l.work l.held
 
 abbrev pub decreases-unify_pair-loop-work : goal.decreases-unify_pair-loop-work
 decreases-unify_pair-loop-work l = l.work

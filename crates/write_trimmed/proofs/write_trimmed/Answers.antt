@@ -14,14 +14,6 @@ pub loop-k-preserved : goal.loop-k-preserved
 loop-k-preserved c =
     going_more c.args.symbols.now c.args.rows.now c.args.clauses.now c.args.marks.now c.args.file.now c.args.numbers.now c.args.output.now c.requires c.loop-k.invariant (omega (arith, c.record_count-count.ensures, c.loop-k-test.true)) c.record_part-part.ensures c.write_marked-place.ensures
 
-pub shape_of-numbers : goal.shape_of-numbers
-shape_of-numbers c =
-    c.loop-k.invariant.size
-
-pub shape_of-output : goal.shape_of-output
-shape_of-output c =
-    c.loop-k.invariant.reached.size
-
 pub returns : goal.returns
 returns c =
     going_end c.args.symbols.now c.args.rows.now c.args.clauses.now c.args.marks.now c.args.file.now c.args.numbers.now c.args.output.now c.requires c.loop-k.invariant (omega (arith, c.record_count-count.ensures, c.loop-k-test.false))

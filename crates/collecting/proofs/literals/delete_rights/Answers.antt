@@ -3,59 +3,35 @@ use Rattle.collecting.proofs.ListedLiterals.{deleted_room}
 use Rattle.collecting.proofs.CollectedLiterals.{one_deleted, four_deleted}
 use Rattle.collecting.proofs.literals.delete_rights.Goals as goal
 
-pub origin_code-requires : goal.origin_code-requires
-origin_code-requires c =
-    c.requires.origin_room
-
-pub part_of-requires : goal.part_of-requires
-part_of-requires c =
-    c.requires.origin_room
-
 pub delete-requires : goal.delete-requires
 delete-requires c =
-    record { list_len = c.requires.room; base_le_end = c.requires.inside; end_bound = c.requires.few }
+    record { base_le_end = c.requires.inside; end_bound = c.requires.few }
 
 pub returns-then-origin_code-eq3 : goal.returns-then-origin_code-eq3
 returns-then-origin_code-eq3 c =
     one_deleted c.origin_code.ensures c.if-origin_code-eq3.true c.part_of.ensures c.delete.ensures
 
-pub part_of-requires-2 : goal.part_of-requires-2
-part_of-requires-2 c =
-    c.requires.origin_room
-
 pub delete-third-requires : goal.delete-third-requires
 delete-third-requires c =
-    record { list_len = c.requires.room; base_le_end = c.requires.inside; end_bound = c.requires.few }
-
-pub part_of-requires-3 : goal.part_of-requires-3
-part_of-requires-3 c =
-    c.requires.origin_room
+    record { base_le_end = c.requires.inside; end_bound = c.requires.few }
 
 pub delete-second-requires : goal.delete-second-requires
 delete-second-requires c =
     let d = deleted_room c.requires.inside c.requires.few c.delete-third.ensures in
-    record { list_len = c.delete-third.ensures.room; base_le_end = d.0; end_bound = d.1 }
-
-pub part_of-requires-4 : goal.part_of-requires-4
-part_of-requires-4 c =
-    c.requires.origin_room
+    record { base_le_end = d.0; end_bound = d.1 }
 
 pub delete-first-requires : goal.delete-first-requires
 delete-first-requires c =
     let d = deleted_room c.requires.inside c.requires.few c.delete-third.ensures in
     let e = deleted_room d.0 d.1 c.delete-second.ensures in
-    record { list_len = c.delete-second.ensures.room; base_le_end = e.0; end_bound = e.1 }
-
-pub part_of-requires-5 : goal.part_of-requires-5
-part_of-requires-5 c =
-    c.requires.origin_room
+    record { base_le_end = e.0; end_bound = e.1 }
 
 pub delete-requires-2 : goal.delete-requires-2
 delete-requires-2 c =
     let d = deleted_room c.requires.inside c.requires.few c.delete-third.ensures in
     let e = deleted_room d.0 d.1 c.delete-second.ensures in
     let f = deleted_room e.0 e.1 c.delete-first.ensures in
-    record { list_len = c.delete-first.ensures.room; base_le_end = f.0; end_bound = f.1 }
+    record { base_le_end = f.0; end_bound = f.1 }
 
 pub returns : goal.returns
 returns c =

@@ -18,23 +18,11 @@ clauses_after-n-requires c =
     let l = c.loop-k in
     omega (arith, few_clauses s.file.now s.output.now c.requires l.invariant (omega (arith, c.record_count-count.ensures, c.loop-k-test.true)) c.record_part-part.ensures)
 
-pub overflow_add-k : goal.overflow_add-k
-overflow_add-k c =
-    omega (arith, c.loop-k-test.true)
-
-pub loop-k-smaller : goal.loop-k-smaller
-loop-k-smaller c =
-    omega (arith, c.loop-k-test.true)
-
 pub loop-k-preserved : goal.loop-k-preserved
 loop-k-preserved c =
     let s = c.args in
     let l = c.loop-k in
     old_more s.file.now s.output.now c.requires l.invariant (omega (arith, c.record_count-count.ensures, c.loop-k-test.true)) c.record_part-part.ensures c.write_next-next.ensures c.clauses_after-n.ensures
-
-pub shape_of-output : goal.shape_of-output
-shape_of-output c =
-    c.loop-k.invariant.reached.size
 
 pub returns : goal.returns
 returns c =

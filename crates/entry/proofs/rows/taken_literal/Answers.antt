@@ -1,12 +1,6 @@
-use mathlib.Core.Path.{ap}
-use Prim.Native.Nat.{ℕ, ◌+◌, ◌*◌, ◌%◌}
 use native.Mathlib.Omega.{arith}
 use Rattle.entry.proofs.NodeLaws.{taken_small}
 use Rattle.entry.proofs.rows.taken_literal.Goals as goal
-
-pub earliest_of-requires : goal.earliest_of-requires
-earliest_of-requires c =
-    c.requires.room
 
 pub overflow_mul-result : goal.overflow_mul-result
 overflow_mul-result c =
@@ -15,7 +9,3 @@ overflow_mul-result c =
 pub overflow_add-result : goal.overflow_add-result
 overflow_add-result c =
     omega (arith, taken_small _ c.requires c.args.n (omega arith) c.earliest_of.ensures)
-
-pub returns : goal.returns
-returns c =
-    ap (λ (q : ℕ). 2 * q + c.args.n % 2) c.earliest_of.ensures

@@ -12,27 +12,15 @@ returns-then-not-is_variable c =
     let l = c.loop-links in
     (λ top ρ M g. going_app _ top _ ρ _ l.v l.j l.links (l.invariant.2 top ρ M g) (sym c.is_variable.ensures ∙ c.if-not-is_variable.true), l.invariant.0)
 
-pub value-r-requires : goal.value-r-requires
-value-r-requires c =
-    c.loop-links.invariant.0
-
 pub returns-then-r-eq0 : goal.returns-then-r-eq0
 returns-then-r-eq0 c =
     let l = c.loop-links in
-    (λ top ρ M g. going_free _ top _ ρ _ l.v l.j l.links (l.invariant.2 top ρ M g) _ (sym c.is_variable.ensures ∙ c.if-not-is_variable.false) c.slot_of-at.ensures.0 (sym c.value-r.ensures ∙ c.if-r-eq0.true), l.invariant.0)
-
-pub value-k-requires : goal.value-k-requires
-value-k-requires c =
-    c.loop-links.invariant.0
-
-pub halve-requires : goal.halve-requires
-halve-requires c =
-    record { nodes_len = (c.requires.nodes, c.loop-links.invariant.0); at_bound = omega arith }
+    (λ top ρ M g. going_free _ top _ ρ _ l.v l.j l.links (l.invariant.2 top ρ M g) _ (sym c.is_variable.ensures ∙ c.if-not-is_variable.false) c.slot_of-at.ensures.0 (sym c.cell-r.ensures ∙ c.if-r-eq0.true), l.invariant.0)
 
 pub loop-links-preserved : goal.loop-links-preserved
 loop-links-preserved c =
     let l = c.loop-links in
-    (c.halve.ensures.1, omega arith, λ top ρ M g. going_on _ top _ ρ _ l.v l.j l.links (l.invariant.2 top ρ M g) (sym c.is_variable.ensures ∙ c.if-not-is_variable.false) _ _ _ c.slot_of-at.ensures.0 c.value-r.ensures c.if-r-eq0.false c.value-k.ensures _ c.halve.ensures.0 (omega arith))
+    (c.halve.array_long, omega arith, λ top ρ M g. going_on _ top _ ρ _ l.v l.j l.links (l.invariant.2 top ρ M g) (sym c.is_variable.ensures ∙ c.if-not-is_variable.false) _ _ _ c.slot_of-at.ensures.0 c.cell-r.ensures c.if-r-eq0.false c.cell-k.ensures _ c.halve.ensures (omega arith))
 
 pub returns : goal.returns
 returns c =

@@ -1,13 +1,7 @@
-use native.Mathlib.Omega.{arith}
+use Rattle.std.proofs.Common.{rules}
 use Rattle.unification.specs.Nodes.{node_arity}
 use Rattle.following.proofs.nodes.arity_of.Goals as goal
 
-pub returns-then-a-gt2 : goal.returns-then-a-gt2
+pub returns : goal.returns
 unfolding node_arity
-returns-then-a-gt2 c =
-    (omega arith, omega arith)
-
-pub returns-else-a-gt2 : goal.returns-else-a-gt2
-unfolding node_arity
-returns-else-a-gt2 c =
-    (omega arith, omega arith)
+returns c = search rules

@@ -6,11 +6,11 @@ use Rattle.lines.proofs.line.write_line.Goals as goal
 pub clear-requires : goal.clear-requires
 clear-requires c =
     let h = line_clear c.requires _ c.index_cell-top.ensures in
-    record { values_len = h.0; top_bound = omega (arith, h.1) }
+    omega (arith, h.1)
 
 pub load-requires : goal.load-requires
 load-requires c =
-    line_load c.requires _ c.clear.ensures.values_len_2
+    line_load c.requires _ (omega arith)
 
 pub write_literals-last-requires : goal.write_literals-last-requires
 write_literals-last-requires c =

@@ -1,28 +1,11 @@
-use mathlib.Core.Path.{refl, ap, ◌∙◌}
-use mathlib.Core.List.{List, []}
-use Prim.Native.Nat.{ℕ, ◌-◌}
-use lib.ListN.{length}
-use Rattle.record.specs.Record.{decoded, old_file}
-use Rattle.marking.specs.Marking.{dated_down}
-use Rattle.mark_records.proofs.GoingDown.{dated_none, dated_more, dated_length}
+use mathlib.Core.Path.{◌∙◌}
+use Rattle.record.specs.Record.{old_file, record_count}
+use Rattle.marking.specs.Marking.{dated_by}
+use Rattle.mark_records.proofs.GoingDown.{dated_same}
 use Rattle.mark_records.proofs.down.mark_windows.Goals as goal
-
-pub loop-k-init : goal.loop-k-init
-loop-k-init c =
-    (refl, λ symbols rows. ap (λ (n : ℕ). dated_down symbols rows c.args.clauses.now (old_file c.args.file.now) n c.args.marks.now) c.record_count-k.ensures)
-
-pub loop-k-preserved : goal.loop-k-preserved
-loop-k-preserved c =
-    let l = c.loop-k in
-    let s = c.args in (
-      ap (λ (t : List ℕ). length t) (c.mark_window.ensures [] []) ∙ dated_length [] [] s.clauses.now (decoded c.record_part.result.now) (l.k - 1) l.marks ∙ l.invariant.0,
-      λ symbols rows. dated_more symbols rows s.clauses.now s.file.now l.k l.marks _ c.loop-k-test.true (l.invariant.1 symbols rows) c.record_part.ensures (c.mark_window.ensures symbols rows),
-    )
-
-pub shape_of-marks : goal.shape_of-marks
-shape_of-marks c =
-    c.loop-k.invariant.0
 
 pub returns : goal.returns
 returns c =
-    λ symbols rows. dated_none symbols rows c.args.clauses.now c.args.file.now c.loop-k.k _ _ c.loop-k-test.false (c.loop-k.invariant.1 symbols rows)
+    let s = c.args in
+    λ symbols rows. c.go_down.ensures (dated_by symbols rows s.clauses.now) (λ part k before after p. p symbols rows)
+    ∙ dated_same symbols rows s.clauses.now (old_file s.file.now) (record_count (old_file s.file.now)) s.marks.now

@@ -6,28 +6,12 @@ use Rattle.outcomes.proofs.outcome.outcome_with.Goals as goal
 
 pub digest_of-readout-requires : goal.digest_of-readout-requires
 digest_of-readout-requires c =
-    record { after = record { day = _; file = _; before = _; lent = _; symbols = _; rows = _; checked = c.check_with-answer.ensures }; numbers = tt }
+    record { after = record { day = _; file = _; before = _; lent = _; symbols = _; rows = _; checked = c.check_with-answer.ensures.answered }; numbers = tt }
 
 pub digest_of-canonical-requires : goal.digest_of-canonical-requires
 digest_of-canonical-requires c =
-    record { after = after_again (record { day = _; file = _; before = _; lent = _; symbols = _; rows = _; checked = c.check_with-answer.ensures }) c.digest_of-readout.ensures.values; numbers = record { cells = c.cells-1.given ∙ c.requires.cells; list = c.order-1.given ∙ c.requires.list } }
-
-pub shape_of-symbols : goal.shape_of-symbols
-shape_of-symbols c =
-    c.symbols-1.given
-
-pub shape_of-rows : goal.shape_of-rows
-shape_of-rows c =
-    c.rows-1.given
-
-pub shape_of-clauses : goal.shape_of-clauses
-shape_of-clauses c =
-    c.clauses-1.given
-
-pub shape_of-bindings : goal.shape_of-bindings
-shape_of-bindings c =
-    c.bindings-1.given
+    record { after = after_again (record { day = _; file = _; before = _; lent = _; symbols = _; rows = _; checked = c.check_with-answer.ensures.answered }) c.digest_of-readout.ensures.values; numbers = record { cells = c.cells-1.given ∙ c.requires.cells; list = c.order-1.given ∙ c.requires.list } }
 
 pub returns : goal.returns
 returns c =
-    outcome_given _ _ _ _ _ _ _ _ _ _ _ _ _ _ _ _ _ _ _ _ c.check_with-answer.ensures c.hash_of.ensures c.hash_of-2.ensures c.hash_of-3.ensures c.hash_of-4.ensures c.digest_of-readout.ensures c.digest_of-canonical.ensures
+    outcome_given _ _ _ _ _ _ _ _ _ _ _ _ _ _ _ _ _ _ _ _ c.check_with-answer.ensures.answered c.hashes_of-hashes.ensures.symbols c.hashes_of-hashes.ensures.rows c.hashes_of-hashes.ensures.clauses c.hashes_of-hashes.ensures.bindings c.digest_of-readout.ensures c.digest_of-canonical.ensures
