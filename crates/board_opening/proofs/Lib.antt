@@ -1,2 +1,3 @@
+pub mod ClearedCells
 pub mod FillSteps
 pub mod OpenedBoard
