@@ -7,13 +7,18 @@ ghost use Rattle.record.specs.Record.{decoded, fields_of, symbolKind, variableKi
 ghost use Rattle.verdict.specs.Refusal.{zeros, in_range};
 
 use record::{count, field};
-use record_fields::fields;
 
 // Whether the fields from number `from` on are all zero.
 pub fn zeros_from(part: &[u8], from: u8) -> bool
     ensures { result ≡ zeros (drop from (fields_of part.now)) }
 {
-    fields(part).iter().skip(usize::from(from)).all(|n| *n == 0)
+    // Each field is read where it is asked for: seven at once, with a chain over them, make a file of symbols half as dear again.
+    for i in from..7 {
+        if field(part, i) != 0 {
+            return false;
+        }
+    }
+    true
 }
 
 // A symbol has an arity of at most 6 and no fields.

@@ -26,7 +26,11 @@ fn record_size(form: Form) -> usize
 pub fn record_count(form: Form, file: &[u8]) -> usize
     ensures { result ≡ record_count (in_form form file.now) }
 {
-    file.len() / record_size(form)
+    // Divided by two known numbers: by `record_size(form)` it would be a division in earnest for each record that is read.
+    match form {
+        Form::Old => file.len() / 16,
+        Form::New => file.len() / 20,
+    }
 }
 
 // The part of the file that is record k, or the empty part where k is not wholly inside.

@@ -1,18 +1,15 @@
--- The chain goes over the fields from `from` on, and asks of each whether it is zero.
-use Rattle.std.proofs.Common.{◌≡◌, ℕ, drop, Bool, ◌&&◌, eqb, List, [], ◌∷◌, refl, ap, ◌∙◌, rules, tests}
-use Rattle.std.specs.List.{list_all}
-use Rattle.std.proofs.lemmas.Iterator.{YieldsList-from_slice}
-use Rattle.std.proofs.lemmas.Iterator.Adapters.{YieldsList-from_skip}
-use Rattle.std.proofs.lemmas.Iterator.Search.{all_from_yields_List}
-use Rattle.record.specs.Record.{fields_of}
-use Rattle.verdict.specs.Refusal.{zeros}
+use mathlib.Core.Path.{sym, ◌∙◌}
+use Rattle.ranges.proofs.RangeLaws.{zeros_stop, zeros_on, zeros_end}
 use Rattle.ranges.proofs.zeros_from.Goals as goal
 
-zeros_all : (ns : List ℕ) → list_all (λ n. eqb n 0) ns ≡ zeros ns
-zeros_all [] = refl
-zeros_all (n ∷ ns) = ap (λ (b : Bool). eqb n 0 && b) (zeros_all ns)
+pub returns-then-field-ne0 : goal.returns-then-field-ne0
+returns-then-field-ne0 c =
+    sym (zeros_stop c.args.part.now c.loop-i.i c.loop-i-test.true c.field.ensures c.if-field-ne0.true) ∙ c.loop-i.invariant
+
+pub loop-i-preserved : goal.loop-i-preserved
+loop-i-preserved c =
+    sym (zeros_on c.args.part.now c.loop-i.i c.loop-i-test.true c.field.ensures c.if-field-ne0.false) ∙ c.loop-i.invariant
 
 pub returns : goal.returns
 returns c =
-    let fields = fields_of c.args.part.now in
-    all_from_yields_List (λ n. eqb n 0) _ _ _ c.all.ensures.ran (YieldsList-from_skip c.args.from (YieldsList-from_slice fields cc) cc) (λ x b q k. search (rules, tests)) ∙ zeros_all (drop c.args.from fields)
+    sym (zeros_end c.args.part.now c.loop-i.i c.loop-i-test.false) ∙ c.loop-i.invariant
